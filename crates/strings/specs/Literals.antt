@@ -1,0 +1,58 @@
+-- What the inside of a string literal means: document 01, "Lexemes", the paragraph "Strings".
+-- Assumes nothing.
+use mathlib.Core.Path.{_≡_}
+use mathlib.Core.List.{List, [], _∷_, _++_}
+use Prim.Native.Nat.{ℕ, _+_, _-_, _*_, _≤_, _<_}
+use Rattle.strings.specs.Utf8.{In, Scalar, utf8}
+
+-- A hex digit and its value.
+pub data Hex : ℕ → ℕ → Type 0 where
+  digit : {b : ℕ} → In 0x30 0x39 b → Hex b (b - 0x30)
+  upper : {b : ℕ} → In 0x41 0x46 b → Hex b (b - 0x37)
+  lower : {b : ℕ} → In 0x61 0x66 b → Hex b (b - 0x57)
+
+-- Four hex digits and the number that they spell.
+pub data Four : ℕ → ℕ → ℕ → ℕ → ℕ → Type 0 where
+  four : {a b c d v w x y : ℕ} → Hex a v → Hex b w → Hex c x → Hex d y → Four a b c d (v * 0x1000 + w * 0x100 + x * 0x10 + y)
+
+-- `\\ \" \' \b \f \n \r \t`: the letter after the backslash and the character that it stands for.
+pub data Letter : ℕ → ℕ → Type 0 where
+  backslash : Letter 0x5C 0x5C
+  double : Letter 0x22 0x22
+  single : Letter 0x27 0x27
+  backspace : Letter 0x62 0x08
+  form-feed : Letter 0x66 0x0C
+  line-feed : Letter 0x6E 0x0A
+  return : Letter 0x72 0x0D
+  tab : Letter 0x74 0x09
+
+-- After a backslash the bytes begin with an escape for the code point, and the last list is what follows it.
+pub data Escape : List ℕ → ℕ → List ℕ → Type 0 where
+  letter : {l c : ℕ} {r : List ℕ} → Letter l c → Escape (l ∷ r) c r
+  -- "`\u` with four hex digits"; "a low half alone is bad", and so is a high half
+  unit : {a b c d n : ℕ} {r : List ℕ} → Four a b c d n → Scalar n → Escape (0x75 ∷ a ∷ b ∷ c ∷ d ∷ r) n r
+  -- "a high half needing `\u` and a low half"
+  pair :
+      {a b c d e f g h hi lo : ℕ} {r : List ℕ} → Four a b c d hi → In 0xD800 0xDBFF hi → Four e f g h lo → In 0xDC00 0xDFFF lo →
+      Escape (0x75 ∷ a ∷ b ∷ c ∷ d ∷ 0x5C ∷ 0x75 ∷ e ∷ f ∷ g ∷ h ∷ r) (0x10000 + (hi - 0xD800) * 0x400 + (lo - 0xDC00)) r
+  -- "`\x` with digits d, e is code point 256d+e"
+  two : {d e v w : ℕ} {r : List ℕ} → Hex d v → Hex e w → Escape (0x78 ∷ d ∷ e ∷ r) (v * 0x100 + w) r
+
+-- The inside of a quoted literal means the text. What has no text here is refused, RFC 8259's `\/` among it.
+pub data Quoted : List ℕ → List ℕ → Type 0 where
+  end : Quoted [] []
+  plain : {b : ℕ} {s t : List ℕ} → (b ≡ 0x5C → ⊥) → Quoted s t → Quoted (b ∷ s) (b ∷ t)
+  escape : {s r t : List ℕ} {c : ℕ} → Escape s c r → Quoted r t → Quoted (0x5C ∷ s) (utf8 c ++ t)
+
+-- The list begins with the byte.
+abbrev pub Begins : ℕ → List ℕ → Type 0
+Begins q [] = ⊥
+Begins q (b ∷ s) = b ≡ q
+
+-- The inside of a verbatim literal between quotes q: "a doubled quote is one". A quote that stands alone, which no literal has,
+-- is kept, as the Rust's `replace` keeps it: every inside has a text.
+pub data Verbatim (q : ℕ) : List ℕ → List ℕ → Type 0 where
+  end : Verbatim q [] []
+  plain : {b : ℕ} {s t : List ℕ} → (b ≡ q → ⊥) → Verbatim q s t → Verbatim q (b ∷ s) (b ∷ t)
+  doubled : {s t : List ℕ} → Verbatim q s t → Verbatim q (q ∷ q ∷ s) (q ∷ t)
+  alone : {s t : List ℕ} → (Begins q s → ⊥) → Verbatim q s t → Verbatim q (q ∷ s) (q ∷ t)

@@ -1,0 +1,1 @@
+// The inside of a string literal, decoded.
