@@ -1,1 +1,5 @@
 pub mod Stores
+pub mod Utf8Laws
+mod Escapes
+mod Walk
+mod Steps

@@ -1,3 +1,4 @@
 pub mod Utf8
 pub mod Decoding
 pub mod Literals
+pub mod Inner

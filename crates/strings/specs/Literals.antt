@@ -11,9 +11,11 @@ pub data Hex : ℕ → ℕ → Type 0 where
   upper : {b : ℕ} → In 0x41 0x46 b → Hex b (b - 0x37)
   lower : {b : ℕ} → In 0x61 0x66 b → Hex b (b - 0x57)
 
--- Four hex digits and the number that they spell.
-pub data Four : ℕ → ℕ → ℕ → ℕ → ℕ → Type 0 where
-  four : {a b c d v w x y : ℕ} → Hex a v → Hex b w → Hex c x → Hex d y → Four a b c d (v * 0x1000 + w * 0x100 + x * 0x10 + y)
+-- The bytes begin with four hex digits that spell the number, and the last list is what follows them.
+pub data Four : List ℕ → ℕ → List ℕ → Type 0 where
+  four :
+      {a b c d v w x y : ℕ} {r : List ℕ} → Hex a v → Hex b w → Hex c x → Hex d y →
+      Four (a ∷ b ∷ c ∷ d ∷ r) (v * 0x1000 + w * 0x100 + x * 0x10 + y) r
 
 -- `\\ \" \' \b \f \n \r \t`: the letter after the backslash and the character that it stands for.
 pub data Letter : ℕ → ℕ → Type 0 where
@@ -26,15 +28,19 @@ pub data Letter : ℕ → ℕ → Type 0 where
   return : Letter 0x72 0x0D
   tab : Letter 0x74 0x09
 
+-- The bytes begin with `\u` and a low half.
+pub data Low : List ℕ → ℕ → List ℕ → Type 0 where
+  low : {lo : ℕ} {s r : List ℕ} → Four s lo r → In 0xDC00 0xDFFF lo → Low (0x5C ∷ 0x75 ∷ s) lo r
+
 -- After a backslash the bytes begin with an escape for the code point, and the last list is what follows it.
 pub data Escape : List ℕ → ℕ → List ℕ → Type 0 where
   letter : {l c : ℕ} {r : List ℕ} → Letter l c → Escape (l ∷ r) c r
   -- "`\u` with four hex digits"; "a low half alone is bad", and so is a high half
-  unit : {a b c d n : ℕ} {r : List ℕ} → Four a b c d n → Scalar n → Escape (0x75 ∷ a ∷ b ∷ c ∷ d ∷ r) n r
+  unit : {n : ℕ} {s r : List ℕ} → Four s n r → Scalar n → Escape (0x75 ∷ s) n r
   -- "a high half needing `\u` and a low half"
   pair :
-      {a b c d e f g h hi lo : ℕ} {r : List ℕ} → Four a b c d hi → In 0xD800 0xDBFF hi → Four e f g h lo → In 0xDC00 0xDFFF lo →
-      Escape (0x75 ∷ a ∷ b ∷ c ∷ d ∷ 0x5C ∷ 0x75 ∷ e ∷ f ∷ g ∷ h ∷ r) (0x10000 + (hi - 0xD800) * 0x400 + (lo - 0xDC00)) r
+      {hi lo : ℕ} {s q r : List ℕ} → Four s hi q → In 0xD800 0xDBFF hi → Low q lo r →
+      Escape (0x75 ∷ s) (0x10000 + (hi - 0xD800) * 0x400 + (lo - 0xDC00)) r
   -- "`\x` with digits d, e is code point 256d+e"
   two : {d e v w : ℕ} {r : List ℕ} → Hex d v → Hex e w → Escape (0x78 ∷ d ∷ e ∷ r) (v * 0x100 + w) r
 

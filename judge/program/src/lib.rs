@@ -1,0 +1,9 @@
+//! Answers as document 01 asks, from the Rust.
+
+pub mod exhaustive;
+pub mod generate;
+pub mod hex;
+pub mod layers;
+pub mod reader;
+pub mod readings;
+pub mod stack;

@@ -1,0 +1,2 @@
+// Stand-in for a file that is not among those given.
+pub mod syntax_kinds;
