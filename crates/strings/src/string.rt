@@ -5,9 +5,10 @@ ghost use lib.ListN.{length, getD, drop};
 ghost use Rattle.strings.specs.Literals.{Quoted, Verbatim, Begins};
 ghost use Rattle.strings.specs.Decoding.{Decoding};
 ghost use Rattle.strings.specs.Inner.{Says, Digit, Spelled, Halved, Meant, EscapeAt};
-
+use crate::Decoded;
+use crate::clear;
+use crate::put;
 use crate::utf8::put_code;
-use crate::{Decoded, clear, put};
 
 // An escape's code point and the place after it.
 pub enum Escaped {

@@ -243,7 +243,7 @@ pub const TRAPS: &[Reading] = &[
     (0, "a...b", Refused(5, 1, 4, 1)),
     (0, "a..b", Refused(5, 2, 3, 55)),
     (0, "a<<=b", Refused(7, 3, 4, 0)),
-    (0, "a===b", Refused(7, 3, 4, 1)),
+    (0, "a===b", Refused(7, 3, 4, 0)),
     (4, "a???b", Refused(7, 3, 4, 0)),
     (4, "a??.b", Refused(7, 3, 4, 0)),
     (4, "a?b", Refused(5, 2, 3, 31)),

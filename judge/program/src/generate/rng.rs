@@ -29,10 +29,15 @@ impl Rng {
         choices[self.below(choices.len())]
     }
 
-    /// A scalar value from one of the lengths that UTF-8 has.
+    /// A scalar value from one of the lengths that UTF-8 has, or from above the surrogates.
     pub fn scalar(&mut self) -> char {
-        let (low, high) =
-            self.pick(&[(0, 0x7f), (0x80, 0x7ff), (0x800, 0xd7ff), (0x1_0000, 0x10_ffff)]);
+        let (low, high) = self.pick(&[
+            (0, 0x7f),
+            (0x80, 0x7ff),
+            (0x800, 0xd7ff),
+            (0xe000, 0xffff),
+            (0x1_0000, 0x10_ffff),
+        ]);
         char::from_u32(low + self.below((high - low + 1) as usize) as u32).expect("no surrogate")
     }
 }
