@@ -1,6 +1,7 @@
 // The lines of a list of vectors/, taken apart: fields with a space between, bytes in hex. For the replay programs alone.
 ghost use Prim.Native.Nat.{_≤_};
 ghost use lib.ListN.{length};
+ghost use Rattle.io.specs.Counts.{Counts};
 use libc::STDOUT_FILENO;
 
 // Where a run of bytes other than the stop byte ends.
@@ -79,7 +80,7 @@ pub fn hex_number(digits: &[u8]) -> u32 {
 
 // The bytes that pairs of hex digits spell, as many as have room; a lone `-` is none.
 pub fn unhex(hex: &[u8], out: &mut [u8]) -> usize
-    ensures { λ r. ⌜ r ≤ length (now (out .exit)) ⌝ }
+    ensures { λ r. ⌜ Counts r (now (out .exit)) ⌝ }
 {
     let mut n = 0;
     let mut i = 1;

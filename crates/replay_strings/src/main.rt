@@ -19,13 +19,15 @@ fn agrees(decoded: Decoded, out: &[u8], answer: &[u8]) -> bool {
     check::same(out, &wanted)
 }
 
-fn decoder_agrees(mode: u8, input: &[u8], answer: &[u8]) -> bool {
+fn quoted_agrees(input: &[u8], answer: &[u8]) -> bool {
     let mut out = [0u8; ROOM];
-    let decoded = match mode {
-        b'q' => strings::string::unescape(input, &mut out),
-        b'd' => strings::string::verbatim(input, b'"', &mut out),
-        _ => strings::string::verbatim(input, b'\'', &mut out),
-    };
+    let decoded = strings::string::unescape(input, &mut out);
+    agrees(decoded, &out, answer)
+}
+
+fn verbatim_agrees(input: &[u8], quote: u8, answer: &[u8]) -> bool {
+    let mut out = [0u8; ROOM];
+    let decoded = strings::string::verbatim(input, quote, &mut out);
     agrees(decoded, &out, answer)
 }
 
@@ -48,10 +50,14 @@ fn line_agrees(line: &[u8]) -> bool {
     }
     let mut bytes = [0u8; ROOM];
     let n = lists::unhex(input, &mut bytes);
-    if m == b'u' {
-        return strings::utf8::valid_to(&bytes[..n]) == lists::number(answer);
+    let text = &bytes[..n];
+    match m {
+        b'u' => strings::utf8::valid_to(text) == lists::number(answer),
+        b'q' => quoted_agrees(text, answer),
+        b'd' => verbatim_agrees(text, b'"', answer),
+        b's' => verbatim_agrees(text, b'\'', answer),
+        _ => false,
     }
-    decoder_agrees(m, &bytes[..n], answer)
 }
 
 fn replay(text: &[u8]) -> Tally {

@@ -1,5 +1,9 @@
 pub mod Stores
+pub mod DecodingLaws
+mod Rows
+mod Reading
 pub mod Utf8Laws
+pub mod CharacterLaws
 pub mod LiteralLaws
 mod Escapes
 mod Walk

@@ -1,17 +1,24 @@
 -- What is true of every literal's inside: it has at most one text, which is no longer than the inside, and UTF-8 if that is.
 -- Assumes nothing.
-use mathlib.Core.Path.{_≡_, refl, sym, _∙_, ap}
-use mathlib.Core.List.{List, [], _∷_, _++_, append-assoc}
-use mathlib.Core.Logic.{_⊎_, inl, inr}
-use Prim.Native.Nat.{ℕ, suc, _+_, _≤_, _<_}
+use mathlib.Core.Path.{_≡_, refl, sym}
+use mathlib.Core.Bool.{Bool, true, false}
+use mathlib.Core.List.{List, [], _∷_, _++_}
+use Prim.Native.Nat.{ℕ, _≤_, _<_}
 use native.Mathlib.Omega.{arith}
-use native.Mathlib.Decide.{decLt}
+use borrow.Author.Tests.{eqb-true, eqb-false}
+use lib.Dec.{eqb}
 use lib.ListN.{length, length-append}
-use Rattle.strings.specs.Utf8.{utf8, Utf8}
-use Rattle.strings.specs.Literals.{Quoted, Verbatim, Begins}
+use lib.Seq.{append-snoc}
+use Rattle.strings.specs.Utf8.{In, utf8, Utf8, more, row-00-7F}
+use Rattle.strings.specs.Literals.{Four, four, Low, low, Escape, letter, unit, pair, two, Quoted, Verbatim}
 use Rattle.strings.specs.Literals as literals
-use Rattle.strings.proofs.Escapes.{escape-once}
-use Rattle.strings.proofs.Steps.{escape-short}
+use Rattle.strings.specs.Decoding.{Decoding}
+use Rattle.strings.specs.declared.Decoded.{Decoded}
+use Rattle.strings.proofs.DecodingLaws.{decoding-once}
+use Rattle.strings.proofs.Utf8Laws.{utf8-utf8}
+use Rattle.strings.proofs.CharacterLaws.{utf8-append, ascii-rest, ascii-splits}
+use Rattle.strings.proofs.Escapes.{hex-byte, letter-low, escape-once}
+use Rattle.strings.proofs.Steps.{escape-short, escape-scalar}
 
 pub quoted-once : {s t u : List ℕ} → Quoted s t → Quoted s u → t ≡ u
 quoted-once literals.Quoted.end literals.Quoted.end = refl
@@ -44,3 +51,69 @@ verbatim-short literals.Verbatim.end = omega arith
 verbatim-short (literals.Verbatim.plain h x) = omega (arith, verbatim-short x)
 verbatim-short (literals.Verbatim.doubled x) = omega (arith, verbatim-short x)
 verbatim-short (literals.Verbatim.alone h x) = omega (arith, verbatim-short x)
+
+eq-or-not : (a b : ℕ) → Dec (a ≡ b)
+eq-or-not a b = by (eqb a b) refl
+  where
+    by : (t : Bool) → eqb a b ≡ t → Dec (a ≡ b)
+    by true e = yes (eqb-true a b e)
+    by false e = no (eqb-false a b e)
+
+-- Every inside of a verbatim literal has a text: `verbatim` never refuses.
+pub verbatim-always : (q : ℕ) (s : List ℕ) → (t : List ℕ) × Verbatim q s t
+verbatim-always q [] = ([], literals.Verbatim.end)
+verbatim-always q (b ∷ []) = last (eq-or-not b q)
+  where
+    last : Dec (b ≡ q) → (t : List ℕ) × Verbatim q (b ∷ []) t
+    last (yes e) = (q ∷ [], rw e (literals.Verbatim.alone (λ x. x) literals.Verbatim.end))
+    last (no h) = (b ∷ [], literals.Verbatim.plain h literals.Verbatim.end)
+verbatim-always q (b ∷ d ∷ s) = by (eq-or-not b q) (eq-or-not d q) (verbatim-always q s) (verbatim-always q (d ∷ s))
+  where
+    by : Dec (b ≡ q) → Dec (d ≡ q) → (t : List ℕ) × Verbatim q s t → (t : List ℕ) × Verbatim q (d ∷ s) t → (t : List ℕ) × Verbatim q (b ∷ d ∷ s) t
+    by (no h) x rest after = (b ∷ after .0, literals.Verbatim.plain h (after .1))
+    by (yes e) (yes f) rest after = (q ∷ rest .0, rw (e, f) (literals.Verbatim.doubled (rest .1)))
+    by (yes e) (no h) rest after = (q ∷ after .0, rw e (literals.Verbatim.alone h (after .1)))
+
+-- ---- UTF-8
+
+-- What was read plain so far stands before both: a longer character's bytes are read one by one.
+four-utf8 : {s r : List ℕ} {n : ℕ} → Four s n r → Utf8 s → Utf8 r
+four-utf8 (four a b c d) u =
+    ascii-rest (ascii-rest (ascii-rest (ascii-rest u (omega (arith, hex-byte a))) (omega (arith, hex-byte b))) (omega (arith, hex-byte c))) (omega (arith, hex-byte d))
+
+escape-utf8 : {s r : List ℕ} {c : ℕ} → Escape s c r → Utf8 s → Utf8 r
+escape-utf8 (letter h) u = ascii-rest u (omega (arith, letter-low h))
+escape-utf8 (unit f g) u = four-utf8 f (ascii-rest u (omega arith))
+escape-utf8 (pair f g (low h k)) u = four-utf8 h (ascii-rest (ascii-rest (four-utf8 f (ascii-rest u (omega arith))) (omega arith)) (omega arith))
+escape-utf8 (two h g) u = ascii-rest (ascii-rest (ascii-rest u (omega arith)) (omega (arith, hex-byte h))) (omega (arith, hex-byte g))
+
+quoted-on : {s t : List ℕ} → Quoted s t → (p : List ℕ) → Utf8 (p ++ s) → Utf8 (p ++ t)
+quoted-on literals.Quoted.end p u = u
+quoted-on (literals.Quoted.plain {b} {s} {t} h x) p u = rw append-snoc at (quoted-on x (p ++ (b ∷ [])) (rw append-snoc u))
+quoted-on (literals.Quoted.escape {c = c} e x) p u =
+    let parts = ascii-splits p u (omega arith) in
+    utf8-append (parts .0) (utf8-append (utf8-utf8 c (escape-scalar e)) (quoted-on x [] (escape-utf8 e (parts .1))))
+
+pub quoted-utf8 : {s t : List ℕ} → Quoted s t → Utf8 s → Utf8 t
+quoted-utf8 x u = quoted-on x [] u
+
+verbatim-on : {q : ℕ} {s t : List ℕ} → q < 0x80 → Verbatim q s t → (p : List ℕ) → Utf8 (p ++ s) → Utf8 (p ++ t)
+verbatim-on h literals.Verbatim.end p u = u
+verbatim-on h (literals.Verbatim.plain {b} {s} {t} g x) p u = rw append-snoc at (verbatim-on h x (p ++ (b ∷ [])) (rw append-snoc u))
+verbatim-on {q} h (literals.Verbatim.doubled x) p u =
+    let parts = ascii-splits p u h in
+    let one : In 0x00 0x7F q = omega arith in
+    utf8-append (parts .0) (more (row-00-7F one) (verbatim-on h x [] (ascii-rest (parts .1) h)))
+verbatim-on {q} h (literals.Verbatim.alone g x) p u = rw append-snoc at (verbatim-on h x (p ++ (q ∷ [])) (rw append-snoc u))
+
+pub verbatim-utf8 : {q : ℕ} {s t : List ℕ} → q < 0x80 → Verbatim q s t → Utf8 s → Utf8 t
+verbatim-utf8 h x u = verbatim-on h x [] u
+
+-- ---- no second answer
+
+module _ {s out : List ℕ} {r r′ : Decoded} {o o′ : List ℕ} where
+  pub unescape-once : Decoding (Quoted s) out r o → Decoding (Quoted s) out r′ o′ → (r ≡ r′) × (o ≡ o′)
+  unescape-once = decoding-once (λ t u x y. quoted-once x y)
+
+  pub verbatim-answer-once : {q : ℕ} → Decoding (Verbatim q s) out r o → Decoding (Verbatim q s) out r′ o′ → (r ≡ r′) × (o ≡ o′)
+  verbatim-answer-once = decoding-once (λ t u x y. verbatim-once x y)

@@ -1,11 +1,11 @@
 -- Stores into an output: runs of them, and what clearing leaves.
 -- Assumes nothing.
-use mathlib.Core.Path.{_≡_, refl, sym, _∙_, ap}
+use mathlib.Core.Path.{_≡_, sym, _∙_, ap}
 use mathlib.Core.List.{List, [], _∷_, _++_, append-assoc, append-nil}
-use Prim.Native.Nat.{ℕ, zero, suc, _+_, _-_, _≤_, _<_}
+use Prim.Native.Nat.{ℕ, suc, _+_, _<_}
 use native.Mathlib.Omega.{arith}
 use native.Mathlib.Numerals.{add-one}
-use lib.ListN.{length, set, take, drop, replicate, length-replicate, drop-of-length-le, replicate-append-replicate}
+use lib.ListN.{length, set, drop, replicate, length-replicate, drop-of-length-le, replicate-append-replicate}
 use lib.Seq.{sets, drop-cons, set-at}
 
 -- A run of stores, and then another from where it ended, is one run.

@@ -208,7 +208,7 @@ pub fn verbatim(s: &[u8], quote: u8, out: &mut [u8]) -> Decoded
 {
     let mut i = 0;
     let mut n = 0;
-    while i < s.len() {
+    while s.len() - i > 0 {
         let b = s[i];
         put(out, n, b);
         n += 1;

@@ -2,9 +2,13 @@
 ghost use mathlib.Core.Path.{_≡_};
 ghost use mathlib.Core.List.{[], _∷_};
 ghost use Prim.Native.Nat.{_+_, _/_, _%_, _^_, _<_};
-ghost use lib.ListN.{length};
+ghost use lib.ListN.{length, drop};
 ghost use lib.Seq.{sets};
-ghost use Rattle.strings.specs.Utf8.{utf8};
+ghost use Rattle.strings.specs.Utf8.{CharacterLength, ValidTo, utf8, Encodes};
+ghost use Rattle.strings.specs.Rows.{Row};
+ghost use Rattle.strings.specs.Decoding.{Decoding};
+use crate::Decoded;
+use crate::clear;
 use crate::put;
 
 // Two, three and four bytes from a place on, where the output has room.
@@ -71,4 +75,111 @@ pub(crate) fn put_code(out: &mut [u8], at: usize, code: u32) -> usize
         tail(code),
     );
     at + 4
+}
+
+// The bytes of a code point, if it is a scalar value.
+pub fn encode(code: u32, out: &mut [u8]) -> Decoded
+    ensures { λ r. ⌜ Decoding (Encodes code) (now (out .entry)) r (now (out .exit)) ⌝ }
+{
+    if code < 0xD800 {
+        return Decoded::Text(put_code(out, 0, code));
+    }
+    if code < 0xE000 {
+        clear(out);
+        return Decoded::Refused;
+    }
+    if code < 0x110000 {
+        return Decoded::Text(put_code(out, 0, code));
+    }
+    clear(out);
+    Decoded::Refused
+}
+
+// What a first byte says of its character: how many bytes it has, none where that is 0, and the bounds of the second.
+struct Lead(usize, u8, u8);
+
+// Table 3-7, by the first byte.
+fn lead_of(a: u8) -> Lead
+    ensures { λ r. ⌜ Row a (r .0) (r .1) (r .2) ⌝ }
+{
+    if a < 0x80 {
+        return Lead(1, 0x80, 0xBF);
+    }
+    if a < 0xC2 {
+        return Lead(0, 0x80, 0xBF);
+    }
+    if a < 0xE0 {
+        return Lead(2, 0x80, 0xBF);
+    }
+    if a < 0xE1 {
+        return Lead(3, 0xA0, 0xBF);
+    }
+    if a < 0xED {
+        return Lead(3, 0x80, 0xBF);
+    }
+    if a < 0xEE {
+        return Lead(3, 0x80, 0x9F);
+    }
+    if a < 0xF0 {
+        return Lead(3, 0x80, 0xBF);
+    }
+    if a < 0xF1 {
+        return Lead(4, 0x90, 0xBF);
+    }
+    if a < 0xF4 {
+        return Lead(4, 0x80, 0xBF);
+    }
+    if a < 0xF5 {
+        return Lead(4, 0x80, 0x8F);
+    }
+    Lead(0, 0x80, 0xBF)
+}
+
+// How many bytes the character has that begins at a place; 0 where none does.
+pub fn char_len(s: &[u8], at: usize) -> usize
+    ensures { λ r. ⌜ CharacterLength (drop at (now (s .entry))) r ⌝ }
+{
+    if s.len() <= at {
+        return 0;
+    }
+    let lead = lead_of(s[at]);
+    let width = lead.0;
+    if width == 0 {
+        return 0;
+    }
+    let mut low = lead.1;
+    let mut high = lead.2;
+    let mut n = 1;
+    while n < width {
+        let i = at + n;
+        if s.len() <= i {
+            return 0;
+        }
+        let b = s[i];
+        if b < low {
+            return 0;
+        }
+        if high < b {
+            return 0;
+        }
+        low = 0x80;
+        high = 0xBF;
+        n += 1;
+    }
+    width
+}
+
+// The bytes valid so far.
+pub fn valid_to(s: &[u8]) -> usize
+    ensures { λ r. ⌜ ValidTo (now (s .entry)) r ⌝ }
+{
+    let mut i = 0;
+    while i < s.len() {
+        let n = char_len(s, i);
+        if n == 0 {
+            return i;
+        }
+        i += n;
+    }
+    i
 }

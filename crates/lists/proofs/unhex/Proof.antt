@@ -3,7 +3,7 @@
 use Prim.Native.Nat.{_≤_, _-_}
 use mathlib.Core.Path.{_≡_}
 use native.Mathlib.Omega.{arith}
-use lib.ListN.{length, length-set}
+use lib.ListN.{length, length-set, length-take}
 use borrow.Author.Needs.{needs}
 use Rattle.lists.proofs.unhex.Statement.{statement}
 use Rattle.lists.proofs.unhex.Tie as tie
@@ -21,7 +21,7 @@ same-length : tie.Need-same-length Inv-loop μ-loop
 same-length c = search needs
 
 returns : tie.Need-returns Inv-loop μ-loop
-returns c = search needs
+returns c = simp length-take (omega arith)
 
 sub-digit : tie.Need-sub-digit Inv-loop μ-loop
 sub-digit c = search needs
@@ -57,7 +57,7 @@ same-length-2 : tie.Need-same-length-2 Inv-loop μ-loop
 same-length-2 c = search needs
 
 returns-2 : tie.Need-returns-2 Inv-loop μ-loop
-returns-2 c = simp length-set (omega arith)
+returns-2 c = simp (length-take, length-set) (omega arith)
 
 add-i : tie.Need-add-i Inv-loop μ-loop
 add-i c = search needs
@@ -72,7 +72,7 @@ same-length-3 : tie.Need-same-length-3 Inv-loop μ-loop
 same-length-3 c = search needs
 
 returns-3 : tie.Need-returns-3 Inv-loop μ-loop
-returns-3 c = search needs
+returns-3 c = simp length-take (omega arith)
 
 pub unhex-spec : {M : Type 1} → statement M
 unhex-spec = tie.close (tie.spec Inv-loop μ-loop loop-holds same-length returns sub-digit shared-slice-read-digit digit-requires mul-out shared-slice-read-digit-2 digit-requires-2 add-out slice-write-out add-n sub-if2 same-length-2 returns-2 add-i loop-less loop-again same-length-3 returns-3)

@@ -20,6 +20,9 @@ abbrev μ-loop : tie.MeasureT-loop
 loop-holds : tie.Need-loop-holds Inv-loop μ-loop
 loop-holds c = start _ _ _
 
+sub-loop : tie.Need-sub-loop Inv-loop μ-loop
+sub-loop c = search needs
+
 shared-slice-read-b : tie.Need-shared-slice-read-b Inv-loop μ-loop
 shared-slice-read-b c = search needs
 
@@ -38,7 +41,7 @@ loop-less c = search needs
 loop-again : tie.Need-loop-again Inv-loop μ-loop
 loop-again c =
     let turn = c .before .before .before .before .before .before in
-    verbatim-plain (turn .before .loop .inv) (turn .loop-test .taken) _ (c .before .before .before .put .ensures) (c .if1 .taken)
+    verbatim-plain (turn .before .loop .inv) (omega arith) _ (c .before .before .before .put .ensures) (c .if1 .taken)
 
 doubled-requires : tie.Need-doubled-requires Inv-loop μ-loop
 doubled-requires c κs = search needs
@@ -53,7 +56,7 @@ loop-again-2 : tie.Need-loop-again-2 Inv-loop μ-loop
 loop-again-2 c =
     let turn = c .before .before .before .before .before .before .before .before in
     let next = rw (c .if2 .taken) at (c .before .doubled .ensures) in
-    verbatim-two (turn .before .loop .inv) (turn .loop-test .taken) _ (c .before .before .before .before .before .put .ensures) (c .before .before .if1 .left) next
+    verbatim-two (turn .before .loop .inv) (omega arith) _ (c .before .before .before .before .before .put .ensures) (c .before .before .if1 .left) next
 
 add-i-3 : tie.Need-add-i-3 Inv-loop μ-loop
 add-i-3 c = search needs
@@ -65,13 +68,13 @@ loop-again-3 : tie.Need-loop-again-3 Inv-loop μ-loop
 loop-again-3 c =
     let turn = c .before .before .before .before .before .before .before .before in
     let next = rw (c .if2 .left) at (c .before .doubled .ensures) in
-    verbatim-one (turn .before .loop .inv) (turn .loop-test .taken) _ (c .before .before .before .before .before .put .ensures) (c .before .before .if1 .left) next
+    verbatim-one (turn .before .loop .inv) (omega arith) _ (c .before .before .before .before .before .put .ensures) (c .before .before .if1 .left) next
 
 same-length : tie.Need-same-length Inv-loop μ-loop
 same-length c = same-size _ _ _ (c .before .loop .inv)
 
 returns : tie.Need-returns Inv-loop μ-loop
-returns c = ended _ _ _ (c .before .loop .inv) (c .loop-test .left) end
+returns c = ended _ _ _ (c .before .loop .inv) (omega arith) end
 
 pub verbatim-spec : {M : Type 1} → statement M
-verbatim-spec = tie.close (tie.spec Inv-loop μ-loop loop-holds shared-slice-read-b put-requires add-n add-i loop-less loop-again doubled-requires add-i-2 loop-less-2 loop-again-2 add-i-3 loop-less-3 loop-again-3 same-length returns)
+verbatim-spec = tie.close (tie.spec Inv-loop μ-loop loop-holds sub-loop shared-slice-read-b put-requires add-n add-i loop-less loop-again doubled-requires add-i-2 loop-less-2 loop-again-2 add-i-3 loop-less-3 loop-again-3 same-length returns)
