@@ -56,23 +56,22 @@ fn digit(b: u8) -> u8
     }
 }
 
-// A decimal number, as far as nine digits go.
-pub fn number(digits: &[u8]) -> usize {
-    let mut n: usize = 0;
-    let mut i = 0;
-    while i < digits.len() {
-        n = n % 100_000_000 * 10 + digit(digits[i]) as usize;
-        i += 1;
+// Room for one digit more, as far as 32 bits go.
+fn shifted(n: u32, hex: bool) -> u32
+    ensures { λ r. ⌜ r ≤ 0xFFFF_FFF0 ⌝ }
+{
+    if hex {
+        return n % 0x1000_0000 * 16;
     }
-    n
+    n % 0x1000_0000 * 10
 }
 
-// A hex number, as far as eight digits go.
-pub fn hex_number(digits: &[u8]) -> u32 {
+// A number in hex or in decimal.
+pub fn number(digits: &[u8], hex: bool) -> u32 {
     let mut n: u32 = 0;
     let mut i = 0;
     while i < digits.len() {
-        n = n % 0x1000_0000 * 16 + digit(digits[i]) as u32;
+        n = shifted(n, hex) + digit(digits[i]) as u32;
         i += 1;
     }
     n

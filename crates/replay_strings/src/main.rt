@@ -46,13 +46,13 @@ fn line_agrees(line: &[u8]) -> bool {
     }
     let m = mode[0];
     if m == b'c' {
-        return code_agrees(lists::hex_number(input), answer);
+        return code_agrees(lists::number(input, true), answer);
     }
     let mut bytes = [0u8; ROOM];
     let n = lists::unhex(input, &mut bytes);
     let text = &bytes[..n];
     match m {
-        b'u' => strings::utf8::valid_to(text) == lists::number(answer),
+        b'u' => strings::utf8::valid_to(text) == lists::number(answer, false) as usize,
         b'q' => quoted_agrees(text, answer),
         b'd' => verbatim_agrees(text, b'"', answer),
         b's' => verbatim_agrees(text, b'\'', answer),

@@ -7,16 +7,16 @@ use Rattle.lists.proofs.number.Statement.{statement}
 use Rattle.lists.proofs.number.Tie as tie
 
 abbrev Inv-loop : tie.InvT-loop
-Inv-loop digits n₀ i₀ n i = i ≤ length digits
+Inv-loop digits hex n₀ i₀ n i = i ≤ length digits
 
 abbrev μ-loop : tie.MeasureT-loop
-μ-loop digits n₀ i₀ n i = length digits - i
+μ-loop digits hex n₀ i₀ n i = length digits - i
 
 loop-holds : tie.Need-loop-holds Inv-loop μ-loop
 loop-holds c = search needs
 
-mul-n : tie.Need-mul-n Inv-loop μ-loop
-mul-n c = search needs
+shifted-requires : tie.Need-shifted-requires Inv-loop μ-loop
+shifted-requires c κs = search needs
 
 shared-slice-read-digit : tie.Need-shared-slice-read-digit Inv-loop μ-loop
 shared-slice-read-digit c = search needs
@@ -43,4 +43,4 @@ returns : tie.Need-returns Inv-loop μ-loop
 returns c = search needs
 
 pub number-spec : {M : Type 1} → statement M
-number-spec = tie.close (tie.spec Inv-loop μ-loop loop-holds mul-n shared-slice-read-digit digit-requires cast-n add-n add-i loop-less loop-again returns)
+number-spec = tie.close (tie.spec Inv-loop μ-loop loop-holds shifted-requires shared-slice-read-digit digit-requires cast-n add-n add-i loop-less loop-again returns)
