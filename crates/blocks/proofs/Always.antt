@@ -1,6 +1,6 @@
 -- Every source has an answer at every place: the bytes after any `|||` are a good block or have one of the four faults.
 -- Assumes nothing.
-use mathlib.Core.Path.{_≡_, refl, sym, _∙_, ap, subst}
+use mathlib.Core.Path.{_≡_, sym, _∙_, ap, subst}
 use mathlib.Core.Bool.{Bool}
 use mathlib.Core.List.{List, [], _∷_, _++_, List-discrete, nil≢cons, head-eq-of-cons-eq}
 use mathlib.Core.Logic.{_⊎_, inl, inr, ⊎-elim}
@@ -10,7 +10,6 @@ use native.Mathlib.Decide.{ℕ-discrete}
 use lib.ListN.{length, take, drop, length-append, length-drop, take-append-drop}
 use lib.Seq.{take-append-seam}
 use Rattle.blocks.specs.declared.Block.{Block}
-use Rattle.blocks.specs.declared.Block.the-variants.{Good, UnexpectedEnd, MissingNewLine, MissingTermination, MissingIndent}
 use Rattle.blocks.specs.Blocks.{Run, stop, more, LineFeed, HeaderBlank, Blank, InLine, Dash, there, Header, header, Indent, first, Lines, empty, content, Other, NoBars, Sought, here, on, Found, good, unexpected-end, missing-new-line, missing-indent, missing-termination, Closing, closed, blank, failing, Last, another, cut, Body, no-indent, indented, Stands, no-line, no-new-line, after-header, ends, BlockAt, a-good, an-unexpected-end, a-missing-new-line, a-missing-indent, a-missing-termination}
 use Rattle.blocks.proofs.Runs.{stable, run-stops, run-length}
 use Rattle.blocks.proofs.Once.{stands-length}

@@ -4,12 +4,16 @@ use mathlib.Core.Path.{_≡_, refl, sym, _∙_, ap, subst}
 use mathlib.Core.Bool.{Bool, true, false, true≢false}
 use mathlib.Core.List.{List, [], _∷_, _++_, nil≢cons, cons≢nil, tail-eq-of-cons-eq}
 use mathlib.Core.Logic.{⊎-elim}
-use Prim.Native.Nat.{ℕ, _+_, _-_, _≤_, _<_}
+use Prim.Native.Nat.{ℕ, _+_, _-_, _≤_}
 use native.Mathlib.Omega.{arith}
 use lib.ListN.{length, drop, length-append, length-drop}
+use lib.Seq.{sets}
+use Rattle.strings.specs.declared.Decoded.{Decoded}
+use Rattle.strings.specs.declared.Decoded.the-variants.{Text, Refused}
+use Rattle.strings.specs.Decoding.{Decoding, refused}
 use Rattle.blocks.specs.declared.Block.{Block}
 use Rattle.blocks.specs.declared.Block.the-variants.{Good, UnexpectedEnd, MissingNewLine, MissingTermination, MissingIndent}
-use Rattle.blocks.specs.Blocks.{Run, stop, more, HeaderBlank, InLine, Dash, there, Header, header, Indent, first, Lines, empty, content, Other, Found, good, unexpected-end, missing-new-line, missing-indent, missing-termination, Closing, closed, Last, another, Body, indented, Stands, after-header, joined, text, BlockText, means, Ends, ends, BlockAt, a-good, an-unexpected-end, a-missing-new-line, a-missing-indent, a-missing-termination}
+use Rattle.blocks.specs.Blocks.{Run, stop, more, HeaderBlank, InLine, Dash, there, header, Indent, first, Lines, empty, content, Other, Found, good, unexpected-end, missing-new-line, missing-indent, missing-termination, closed, another, Body, indented, Stands, after-header, joined, text, BlockText, means, ends, BlockAt, a-good, an-unexpected-end, a-missing-new-line, a-missing-indent, a-missing-termination}
 use Rattle.blocks.proofs.Runs.{run-split, run-once, run-length}
 use Rattle.blocks.proofs.Texts.{ended, joined-ended, lines-length}
 use Rattle.blocks.proofs.Once.{dash-once, header-once, header-length, body-once, stands-once, stands-length}
@@ -79,11 +83,25 @@ text-is-good (means h b) d =
     let x = take-apart d in
     (x .end, x .same ∙ ap (λ (f : Found). answer f (x .end)) (stands-once (x .stands) (after-header h b) .0))
 
+-- The reason why number 10 does not occur: the decoder's contract is never met by a refusal.
+pub never-refused : {s out out₁ : List ℕ} {at e : ℕ} → BlockAt s at (Good e) → Decoding (BlockText (drop at s)) out Refused out₁ → ⊥
+never-refused d (refused h) = h _ (good-decodes d .1)
+
 pub text-once : {s t t′ : List ℕ} → BlockText s t → BlockText s t′ → t ≡ t′
 text-once (means {dash = d} {lines = ls} h b) (means {r = r} {dash = e} {lines = ms} g c) =
     let o = header-once h g in
     let q : good ls ≡ good ms = body-once b (subst (λ (x : List ℕ). Body x (good ms) r) (sym (tail-eq-of-cons-eq (o .1))) c) .0 in
     cc (o .0, q)
+
+-- The decoder's answer and every byte that it leaves are determined.
+pub decoded-once :
+    {s out o o′ : List ℕ} {a a′ : Decoded} → Decoding (BlockText s) out a o → Decoding (BlockText s) out a′ o′ → (a ≡ a′) × (o ≡ o′)
+decoded-once {out = out} (Decoding.text m) (Decoding.text n) =
+    let e = text-once m n in
+    (ap (λ (t : List ℕ). Text (length t)) e, ap (sets out 0) e)
+decoded-once (Decoding.text m) (refused h) = absurd (h _ m)
+decoded-once (refused h) (Decoding.text m) = absurd (h _ m)
+decoded-once (refused h) (refused g) = (refl, refl)
 
 -- A good block has a line: its first line that is not empty.
 no-lines : {s line i : List ℕ} → Indent s line i → (i ≡ [] → ⊥) → Other i s → ⊥
@@ -122,16 +140,16 @@ undashed (stop h) = Dash.other {b = 0x0A} (λ e. omega arith)
 undashed (more {b = b} p d) = Dash.other {b = b} (λ e. ⊎-elim (λ h. omega arith) (⊎-elim (λ h. omega arith) (λ h. omega arith)) p)
 
 -- With `|||-` the text is exactly the text without `-` less its last LF.
-pub dash-drops-last-feed : {s t : List ℕ} → BlockText (0x2D ∷ s) t → BlockText s (t ++ 0x0A ∷ [])
+pub with-dash-the-last-feed-goes : {s t : List ℕ} → BlockText (0x2D ∷ s) t → BlockText s (t ++ 0x0A ∷ [])
 unfolding text
-dash-drops-last-feed (means (header there p) b) = means (header (undashed p) p) b
-dash-drops-last-feed (means (header (Dash.other h) p) b) = absurd (h refl)
+with-dash-the-last-feed-goes (means (header there p) b) = means (header (undashed p) p) b
+with-dash-the-last-feed-goes (means (header (Dash.other h) p) b) = absurd (h refl)
 
-pub plain-ends-in-feed : {s u : List ℕ} → Dash s false s → BlockText s u → (t : List ℕ) × (u ≡ t ++ 0x0A ∷ []) × BlockText (0x2D ∷ s) t
+pub without-dash-a-last-feed-stays : {s u : List ℕ} → Dash s false s → BlockText s u → (t : List ℕ) × (u ≡ t ++ 0x0A ∷ []) × BlockText (0x2D ∷ s) t
 unfolding text
-plain-ends-in-feed d (means {lines = ls} (header Dash.end p) b) = (joined ls, refl, means (header there p) b)
-plain-ends-in-feed d (means {lines = ls} (header (Dash.other h) p) b) = (joined ls, refl, means (header there p) b)
-plain-ends-in-feed d (means (header there p) b) = absurd (true≢false (dash-once there d .0))
+without-dash-a-last-feed-stays d (means {lines = ls} (header Dash.end p) b) = (joined ls, refl, means (header there p) b)
+without-dash-a-last-feed-stays d (means {lines = ls} (header (Dash.other h) p) b) = (joined ls, refl, means (header there p) b)
+without-dash-a-last-feed-stays d (means (header there p) b) = absurd (true≢false (dash-once there d .0))
 
 -- Every line of a good block is in its text, in order, the last one included: split at its LFs, the text is the lines again, and
 -- without `-` an empty piece after the last LF.
@@ -179,15 +197,15 @@ pieces-ended (one {ls = ls} p d) = next (run-before (ended ls) p) (pieces-ended 
 bare-of : {s r : List ℕ} {ls : List (List ℕ)} → Body s (good ls) r → Bare ls
 bare-of (indented i l (another o p closed)) = lines-bare l
 
-pub dashed-text-is-its-lines : {s r : List ℕ} {ls : List (List ℕ)} → Body s (good ls) r → Pieces (text true ls) ls
+pub with-dash-every-line-is-there : {s r : List ℕ} {ls : List (List ℕ)} → Body s (good ls) r → Pieces (text true ls) ls
 unfolding text
-dashed-text-is-its-lines {ls = ls} b =
+with-dash-every-line-is-there {ls = ls} b =
     let g = good-lines b in
     subst (λ (x : List (List ℕ)). Pieces (joined x) x) (sym (g .2)) (pieces-joined (g .0) (g .1) (subst Bare (g .2) (bare-of b)))
 
-pub plain-text-is-its-lines : {s r : List ℕ} {ls : List (List ℕ)} → Body s (good ls) r → Pieces (text false ls) (ls ++ [] ∷ [])
+pub without-dash-every-line-is-there : {s r : List ℕ} {ls : List (List ℕ)} → Body s (good ls) r → Pieces (text false ls) (ls ++ [] ∷ [])
 unfolding text
-plain-text-is-its-lines {ls = ls} b =
+without-dash-every-line-is-there {ls = ls} b =
     let g = good-lines b in
     let e : ended ls ≡ joined ls ++ 0x0A ∷ [] = subst (λ (x : List (List ℕ)). ended x ≡ joined x ++ 0x0A ∷ []) (sym (g .2)) (sym (joined-ended (g .0) (g .1))) in
     subst (λ (x : List ℕ). Pieces x (ls ++ [] ∷ [])) e (pieces-ended (bare-of b))

@@ -5,4 +5,6 @@ pub mod Readings
 pub mod Once
 pub mod Laws
 pub mod Always
+pub mod Marked
 pub mod Whole
+pub mod Utf8

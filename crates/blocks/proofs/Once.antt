@@ -4,11 +4,11 @@ use mathlib.Core.Path.{_≡_, refl, sym, _∙_, ap, subst}
 use mathlib.Core.Bool.{Bool}
 use mathlib.Core.List.{List, [], _∷_, _++_, nil≢cons, cons≢nil, head-eq-of-cons-eq, tail-eq-of-cons-eq, append-cancel-left}
 use mathlib.Core.Logic.{⊎-elim}
-use Prim.Native.Nat.{ℕ, _+_, _≤_}
+use Prim.Native.Nat.{ℕ, _≤_}
 use native.Mathlib.Omega.{arith}
-use lib.ListN.{length, length-append}
-use Rattle.blocks.specs.Blocks.{Run, HeaderBlank, Blank, InLine, Dash, there, Header, header, Indent, first, Lines, empty, content, Other, Found, good, Closing, closed, blank, failing, Last, another, cut, Body, no-indent, indented, Stands, no-line, no-new-line, after-header}
-use Rattle.blocks.proofs.Runs.{run-split, run-once, run-head, run-length, sought-once, sought-length}
+use lib.ListN.{length}
+use Rattle.blocks.specs.Blocks.{Run, HeaderBlank, Blank, InLine, Dash, there, Header, header, Indent, first, Lines, empty, content, Found, Closing, closed, blank, failing, Last, another, cut, Body, no-indent, indented, Stands, no-line, no-new-line, after-header}
+use Rattle.blocks.proofs.Runs.{run-once, run-head, run-length, sought-once, sought-length}
 use Rattle.blocks.proofs.Texts.{lines-length}
 
 pub dash-once : {s r r′ : List ℕ} {d d′ : Bool} → Dash s d r → Dash s d′ r′ → (d ≡ d′) × (r ≡ r′)

@@ -1,21 +1,18 @@
 -- Facts of places in a source, for the functions that look at single bytes: tests, `-`, `|||`, the indent, and copying.
 -- Assumes nothing.
-use mathlib.Core.Path.{_≡_, refl, sym, _∙_, ap, subst}
+use mathlib.Core.Path.{_≡_, refl, sym, _∙_, ap}
 use mathlib.Core.Bool.{Bool, true, false, true≢false}
 use mathlib.Core.List.{List, [], _∷_, _++_}
-use Prim.Native.Nat.{ℕ, zero, suc, _+_, _-_, _≤_, _<_}
+use Prim.Native.Nat.{ℕ, _+_, _-_, _≤_, _<_}
 use native.Mathlib.Omega.{arith}
 use native.Mathlib.Numerals.{add-one}
-use native.Mathlib.Nat.{add-zero}
-use lib.Dec.{ltb}
 use lib.ListN.{length, getD, set, take, drop, length-append, length-drop, take-append-drop, drop-of-length-le, List·getD-append}
 use lib.Seq.{sets, slice, length-sets, slice-empty, take-suc, drop-append-le, length-slice, length-take-le, getD-take, getD-drop, drop-drop, ext-getD}
-use borrow.Author.Count.{below-more}
 use borrow.Author.Tests.{lt-ltb, le-ltb}
 use Rattle.strings.proofs.Stores.{sets-append}
 use Rattle.blocks.specs.Blocks.{Dash, there, NoBars}
 use Rattle.blocks.specs.Inside.{Says, holds, fails, Dashed, BarsAt, bars, none, StartsAt, starts, differs}
-use Rattle.blocks.proofs.Runs.{drop-next}
+use Rattle.strings.proofs.Stores.{drop-next}
 
 -- What a test's answer tells.
 pub said : {P : Type 0} {b : Bool} → Says P b → b ≡ true → P

@@ -2,18 +2,18 @@
 -- Assumes nothing.
 use mathlib.Core.Path.{_≡_, refl, sym, _∙_, ap, subst, subst₂}
 use mathlib.Core.Bool.{Bool, true, false}
-use mathlib.Core.List.{List, [], _∷_, _++_, append-assoc, append-nil, append-cancel-right}
+use mathlib.Core.List.{List, [], _∷_, _++_, append-assoc, append-cancel-right}
 use Prim.Native.Nat.{ℕ, suc, _+_, _-_, _≤_, _<_}
 use native.Mathlib.Omega.{arith}
-use native.Mathlib.Numerals.{add-one}
 use lib.ListN.{length, getD, take, drop, length-append, length-drop, take-append-drop, drop-of-length-le}
-use lib.Seq.{sets, slice, slice-cons, slice-empty, length-slice, length-sets, length-take-le, take-suc, take-at, drop-append-le}
+use lib.Seq.{sets, slice, slice-cons, length-slice, length-sets, length-take-le, take-suc, take-at, drop-append-le}
 use Rattle.strings.proofs.Stores.{sets-append}
 use Rattle.blocks.specs.declared.Block.{Block}
 use Rattle.blocks.specs.declared.Block.the-variants.{Good}
 use Rattle.blocks.specs.Blocks.{Run, LineFeed, Blank, InLine, Indent, first, Lines, Other, NoBars, Sought, Found, good, unexpected-end, missing-termination, Closing, closed, blank, failing, Last, another, cut, Body, indented, joined, text}
-use Rattle.blocks.specs.Inside.{Spans, SoughtTo, lastEnd, ClosedAt, BodyAt, a-good, an-unexpected-end, a-missing-termination}
-use Rattle.blocks.proofs.Runs.{drop-next, run-stops, line-feed}
+use Rattle.blocks.specs.Inside.{Spans, lastEnd, ClosedAt, BodyAt, a-good, a-missing-termination}
+use Rattle.strings.proofs.Stores.{drop-next}
+use Rattle.blocks.proofs.Runs.{run-stops, line-feed}
 use Rattle.blocks.proofs.Texts.{ended, empties, ended-append, joined-ended, joined-after, lines-join, empty-lines, ended-empties, paragraph, paragraph-ended, text-plain}
 
 -- Parts of a source.

@@ -1,16 +1,16 @@
 -- Runs of bytes, and the next `|||`: there is one of each, and how a loop that goes from place to place finds it.
 -- Assumes nothing.
 use mathlib.Core.Path.{_≡_, refl, sym, _∙_, ap, subst}
-use mathlib.Core.List.{List, [], _∷_, _++_, head-eq-of-cons-eq, tail-eq-of-cons-eq}
+use mathlib.Core.List.{List, [], _∷_, _++_}
 use Prim.Native.Nat.{ℕ, zero, suc, _+_, _≤_, _<_}
 use native.Mathlib.Omega.{arith}
-use native.Mathlib.Numerals.{add-one}
 use native.Mathlib.Decide.{ℕ-discrete}
 use borrow.Author.Count.{below-more}
 use lib.ListN.{length, getD, take, drop, length-append, drop-of-length-le}
-use lib.Seq.{slice, drop-cons}
+use lib.Seq.{slice}
+use Rattle.strings.proofs.Stores.{drop-next}
 use Rattle.blocks.specs.Blocks.{Run, end, stop, more, InLine, NoBars, Sought, here, on}
-use Rattle.blocks.specs.Inside.{Spans, SoughtTo, BarsAt, bars, none}
+use Rattle.blocks.specs.Inside.{Spans, SoughtTo}
 
 -- a byte that is not other than b is b
 pub stable : (a b : ℕ) → ((a ≡ b → ⊥) → ⊥) → a ≡ b
@@ -19,9 +19,6 @@ stable a b h = by (ℕ-discrete a b)
     by : Dec (a ≡ b) → a ≡ b
     by (yes e) = e
     by (no g) = absurd (h g)
-
-pub drop-next : (s : List ℕ) (i : ℕ) → i < length s → drop i s ≡ getD s i 0 ∷ drop (i + 1) s
-drop-next s i h = drop-cons s i 0 h ∙ ap (λ (k : ℕ). getD s i 0 ∷ drop k s) (sym (add-one i))
 
 module _ {P : ℕ → Type 0} where
   pub run-split : {s l r : List ℕ} → Run P s l r → s ≡ l ++ r

@@ -1,14 +1,13 @@
 -- Lines and the text that they make: how a walk puts it together, and that the text has every line.
 -- Assumes nothing.
-use mathlib.Core.Path.{_≡_, refl, sym, _∙_, ap, subst}
-use mathlib.Core.Bool.{Bool, true, false}
-use mathlib.Core.List.{List, [], _∷_, _++_, append-assoc, append-nil, append-cancel-right}
-use Prim.Native.Nat.{ℕ, _+_, _≤_, _<_}
+use mathlib.Core.Path.{_≡_, refl, sym, _∙_, ap}
+use mathlib.Core.Bool.{false}
+use mathlib.Core.List.{List, [], _∷_, _++_, append-assoc}
+use Prim.Native.Nat.{ℕ, _+_, _≤_}
 use native.Mathlib.Omega.{arith}
-use native.Mathlib.Decide.{ℕ-discrete}
 use lib.ListN.{length, length-append}
 use Rattle.blocks.specs.Blocks.{Run, stop, more, LineFeed, InLine, Lines, none, empty, content, joined, text}
-use Rattle.blocks.proofs.Runs.{run-split, run-length}
+use Rattle.blocks.proofs.Runs.{run-length}
 
 -- lines, each with its LF
 abbrev pub ended : List (List ℕ) → List ℕ
@@ -69,16 +68,9 @@ paragraph e q d = content e q (empty-lines d)
 pub paragraph-ended : (l : List ℕ) {u es r : List ℕ} → Run LineFeed u es r → ended (l ∷ empties es) ≡ l ++ 0x0A ∷ es
 paragraph-ended l d = ap (λ (t : List ℕ). l ++ 0x0A ∷ t) (ended-empties d)
 
--- The text without `-` is every line with its LF; with `-` the last LF goes.
+-- The text without `-` is every line with its LF.
 pub text-plain : (ls : List (List ℕ)) (m : List ℕ) (ms : List (List ℕ)) → text false (ls ++ m ∷ ms) ≡ ended (ls ++ m ∷ ms)
 unfolding text
 text-plain ls m ms =
     ap (λ (t : List ℕ). t ++ 0x0A ∷ []) (joined-after ls m ms) ∙ append-assoc (ended ls) (joined (m ∷ ms)) (0x0A ∷ [])
     ∙ ap (λ (t : List ℕ). ended ls ++ t) (joined-ended m ms) ∙ sym (ended-append ls (m ∷ ms))
-
-pub text-dashed :
-    (ls : List (List ℕ)) (m : List ℕ) (ms : List (List ℕ)) (t : List ℕ) → ended (m ∷ ms) ≡ t ++ 0x0A ∷ [] → text true (ls ++ m ∷ ms) ≡ ended ls ++ t
-unfolding text
-text-dashed ls m ms t e =
-    joined-after ls m ms
-    ∙ ap (λ (x : List ℕ). ended ls ++ x) (append-cancel-right (joined (m ∷ ms)) t (0x0A ∷ []) (joined-ended m ms ∙ e))

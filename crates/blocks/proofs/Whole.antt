@@ -12,9 +12,9 @@ use Rattle.strings.specs.declared.Decoded.the-variants.{Text}
 use Rattle.strings.specs.Decoding.{Decoding}
 use Rattle.blocks.specs.declared.Block.{Block}
 use Rattle.blocks.specs.declared.Block.the-variants.{Good, UnexpectedEnd, MissingNewLine, MissingTermination, MissingIndent}
-use Rattle.blocks.specs.Blocks.{Run, unexpected-end, LineFeed, HeaderBlank, Blank, Dash, Header, header, Indent, first, Body, no-indent, Stands, no-line, no-new-line, after-header, BlockText, means, ends, BlockAt, a-good, an-unexpected-end, a-missing-new-line, a-missing-indent, a-missing-termination}
+use Rattle.blocks.specs.Blocks.{Run, unexpected-end, LineFeed, HeaderBlank, Blank, Dash, Header, header, Indent, first, no-indent, Stands, no-line, no-new-line, after-header, BlockText, means, ends, BlockAt, a-good, an-unexpected-end, a-missing-new-line, a-missing-indent, a-missing-termination}
 use Rattle.blocks.specs.Inside.{Spans, Dashed, SoughtTo, BodyAt, Walked, a-text, no-text}
-use Rattle.blocks.proofs.Runs.{drop-next}
+use Rattle.strings.proofs.Stores.{drop-next}
 use Rattle.blocks.proofs.Laws.{text-is-good, good-decodes}
 
 abbrev isGood : Block → Bool

@@ -1,5 +1,5 @@
 -- What a text block is, what its faults are and what it means: document 01, "Lexemes", the paragraph "Blocks".
--- A list of bytes begins after the opening `|||`; the list that a relation ends in is what follows.
+-- A relation's first list is the bytes that are read, from behind the opening `|||` on; its last list is what follows what was read.
 -- Assumes nothing.
 use mathlib.Core.Path.{_≡_}
 use mathlib.Core.Bool.{Bool, true, false}
@@ -25,7 +25,7 @@ Blank b = (b ≡ 0x20) ⊎ (b ≡ 0x09)
 abbrev pub InLine : ℕ → Type 0
 InLine b = b ≡ 0x0A → ⊥
 
--- The bytes begin with a run of such as are P: all that there are, up to the end or to the first that is none.
+-- The bytes begin with a run of such as are P, the second list: all that there are, up to the end or to the first that is none.
 pub data Run (P : ℕ → Type 0) : List ℕ → List ℕ → List ℕ → Type 0 where
   end : Run P [] [] []
   stop : {b : ℕ} {s : List ℕ} → (P b → ⊥) → Run P (b ∷ s) [] (b ∷ s)
@@ -46,6 +46,7 @@ pub data Indent : List ℕ → List ℕ → List ℕ → Type 0 where
   first : {s empty line indent r : List ℕ} → Run LineFeed s empty line → Run Blank line indent r → Indent s line indent
 
 -- Lines, one after another: "Lines of LF alone are empty lines", "Each line starting with exactly that indent is content after it".
+-- `Last`, below, is what stands after them.
 pub data Lines (indent : List ℕ) : List ℕ → List (List ℕ) → List ℕ → Type 0 where
   none : {s : List ℕ} → Lines indent s [] s
   empty : {s r : List ℕ} {lines : List (List ℕ)} → Lines indent s lines r → Lines indent (0x0A ∷ s) ([] ∷ lines) r
@@ -53,7 +54,7 @@ pub data Lines (indent : List ℕ) : List ℕ → List (List ℕ) → List ℕ �
       {s t line u r : List ℕ} {lines : List (List ℕ)} → s ≡ indent ++ t → Run InLine t line (0x0A ∷ u) → Lines indent u lines r →
       Lines indent s (line ∷ lines) r
 
--- "Another line": neither empty nor content, nor content whose LF is missing.
+-- "Another line": neither empty nor one that starts with the indent.
 pub record Other (indent s : List ℕ) : Type 0 where
   pub not-empty : (r : List ℕ) → s ≡ 0x0A ∷ r → ⊥
   pub not-content : (r : List ℕ) → s ≡ indent ++ r → ⊥
@@ -101,7 +102,7 @@ pub data Body : List ℕ → Found → List ℕ → Type 0 where
 
 -- What stands after `|||`, and what follows the lexeme.
 pub data Stands : List ℕ → Found → List ℕ → Type 0 where
-  -- "the end unexpected-end"
+  -- "the end unexpected-end", which "takes all to the end"
   no-line : {s : List ℕ} {dash : Bool} → Header s dash [] → Stands s unexpected-end []
   -- "another character there is missing-new-line", sought "past the character that stood for the LF": past its first byte, which
   -- is the same, since no later byte of a character is `|`

@@ -3,11 +3,11 @@
 use mathlib.Core.Path.{_≡_}
 use mathlib.Core.Bool.{Bool, true, false}
 use mathlib.Core.List.{List, [], _∷_, _++_}
-use Prim.Native.Nat.{ℕ, _+_, _-_, _≤_, _<_}
+use Prim.Native.Nat.{ℕ, _+_, _-_, _≤_}
 use lib.Dec.{ltb}
 use lib.ListN.{length, drop}
 use lib.Seq.{sets, slice}
-use Rattle.blocks.specs.Blocks.{Run, LineFeed, Blank, Dash, NoBars, Sought, Found, good, unexpected-end, missing-termination, Body, text, BlockText, BlockAt}
+use Rattle.blocks.specs.Blocks.{Run, Dash, NoBars, Sought, good, unexpected-end, missing-termination, Body, text, BlockText, BlockAt}
 use Rattle.blocks.specs.declared.Block.{Block}
 use Rattle.blocks.specs.declared.Block.the-variants.{Good, UnexpectedEnd, MissingTermination}
 

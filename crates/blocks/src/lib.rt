@@ -303,6 +303,7 @@ fn lex_str_block(source: &[u8], at: usize, out: &mut [u8]) -> Walk
 pub fn block_at(source: &[u8], at: usize) -> Block
     ensures { λ r. ⌜ BlockAt (now (source .entry)) at r ⌝ }
 {
+    // No text is wanted here; one byte is the least to lend.
     let mut nowhere = [0u8; 1];
     let walk = lex_str_block(source, at, &mut nowhere);
     walk.block

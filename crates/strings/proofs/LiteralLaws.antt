@@ -1,12 +1,10 @@
 -- What is true of every literal's inside: it has at most one text, which is no longer than the inside, and UTF-8 if that is.
 -- Assumes nothing.
 use mathlib.Core.Path.{_≡_, refl, sym}
-use mathlib.Core.Bool.{Bool, true, false}
 use mathlib.Core.List.{List, [], _∷_, _++_}
 use Prim.Native.Nat.{ℕ, _≤_, _<_}
 use native.Mathlib.Omega.{arith}
-use borrow.Author.Tests.{eqb-true, eqb-false}
-use lib.Dec.{eqb}
+use native.Mathlib.Decide.{ℕ-discrete}
 use lib.ListN.{length, length-append}
 use lib.Seq.{append-snoc}
 use Rattle.strings.specs.Utf8.{In, utf8, Utf8, more, row-00-7F}
@@ -52,22 +50,15 @@ verbatim-short (literals.Verbatim.plain h x) = omega (arith, verbatim-short x)
 verbatim-short (literals.Verbatim.doubled x) = omega (arith, verbatim-short x)
 verbatim-short (literals.Verbatim.alone h x) = omega (arith, verbatim-short x)
 
-eq-or-not : (a b : ℕ) → Dec (a ≡ b)
-eq-or-not a b = by (eqb a b) refl
-  where
-    by : (t : Bool) → eqb a b ≡ t → Dec (a ≡ b)
-    by true e = yes (eqb-true a b e)
-    by false e = no (eqb-false a b e)
-
 -- Every inside of a verbatim literal has a text: `verbatim` never refuses.
 pub verbatim-always : (q : ℕ) (s : List ℕ) → (t : List ℕ) × Verbatim q s t
 verbatim-always q [] = ([], literals.Verbatim.end)
-verbatim-always q (b ∷ []) = last (eq-or-not b q)
+verbatim-always q (b ∷ []) = last (ℕ-discrete b q)
   where
     last : Dec (b ≡ q) → (t : List ℕ) × Verbatim q (b ∷ []) t
     last (yes e) = (q ∷ [], rw e (literals.Verbatim.alone (λ x. x) literals.Verbatim.end))
     last (no h) = (b ∷ [], literals.Verbatim.plain h literals.Verbatim.end)
-verbatim-always q (b ∷ d ∷ s) = by (eq-or-not b q) (eq-or-not d q) (verbatim-always q s) (verbatim-always q (d ∷ s))
+verbatim-always q (b ∷ d ∷ s) = by (ℕ-discrete b q) (ℕ-discrete d q) (verbatim-always q s) (verbatim-always q (d ∷ s))
   where
     by : Dec (b ≡ q) → Dec (d ≡ q) → (t : List ℕ) × Verbatim q s t → (t : List ℕ) × Verbatim q (d ∷ s) t → (t : List ℕ) × Verbatim q (b ∷ d ∷ s) t
     by (no h) x rest after = (b ∷ after .0, literals.Verbatim.plain h (after .1))

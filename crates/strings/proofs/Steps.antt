@@ -4,11 +4,10 @@ use mathlib.Core.Path.{_≡_, refl, sym, _∙_, ap}
 use mathlib.Core.List.{List, [], _∷_, _++_}
 use Prim.Native.Nat.{ℕ, _+_, _-_, _*_, _≤_, _<_}
 use native.Mathlib.Omega.{arith}
-use native.Mathlib.Numerals.{add-one}
 use native.Mathlib.Decide.{decLt}
 use mathlib.Core.Logic.{inl, inr}
 use lib.ListN.{length, getD, set, drop, length-drop, drop-of-length-le}
-use lib.Seq.{sets, drop-cons}
+use lib.Seq.{sets}
 use Rattle.strings.specs.Utf8.{utf8, Scalar}
 use Rattle.strings.specs.Literals.{Escape, letter, unit, pair, two, Quoted, plain, escape, Verbatim, Begins, doubled, alone}
 use Rattle.strings.specs.Literals as literals
@@ -16,11 +15,8 @@ use Rattle.strings.specs.Inner.{EscapeAt, code, broken}
 use Rattle.strings.specs.declared.string.Escaped.the-variants.{Code, Broken}
 use Rattle.strings.proofs.Utf8Laws.{utf8-size}
 use Rattle.strings.proofs.Escapes.{hex-small, four-small, four-long, low-long, low-bytes, letter-low, escape-once}
+use Rattle.strings.proofs.Stores.{drop-next}
 use Rattle.strings.proofs.Walk.{Walked, step}
-
--- the list from a place on, by its first element
-pub from : (s : List ℕ) (i : ℕ) → i < length s → drop i s ≡ getD s i 0 ∷ drop (i + 1) s
-from s i h = rw add-one (drop-cons s i 0 h)
 
 -- ---- quoted
 
@@ -73,8 +69,8 @@ module _ {s out₀ out : List ℕ} {i n : ℕ} (w : Walked Quoted s out₀ i n o
   pub quoted-plain : (out₁ : List ℕ) → (getD s i 0 ≡ 0x5C → ⊥) → out₁ ≡ set out n (getD s i 0) → Walked Quoted s out₀ (i + 1) (n + 1) out₁
   quoted-plain out₁ g e =
       step Quoted s out₀ w (getD s i 0 ∷ []) (i + 1) (n + 1) out₁ (omega arith) (omega arith) (omega arith) refl e
-      (λ t q. rw (from s i h) (literals.Quoted.plain g q))
-      (λ t q. quoted-after g (rw (from s i h) at q))
+      (λ t q. rw (drop-next s i h) (literals.Quoted.plain g q))
+      (λ t q. quoted-after g (rw (drop-next s i h) at q))
 
   pub quoted-escape :
       (out₁ : List ℕ) (c j m : ℕ) → getD s i 0 ≡ 0x5C → EscapeAt s (i + 1) (Code c j) → out₁ ≡ sets out n (utf8 c) → m ≡ n + length (utf8 c) →
@@ -82,13 +78,13 @@ module _ {s out₀ out : List ℕ} {i n : ℕ} (w : Walked Quoted s out₀ i n o
   quoted-escape out₁ c j m g e p q =
       let k = coded e in
       step Quoted s out₀ w (utf8 c) j m out₁ (omega (arith, k .on)) (k .within) (omega (arith, k .short)) q p
-      (λ t x. rw (from s i h, g) (literals.Quoted.escape (k .escape) x))
+      (λ t x. rw (drop-next s i h, g) (literals.Quoted.escape (k .escape) x))
       (λ t x.
-      let y = quoted-escaped (rw (from s i h, g) at x) in
+      let y = quoted-escaped (rw (drop-next s i h, g) at x) in
       (y .2, rw (escape-once (y .3) (k .escape) .1) at (y .4)))
 
   pub quoted-broken : getD s i 0 ≡ 0x5C → EscapeAt s (i + 1) Broken → (t : List ℕ) → Quoted (drop i s) t → ⊥
-  quoted-broken g (broken b) t x = let y = quoted-escaped (rw (from s i h, g) at x) in b (y .0) (y .1) (y .3)
+  quoted-broken g (broken b) t x = let y = quoted-escaped (rw (drop-next s i h, g) at x) in b (y .0) (y .1) (y .3)
 
 -- ---- verbatim
 
@@ -111,21 +107,21 @@ begins-in : (s : List ℕ) (q i : ℕ) → Begins q (drop i s) → (i < length s
 begins-in s q i b = by (decLt i (length s))
   where
     by : Dec (i < length s) → (i < length s) × (getD s i 0 ≡ q)
-    by (yes h) = (h, rw (from s i h) at b)
+    by (yes h) = (h, rw (drop-next s i h) at b)
     by (no h) = absurd (rw (drop-of-length-le s {i = i} (omega arith)) at b)
 
 module _ {q : ℕ} {s out₀ out : List ℕ} {i n : ℕ} (w : Walked (Verbatim q) s out₀ i n out) (h : i < length s) (out₁ : List ℕ) (e : out₁ ≡ set out n (getD s i 0)) where
   pub verbatim-plain : (getD s i 0 ≡ q → ⊥) → Walked (Verbatim q) s out₀ (i + 1) (n + 1) out₁
   verbatim-plain g =
       step (Verbatim q) s out₀ w (getD s i 0 ∷ []) (i + 1) (n + 1) out₁ (omega arith) (omega arith) (omega arith) refl e
-      (λ t x. rw (from s i h) (literals.Verbatim.plain g x))
-      (λ t x. verbatim-after g (rw (from s i h) at x))
+      (λ t x. rw (drop-next s i h) (literals.Verbatim.plain g x))
+      (λ t x. verbatim-after g (rw (drop-next s i h) at x))
 
   pub verbatim-two : getD s i 0 ≡ q → Begins q (drop (i + 1) s) → Walked (Verbatim q) s out₀ (i + 2) (n + 1) out₁
   verbatim-two g b =
       let next = begins-in s q (i + 1) b in
       let k : i + 1 + 1 ≡ i + 2 = omega arith in
-      let both : drop i s ≡ q ∷ q ∷ drop (i + 2) s = from s i h ∙ rw (g, from s (i + 1) (next .0), next .1, k) in
+      let both : drop i s ≡ q ∷ q ∷ drop (i + 2) s = drop-next s i h ∙ rw (g, drop-next s (i + 1) (next .0), next .1, k) in
       step (Verbatim q) s out₀ w (getD s i 0 ∷ []) (i + 2) (n + 1) out₁ (omega arith) (omega (arith, next .0)) (omega arith) refl e
       (λ t x. rw (both, g) (literals.Verbatim.doubled x))
       (λ t x. verbatim-doubled (rw both at x))
@@ -133,5 +129,5 @@ module _ {q : ℕ} {s out₀ out : List ℕ} {i n : ℕ} (w : Walked (Verbatim q
   pub verbatim-one : getD s i 0 ≡ q → (Begins q (drop (i + 1) s) → ⊥) → Walked (Verbatim q) s out₀ (i + 1) (n + 1) out₁
   verbatim-one g b =
       step (Verbatim q) s out₀ w (getD s i 0 ∷ []) (i + 1) (n + 1) out₁ (omega arith) (omega arith) (omega arith) refl e
-      (λ t x. rw (from s i h, g) (literals.Verbatim.alone b x))
-      (λ t x. verbatim-alone b (rw (from s i h, g) at x))
+      (λ t x. rw (drop-next s i h, g) (literals.Verbatim.alone b x))
+      (λ t x. verbatim-alone b (rw (drop-next s i h, g) at x))

@@ -1,12 +1,16 @@
--- Stores into an output: runs of them, and what clearing leaves.
+-- What lib.Seq lacks of lists: the rest of a list by its first element, runs of stores into an output, and what clearing leaves.
 -- Assumes nothing.
 use mathlib.Core.Path.{_≡_, sym, _∙_, ap}
 use mathlib.Core.List.{List, [], _∷_, _++_, append-assoc, append-nil}
 use Prim.Native.Nat.{ℕ, suc, _+_, _<_}
 use native.Mathlib.Omega.{arith}
 use native.Mathlib.Numerals.{add-one}
-use lib.ListN.{length, set, drop, replicate, length-replicate, drop-of-length-le, replicate-append-replicate}
+use lib.ListN.{length, getD, set, drop, replicate, length-replicate, drop-of-length-le, replicate-append-replicate}
 use lib.Seq.{sets, drop-cons, set-at}
+
+-- The list from a place on, by its first element.
+pub drop-next : (s : List ℕ) (i : ℕ) → i < length s → drop i s ≡ getD s i 0 ∷ drop (i + 1) s
+drop-next s i h = rw add-one (drop-cons s i 0 h)
 
 -- A run of stores, and then another from where it ended, is one run.
 pub sets-append : (l : List ℕ) (n k : ℕ) (vs ws : List ℕ) → k ≡ n + length vs → sets (sets l n vs) k ws ≡ sets l n (vs ++ ws)

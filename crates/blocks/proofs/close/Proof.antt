@@ -1,13 +1,9 @@
 -- `blocks::close` meets its contract.
 -- Assumes nothing.
-use mathlib.Core.Path.{_≡_, sym, _∙_, subst₂}
-use mathlib.Core.Bool.{Bool}
-use mathlib.Core.List.{List}
-use Prim.Native.Nat.{ℕ}
 use native.Mathlib.Omega.{arith}
 use borrow.Author.Needs.{needs}
 use borrow.Author.Tests.{not-true, not-false}
-use Rattle.blocks.specs.Inside.{closed, failing}
+use Rattle.blocks.specs.Inside.{failing}
 use Rattle.blocks.proofs.Places.{are-bars, no-bars}
 use Rattle.blocks.proofs.Readings.{closed-by}
 use Rattle.blocks.proofs.close.Statement.{statement}
@@ -32,36 +28,38 @@ copy-requires c κs = search needs
 
 add-t14 : tie.Need-add-t14
 add-t14 c =
-    let bars = c .before .before .before .before .before .before .bars-at in
-    omega (arith, are-bars (bars .ensures) (not-false (bars .result) (c .before .before .before .before .before .if1 .left)) .0)
+    let found = c .before .before .before .before .before in
+    let bars = found .before .bars-at in
+    omega (arith, are-bars (bars .ensures) (not-false (bars .result) (found .if1 .left)) .0)
 
 same-length : tie.Need-same-length
 same-length c = search needs
 
 returns-2 : tie.Need-returns-2
 returns-2 c =
-    let bars = c .before .before .before .before .before .before .bars-at in
-    let copy = c .before .before .copy in
-    closed-by (are-bars (bars .ensures) (not-false (bars .result) (c .before .before .before .before .before .if1 .left)))
-    (c .before .before .before .before .if2 .taken) (copy .ensures .1) (copy .ensures .0)
+    let tested = c .before .before .before .before in
+    let bars = tested .before .before .bars-at in
+    let copied = c .before .before .copy .ensures in
+    closed-by (are-bars (bars .ensures) (not-false (bars .result) (tested .before .if1 .left))) (tested .if2 .taken) (copied .1) (copied .0)
 
 copy-requires-2 : tie.Need-copy-requires-2
 copy-requires-2 c κs = search needs
 
 add-t20 : tie.Need-add-t20
 add-t20 c =
-    let bars = c .before .before .before .before .before .before .bars-at in
-    omega (arith, are-bars (bars .ensures) (not-false (bars .result) (c .before .before .before .before .before .if1 .left)) .0)
+    let found = c .before .before .before .before .before in
+    let bars = found .before .bars-at in
+    omega (arith, are-bars (bars .ensures) (not-false (bars .result) (found .if1 .left)) .0)
 
 same-length-2 : tie.Need-same-length-2
 same-length-2 c = search needs
 
 returns-3 : tie.Need-returns-3
 returns-3 c =
-    let bars = c .before .before .before .before .before .before .bars-at in
-    let copy = c .before .before .copy2 in
-    closed-by (are-bars (bars .ensures) (not-false (bars .result) (c .before .before .before .before .before .if1 .left)))
-    (c .before .before .before .before .if2 .left) (copy .ensures .1) (copy .ensures .0)
+    let tested = c .before .before .before .before in
+    let bars = tested .before .before .bars-at in
+    let copied = c .before .before .copy2 .ensures in
+    closed-by (are-bars (bars .ensures) (not-false (bars .result) (tested .before .if1 .left))) (tested .if2 .left) (copied .1) (copied .0)
 
 pub close-spec : {M : Type 1} → statement M
 close-spec =

@@ -3,9 +3,7 @@
 use mathlib.Core.Path.{_≡_, _∙_, ap}
 use Prim.Native.Nat.{ℕ, _+_, _-_, _≤_}
 use native.Mathlib.Omega.{arith}
-use lib.ListN.{length}
 use lib.Seq.{sets, slice}
-use borrow.Author.Needs.{needs}
 use Rattle.blocks.proofs.Places.{Copied, copied-none, copied-more, copied-length}
 use Rattle.blocks.proofs.copy.Statement.{statement}
 use Rattle.blocks.proofs.copy.Tie as tie

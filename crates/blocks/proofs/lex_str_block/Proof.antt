@@ -1,6 +1,5 @@
 -- `blocks::lex_str_block` meets its contract.
 -- Assumes nothing.
-use Prim.Native.Nat.{_<_}
 use native.Mathlib.Omega.{arith}
 use borrow.Author.Needs.{needs}
 use Rattle.blocks.proofs.Whole.{walked-past, walked-no-line, walked-no-new-line, walked-no-indent, walked-body}
@@ -30,8 +29,10 @@ eat-error-requires c κs = omega (arith, c .before .before .before .skip-header-
 
 returns-3 : tie.Need-returns-3
 returns-3 c =
-    let blanks = c .before .before .before .before .skip-header-blanks .ensures in
-    walked-no-new-line (c .before .before .before .before .before .skip-dash .ensures) blanks (omega (arith, blanks .within, c .before .before .before .if2 .left)) (c .before .if3 .taken) (c .eat-error .ensures)
+    let tested = c .before .before .before in
+    let blanks = tested .before .skip-header-blanks .ensures in
+    walked-no-new-line (tested .before .before .skip-dash .ensures) blanks (omega (arith, blanks .within, tested .if2 .left)) (c .before .if3 .taken)
+    (c .eat-error .ensures)
 
 add-body : tie.Need-add-body
 add-body c = omega (arith, c .before .before .before .skip-header-blanks .ensures .within)
@@ -47,8 +48,9 @@ eat-error-requires-2 c κs = c .before .before .skip-empty .ensures .within
 
 returns-4 : tie.Need-returns-4
 returns-4 c =
-    let blanks = c .before .before .before .before .before .before .before .skip-header-blanks .ensures in
-    walked-no-indent (c .before .before .before .before .before .before .before .before .skip-dash .ensures) blanks (omega (arith, blanks .within, c .before .before .before .before .before .before .if2 .left)) (c .before .before .before .before .if3 .left)
+    let tested = c .before .before .before .before .before .before in
+    let blanks = tested .before .skip-header-blanks .ensures in
+    walked-no-indent (tested .before .before .skip-dash .ensures) blanks (omega (arith, blanks .within, tested .if2 .left)) (c .before .before .before .before .if3 .left)
     (c .before .before .before .skip-empty .ensures) (c .before .before .skip-blanks .ensures) (c .before .if4 .taken) (c .eat-error2 .ensures)
 
 lines-requires : tie.Need-lines-requires
@@ -61,8 +63,9 @@ same-length c = search needs
 
 returns-5 : tie.Need-returns-5
 returns-5 c =
-    let blanks = c .before .before .before .before .before .before .before .before .before .before .skip-header-blanks .ensures in
-    walked-body (c .before .before .before .before .before .before .before .before .before .before .before .skip-dash .ensures) blanks (omega (arith, blanks .within, c .before .before .before .before .before .before .before .before .before .if2 .left)) (c .before .before .before .before .before .before .before .if3 .left) (c .before .before .lines .ensures)
+    let tested = c .before .before .before .before .before .before .before .before .before in
+    let blanks = tested .before .skip-header-blanks .ensures in
+    walked-body (tested .before .before .skip-dash .ensures) blanks (omega (arith, blanks .within, tested .if2 .left)) (c .before .before .before .before .before .before .before .if3 .left) (c .before .before .lines .ensures)
 
 pub lex-str-block-spec : {M : Type 1} → statement M
 lex-str-block-spec =
