@@ -8,3 +8,4 @@ pub mod LiteralLaws
 mod Escapes
 mod Walk
 mod Steps
+pub mod Always

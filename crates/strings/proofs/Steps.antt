@@ -20,11 +20,11 @@ use Rattle.strings.proofs.Walk.{Walked, step}
 
 -- ---- quoted
 
-quoted-after : {b : ℕ} {s t : List ℕ} → (b ≡ 0x5C → ⊥) → Quoted (b ∷ s) t → (u : List ℕ) × Quoted s u
+pub quoted-after : {b : ℕ} {s t : List ℕ} → (b ≡ 0x5C → ⊥) → Quoted (b ∷ s) t → (u : List ℕ) × Quoted s u
 quoted-after h (literals.Quoted.plain g q) = (_, q)
 quoted-after h (literals.Quoted.escape e q) = absurd (h refl)
 
-quoted-escaped : {s t : List ℕ} → Quoted (0x5C ∷ s) t → (c : ℕ) × (r : List ℕ) × (u : List ℕ) × Escape s c r × Quoted r u
+pub quoted-escaped : {s t : List ℕ} → Quoted (0x5C ∷ s) t → (c : ℕ) × (r : List ℕ) × (u : List ℕ) × Escape s c r × Quoted r u
 quoted-escaped (literals.Quoted.plain g q) = absurd (g refl)
 quoted-escaped (literals.Quoted.escape e q) = (_, _, _, e, q)
 
