@@ -1,0 +1,382 @@
+// All sources of up to three characters of an alphabet that touches every rule: how many there are, and a checksum of all their lexemes, as
+// the judge prints them (vectors/exhaustive.txt). They are counted through, the last character fastest. The sum is FNV-1a with 64 bits over
+// lines `KIND:START:END ...`, a line feed after each; the source with no lexeme is the line `-`.
+ghost use Prim.Native.Nat.{_+_, _≤_, _<_};
+use libc::STDOUT_FILENO;
+
+const SIZE: usize = 46;
+
+// The characters in UTF-8, four bytes for each, and how many of these it has.
+const BYTES: [u8; 184] = [
+    124,
+    0,
+    0,
+    0,
+    63,
+    0,
+    0,
+    0,
+    38,
+    0,
+    0,
+    0,
+    94,
+    0,
+    0,
+    0,
+    61,
+    0,
+    0,
+    0,
+    33,
+    0,
+    0,
+    0,
+    60,
+    0,
+    0,
+    0,
+    62,
+    0,
+    0,
+    0,
+    43,
+    0,
+    0,
+    0,
+    45,
+    0,
+    0,
+    0,
+    42,
+    0,
+    0,
+    0,
+    47,
+    0,
+    0,
+    0,
+    37,
+    0,
+    0,
+    0,
+    126,
+    0,
+    0,
+    0,
+    91,
+    0,
+    0,
+    0,
+    93,
+    0,
+    0,
+    0,
+    40,
+    0,
+    0,
+    0,
+    41,
+    0,
+    0,
+    0,
+    123,
+    0,
+    0,
+    0,
+    125,
+    0,
+    0,
+    0,
+    58,
+    0,
+    0,
+    0,
+    59,
+    0,
+    0,
+    0,
+    46,
+    0,
+    0,
+    0,
+    44,
+    0,
+    0,
+    0,
+    36,
+    0,
+    0,
+    0,
+    48,
+    0,
+    0,
+    0,
+    49,
+    0,
+    0,
+    0,
+    101,
+    0,
+    0,
+    0,
+    95,
+    0,
+    0,
+    0,
+    34,
+    0,
+    0,
+    0,
+    39,
+    0,
+    0,
+    0,
+    92,
+    0,
+    0,
+    0,
+    64,
+    0,
+    0,
+    0,
+    105,
+    0,
+    0,
+    0,
+    102,
+    0,
+    0,
+    0,
+    110,
+    0,
+    0,
+    0,
+    111,
+    0,
+    0,
+    0,
+    114,
+    0,
+    0,
+    0,
+    32,
+    0,
+    0,
+    0,
+    9,
+    0,
+    0,
+    0,
+    10,
+    0,
+    0,
+    0,
+    13,
+    0,
+    0,
+    0,
+    35,
+    0,
+    0,
+    0,
+    195,
+    169,
+    0,
+    0,
+    226,
+    128,
+    168,
+    0,
+    240,
+    159,
+    152,
+    128,
+];
+
+const WIDTH: [usize; 46] = [
+    1,
+    1,
+    1,
+    1,
+    1,
+    1,
+    1,
+    1,
+    1,
+    1,
+    1,
+    1,
+    1,
+    1,
+    1,
+    1,
+    1,
+    1,
+    1,
+    1,
+    1,
+    1,
+    1,
+    1,
+    1,
+    1,
+    1,
+    1,
+    1,
+    1,
+    1,
+    1,
+    1,
+    1,
+    1,
+    1,
+    1,
+    1,
+    1,
+    1,
+    1,
+    1,
+    1,
+    2,
+    3,
+    4,
+];
+
+fn byte_of(i: usize) -> u8 {
+    if i < 184 { BYTES[i] } else { 0 }
+}
+
+fn width_of(c: usize) -> usize
+    ensures { λ r. ⌜ r ≤ 4 ⌝ }
+{
+    if c < SIZE {
+        let w = WIDTH[c];
+        if w < 5 {
+            return w;
+        }
+    }
+    0
+}
+
+// h * (2^40 + 435), as far as 64 bits go.
+fn times_prime(h: u64) -> u64 {
+    let a = std::num::wrapping_add_u64(h << 40, h << 8);
+    let b = std::num::wrapping_add_u64(h << 7, h << 5);
+    let c = std::num::wrapping_add_u64(h << 4, h << 1);
+    let d = std::num::wrapping_add_u64(a, b);
+    std::num::wrapping_add_u64(std::num::wrapping_add_u64(c, d), h)
+}
+
+fn fed(h: u64, b: u8) -> u64 {
+    times_prime(h ^ (b as u64))
+}
+
+// A number below a hundred, in decimal.
+fn fed_number(h: u64, n: usize) -> u64 {
+    let m = n % 100;
+    if m < 10 {
+        return fed(h, 48 + m as u8);
+    }
+    fed(fed(h, 48 + (m / 10) as u8), 48 + (m % 10) as u8)
+}
+
+// The line of a source.
+fn fed_line(h: u64, source: &[u8]) -> u64 {
+    if source.len() == 0 {
+        return fed(fed(h, b'-'), b'\n');
+    }
+    let mut sum = h;
+    let mut at = 0;
+    while at < source.len() {
+        let l = lexemes::lexer::lexeme_at(source, at);
+        if at > 0 {
+            sum = fed(sum, b' ');
+        }
+        sum = fed(fed_number(sum, l.kind as usize), b':');
+        sum = fed(fed_number(sum, l.start), b':');
+        sum = fed_number(sum, l.end);
+        at = l.end;
+    }
+    fed(sum, b'\n')
+}
+
+// One character more behind the bytes so far.
+fn put_char(out: &mut [u8; 16], at: usize, c: usize) -> usize {
+    if at > 12 {
+        return at;
+    }
+    let first = c % SIZE * 4;
+    out[at] = byte_of(first);
+    out[at + 1] = byte_of(first + 1);
+    out[at + 2] = byte_of(first + 2);
+    out[at + 3] = byte_of(first + 3);
+    at + width_of(c)
+}
+
+fn fed_part(h: u64, bytes: [u8; 16], end: usize) -> u64 {
+    if end < 17 {
+        return fed_line(h, &bytes[..end]);
+    }
+    h
+}
+
+// The n-th source of a length.
+fn fed_source(h: u64, length: usize, n: usize) -> u64 {
+    let mut bytes = [0u8; 16];
+    let mut end = 0;
+    if length > 2 {
+        end = put_char(&mut bytes, end, n / SIZE / SIZE % SIZE);
+    }
+    if length > 1 {
+        end = put_char(&mut bytes, end, n / SIZE % SIZE);
+    }
+    if length > 0 {
+        end = put_char(&mut bytes, end, n % SIZE);
+    }
+    fed_part(h, bytes, end)
+}
+
+fn hex_digit(n: u64) -> u8
+    requires { ⌜ n < 16 ⌝ }
+{
+    if n < 10 {
+        return 48 + n as u8;
+    }
+    87 + n as u8
+}
+
+fn print_hex(n: u64) {
+    let mut i: u64 = 60;
+    loop {
+        io::write_all(STDOUT_FILENO, &[hex_digit((n >> i) % 16)]);
+        if i == 0 {
+            return;
+        }
+        i -= 4;
+    }
+}
+
+// How many sources there are of a length, and their sum.
+fn print_all(length: usize, count: usize) {
+    let mut sum: u64 = 0xCBF2_9CE4_8422_2325;
+    let mut n = 0;
+    while n < count {
+        sum = fed_source(sum, length, n);
+        n += 1;
+    }
+    io::write_all(STDOUT_FILENO, b"lexemes ");
+    io::print_decimal(STDOUT_FILENO, length as u64);
+    io::write_all(STDOUT_FILENO, b" ");
+    io::print_decimal(STDOUT_FILENO, count as u64);
+    io::write_all(STDOUT_FILENO, b" ");
+    print_hex(sum);
+    io::write_all(STDOUT_FILENO, b"\n");
+}
+
+fn main() {
+    print_all(0, 1);
+    print_all(1, 46);
+    print_all(2, 2116);
+    print_all(3, 97336);
+}

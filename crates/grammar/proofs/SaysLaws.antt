@@ -1,0 +1,30 @@
+-- A lexeme of a source says one thing only.
+-- Assumes nothing.
+use mathlib.Core.Path.{_≡_, refl, ap, ap₂}
+use mathlib.Core.List.{List, [], _∷_}
+use Prim.Native.Nat.{ℕ}
+use Rattle.strings.proofs.LiteralLaws.{quoted-once, verbatim-once}
+use Rattle.blocks.proofs.Laws.{text-once}
+use Rattle.lexemes.specs.declared.Lexeme.{Lexeme as Range}
+use Rattle.grammar.specs.Lexemes.{Said, Lexeme}
+use Rattle.grammar.specs.Says.{Means, Says, its-text, no-text, Told}
+
+pub means-once : {s : List ℕ} {k a e : ℕ} {w w′ : List ℕ} → Means s k a e w → Means s k a e w′ → w ≡ w′
+means-once Means.name Means.name = refl
+means-once Means.number Means.number = refl
+means-once (Means.double x) (Means.double y) = quoted-once x y
+means-once (Means.single x) (Means.single y) = quoted-once x y
+means-once (Means.double-verbatim x) (Means.double-verbatim y) = verbatim-once x y
+means-once (Means.single-verbatim x) (Means.single-verbatim y) = verbatim-once x y
+means-once (Means.block x) (Means.block y) = text-once x y
+
+pub says-once : {s : List ℕ} {k a e : ℕ} {w w′ : Said} → Says s k a e w → Says s k a e w′ → w ≡ w′
+says-once (its-text x) (its-text y) = ap Said.says (means-once x y)
+says-once (its-text {w = w} x) (no-text h) = absurd (h w x)
+says-once (no-text h) (its-text {w = w} x) = absurd (h w x)
+says-once (no-text h) (no-text h′) = refl
+
+pub told-once : {s : List ℕ} {xs : List Range} {ys zs : List Lexeme} → Told s xs ys → Told s xs zs → ys ≡ zs
+told-once Told.none Told.none = refl
+told-once (Told.more {k = k} {a = a} {e = e} x t) (Told.more y u) =
+    ap₂ (λ (w : Said) (r : List Lexeme). record { kind = k; start = a; stop = e; word = w } ∷ r) (says-once x y) (told-once t u)

@@ -1,0 +1,333 @@
+-- Facts of the whole grammar: what each phrase is like, and a checker that every one of its productions keeps to it. One line for each
+-- phrase, so that a wrong production fails at its own line.
+-- Assumes nothing.
+use mathlib.Core.Path.{_≡_, refl, sym, ap, subst}
+use mathlib.Core.Bool.{Bool, true, false, _&&_, _||_, not}
+use Prim.Native.Nat.{ℕ, _≤_, _<_}
+use native.Mathlib.Omega.{arith}
+use lib.Dec.{T, eqb, leb, ltb}
+use Rattle.lexemes.specs.Kinds.{EOF, QUESTION-MARK, NULL-COAELSE}
+use Rattle.grammar.specs.Productions.{Phrase, Body, end, goto, fail, _▸_, Step, eat, leaf, sub, deep, close, Switch, always, exp-destruct, exp-object-iteration, exp-null-coaelse, Row, row, Table, otherwise, _∣_, View, rule, signs, operators, sign-rows, operator-rows}
+use Rattle.grammar.specs.Productions.{expr, infix-tail, suffixed, suffix, null-safe, null-safe-index, bracket, member-name, null-safe-end, index-or-slice, slice-end, slice-ended, slice-step}
+use Rattle.grammar.specs.Productions.{slice-stepped, arguments, argument, argument-end, call-close, call-end, named-argument, basic, string, array, array-first, array-comp, array-comp-end, elements}
+use Rattle.grammar.specs.Productions.{next-element, inside, member, members, next-member, comprehension, comprehension-end, field, field-named, field-value, params, params-end, param, param-default}
+use Rattle.grammar.specs.Productions.{binds, binds-end, local-body, bind, bind-named, bind-function, else-part, function-body, assertion, condition, asserted, clauses, more-clauses, for-clause}
+use Rattle.grammar.specs.Productions.{header, if-clause, iteration, iteration-value, pattern, array-pattern, pattern-starts, pattern-starts-end, array-rest, array-rest-end, pattern-ends, pattern-ends-end}
+use Rattle.grammar.specs.Productions.{array-pattern-close, object-pattern, pattern-fields, pattern-fields-end, object-rest, object-rest-end, object-pattern-close, pattern-field, pattern-into}
+use Rattle.grammar.specs.Productions.{pattern-default, default-value, default-end}
+use Rattle.grammar.specs.Reading.{has, choose}
+
+-- ── What each phrase is like ──────────────────────────────────────────────────────────────────────
+
+-- Its order: before it takes a lexeme it goes over to phrases of lower order only. Its rank: how many phrases it goes through where `?`
+-- or `??` stands next before it ends or is broken there, 0 for a phrase that never stands behind another. Whether it surely takes a lexeme.
+pub data Traits : Type 0 where
+  traits : ℕ → ℕ → Bool → Traits
+
+unfoldable pub about : Phrase → Traits
+about (expr a) = traits 3 0 true
+about (infix-tail a) = traits 0 1 false
+about suffixed = traits 2 0 true
+about (suffix a) = traits 0 1 false
+about (null-safe a) = traits 2 0 true
+about (null-safe-index a) = traits 1 0 true
+about (bracket a) = traits 1 0 true
+about (member-name a b) = traits 1 0 true
+about (null-safe-end a b) = traits 0 1 true
+about (index-or-slice a b) = traits 0 1 true
+about (slice-end a b c) = traits 1 0 true
+about (slice-ended a b c d) = traits 0 1 true
+about (slice-step a b c d e) = traits 1 0 true
+about (slice-stepped a b c d e f) = traits 0 1 true
+about (arguments a b c) = traits 3 0 true
+about (argument a b c) = traits 2 0 true
+about (argument-end a b c) = traits 1 2 true
+about (call-close a b c) = traits 0 1 true
+about (call-end a b c) = traits 1 2 false
+about named-argument = traits 0 0 true
+about basic = traits 1 0 true
+about string = traits 0 0 true
+about array = traits 3 0 true
+about array-first = traits 2 2 true
+about array-comp = traits 1 0 true
+about array-comp-end = traits 0 1 true
+about elements = traits 0 1 true
+about next-element = traits 1 0 true
+about inside = traits 4 0 false
+about (member a) = traits 3 0 true
+about (members a) = traits 2 1 false
+about (next-member a) = traits 4 0 false
+about (comprehension a) = traits 1 0 true
+about (comprehension-end a) = traits 0 1 false
+about field = traits 2 0 true
+about (field-named a b) = traits 1 2 true
+about (field-value a b c d e) = traits 0 1 true
+about params = traits 2 0 false
+about params-end = traits 0 1 false
+about param = traits 1 0 true
+about param-default = traits 0 1 false
+about binds = traits 2 0 true
+about binds-end = traits 1 2 true
+about local-body = traits 0 1 true
+about bind = traits 1 0 true
+about bind-named = traits 0 0 true
+about bind-function = traits 0 0 true
+about (else-part a b) = traits 0 1 false
+about (function-body a b) = traits 0 0 true
+about assertion = traits 0 0 true
+about condition = traits 1 0 true
+about (asserted a) = traits 0 1 false
+about clauses = traits 0 0 true
+about more-clauses = traits 0 1 false
+about for-clause = traits 1 0 true
+about header = traits 0 0 true
+about (if-clause a b) = traits 0 0 true
+about (iteration a) = traits 0 1 true
+about (iteration-value a b) = traits 1 0 true
+about pattern = traits 0 0 true
+about array-pattern = traits 0 0 true
+about pattern-starts = traits 2 0 true
+about pattern-starts-end = traits 1 2 true
+about (array-rest a) = traits 2 0 true
+about (array-rest-end a b c) = traits 1 0 true
+about (pattern-ends a b c) = traits 2 0 true
+about (pattern-ends-end a b c) = traits 1 2 true
+about (array-pattern-close a b c) = traits 0 1 true
+about object-pattern = traits 0 0 true
+about pattern-fields = traits 2 0 true
+about pattern-fields-end = traits 1 2 true
+about object-rest = traits 2 0 true
+about (object-rest-end a b) = traits 1 0 true
+about (object-pattern-close a b) = traits 0 1 true
+about pattern-field = traits 0 0 true
+about (pattern-into a) = traits 1 0 false
+about (pattern-default a b) = traits 0 1 false
+about (default-value a b) = traits 1 0 true
+about (default-end a b c) = traits 0 1 false
+
+unfoldable pub order-in : Traits → ℕ
+order-in (traits o r m) = o
+
+unfoldable pub rank-in : Traits → ℕ
+rank-in (traits o r m) = r
+
+unfoldable pub moves-in : Traits → Bool
+moves-in (traits o r m) = m
+
+unfoldable pub order : Phrase → ℕ
+unfolding about order-in
+order q = order-in (about q)
+
+unfoldable pub rank : Phrase → ℕ
+unfolding about rank-in
+rank q = rank-in (about q)
+
+unfoldable pub moves : Phrase → Bool
+unfolding about moves-in
+moves q = moves-in (about q)
+
+-- ── Checkers of one production ────────────────────────────────────────────────────────────────────
+
+-- More than every order.
+abbrev pub top : ℕ
+top = 5
+
+-- What comes before the first lexeme stands lower than r.
+unfoldable pub low : ℕ → Body → Bool
+low r end = true
+low r (fail n x) = true
+low r (goto q) = ltb (order q) r
+low r (eat k ▸ b) = not (eqb k EOF) && low top b
+low r (leaf t fs ▸ b) = low r b
+low r (close t fs ▸ b) = low r b
+low r (sub q ▸ b) = ltb (order q) r && low r b
+low r (deep q ▸ b) = low r b
+
+-- Where `?` or `??` stands next it ends or is broken with number 5, going through phrases of rank below r only.
+unfoldable pub halts : ℕ → Body → Bool
+halts r end = true
+halts r (fail n x) = false
+halts r (goto q) = ltb 0 (rank q) && ltb (rank q) r
+halts r (eat k ▸ b) = not (eqb k QUESTION-MARK || eqb k NULL-COAELSE)
+halts r (leaf t fs ▸ b) = false
+halts r (close t fs ▸ b) = halts r b
+halts r (sub q ▸ b) = false
+halts r (deep q ▸ b) = false
+
+unfoldable pub fails : Body → Bool
+fails end = false
+fails (fail n x) = true
+fails (goto q) = false
+fails (st ▸ b) = false
+
+-- What stands behind a phrase halts there, or fails.
+unfoldable pub fine : Body → Bool
+fine end = true
+fine (fail n x) = true
+fine (goto q) = true
+fine (eat k ▸ b) = fine b
+fine (leaf t fs ▸ b) = fine b
+fine (close t fs ▸ b) = fine b
+fine (sub q ▸ b) = (halts 3 b || fails b) && fine b
+fine (deep q ▸ b) = (halts 3 b || fails b) && fine b
+
+-- If it ends it has taken a lexeme.
+unfoldable pub moved : Body → Bool
+moved end = false
+moved (fail n x) = true
+moved (goto q) = moves q
+moved (eat k ▸ b) = true
+moved (leaf t fs ▸ b) = true
+moved (close t fs ▸ b) = moved b
+moved (sub q ▸ b) = moves q || moved b
+moved (deep q ▸ b) = moves q || moved b
+
+-- It is broken with a number of phrases: 5 to 10 by itself (11 is the depth's).
+unfoldable pub numbered : Body → Bool
+numbered end = true
+numbered (fail n x) = leb 5 n && leb n 10
+numbered (goto q) = true
+numbered (st ▸ b) = numbered b
+
+-- ── Checkers of a table ───────────────────────────────────────────────────────────────────────────
+
+-- Every production of phrase q is low, fine and numbered, and moves if q does.
+unfoldable pub sound-body : Phrase → Body → Bool
+sound-body q b = low (order q) b && (fine b && (numbered b && (not (moves q) || moved b)))
+
+unfoldable pub sound-table : Phrase → Table → Bool
+sound-table q (otherwise b) = sound-body q b
+sound-table q (row g t b ∣ rest) = sound-body q b && sound-table q rest
+
+-- The production chosen without null-coaelse halts.
+unfoldable pub halts-table : ℕ → Table → Bool
+halts-table r (otherwise b) = halts r b
+halts-table r (row always t b ∣ rest) = elim t [ true ↦ halts r b | false ↦ halts-table r rest ]
+halts-table r (row exp-destruct t b ∣ rest) = (not t || halts r b) && halts-table r rest
+halts-table r (row exp-object-iteration t b ∣ rest) = (not t || halts r b) && halts-table r rest
+halts-table r (row exp-null-coaelse t b ∣ rest) = halts-table r rest
+
+unfoldable pub stops-table : Phrase → Table → Bool
+stops-table q t = not (ltb 0 (rank q)) || halts-table (rank q) t
+
+unfoldable pub unguarded : Table → Bool
+unguarded (otherwise b) = true
+unguarded (row always t b ∣ rest) = unguarded rest
+unguarded (row exp-destruct t b ∣ rest) = false
+unguarded (row exp-object-iteration t b ∣ rest) = false
+unguarded (row exp-null-coaelse t b ∣ rest) = false
+
+-- ── The facts ─────────────────────────────────────────────────────────────────────────────────────
+
+-- The view with another kind next.
+abbrev pub with-kind : View → ℕ → View
+with-kind v k =
+    record {
+      kind = k;
+      kind₁ = v .kind₁;
+      kind₂ = v .kind₂;
+      kind₃ = v .kind₃;
+      start = v .start;
+      stop = v .stop;
+      before = v .before;
+      says = v .says;
+      says₁ = v .says₁;
+      count = v .count;
+    }
+
+-- The phrases that a switch bears on.
+pub data Switched : Phrase → Type 0 where
+  at-infix-tail : {m : ℕ} → Switched (infix-tail m)
+  at-suffix : {f : ℕ} → Switched (suffix f)
+  at-pattern : Switched pattern
+  at-for-clause : Switched for-clause
+
+module _ (prefix : ℕ) where
+  unfoldable pub checked : Phrase → View → Bool
+  checked q v = sound-table q (rule prefix q v) && stops-table q (rule prefix q (with-kind v QUESTION-MARK)) && stops-table q (rule prefix q (with-kind v NULL-COAELSE))
+
+  pub data Facts (q : Phrase) (v : View) : Type 0 where
+    plain : T (checked q v && unguarded (rule prefix q v)) → Facts q v
+    switched : Switched q → T (checked q v) → Facts q v
+
+  pub facts : (q : Phrase) (v : View) → Facts q v
+  unfolding rule checked sound-table sound-body stops-table halts-table low halts fails fine moved numbered moves order rank unguarded
+  facts (expr a) v = plain tt
+  facts (infix-tail a) v = switched at-infix-tail tt
+  facts suffixed v = plain tt
+  facts (suffix a) v = switched at-suffix tt
+  facts (null-safe a) v = plain tt
+  facts (null-safe-index a) v = plain tt
+  facts (bracket a) v = plain tt
+  facts (member-name a b) v = plain tt
+  facts (null-safe-end a b) v = plain tt
+  facts (index-or-slice a b) v = plain tt
+  facts (slice-end a b c) v = plain tt
+  facts (slice-ended a b c d) v = plain tt
+  facts (slice-step a b c d e) v = plain tt
+  facts (slice-stepped a b c d e f) v = plain tt
+  facts (arguments a b c) v = plain tt
+  facts (argument a b c) v = plain tt
+  facts (argument-end a b c) v = plain tt
+  facts (call-close a b c) v = plain tt
+  facts (call-end a b c) v = plain tt
+  facts named-argument v = plain tt
+  facts basic v = plain tt
+  facts string v = plain tt
+  facts array v = plain tt
+  facts array-first v = plain tt
+  facts array-comp v = plain tt
+  facts array-comp-end v = plain tt
+  facts elements v = plain tt
+  facts next-element v = plain tt
+  facts inside v = plain tt
+  facts (member a) v = plain tt
+  facts (members a) v = plain tt
+  facts (next-member a) v = plain tt
+  facts (comprehension a) v = plain tt
+  facts (comprehension-end a) v = plain tt
+  facts field v = plain tt
+  facts (field-named a b) v = plain tt
+  facts (field-value a b c d e) v = plain tt
+  facts params v = plain tt
+  facts params-end v = plain tt
+  facts param v = plain tt
+  facts param-default v = plain tt
+  facts binds v = plain tt
+  facts binds-end v = plain tt
+  facts local-body v = plain tt
+  facts bind v = plain tt
+  facts bind-named v = plain tt
+  facts bind-function v = plain tt
+  facts (else-part a b) v = plain tt
+  facts (function-body a b) v = plain tt
+  facts assertion v = plain tt
+  facts condition v = plain tt
+  facts (asserted a) v = plain tt
+  facts clauses v = plain tt
+  facts more-clauses v = plain tt
+  facts for-clause v = switched at-for-clause tt
+  facts header v = plain tt
+  facts (if-clause a b) v = plain tt
+  facts (iteration a) v = plain tt
+  facts (iteration-value a b) v = plain tt
+  facts pattern v = switched at-pattern tt
+  facts array-pattern v = plain tt
+  facts pattern-starts v = plain tt
+  facts pattern-starts-end v = plain tt
+  facts (array-rest a) v = plain tt
+  facts (array-rest-end a b c) v = plain tt
+  facts (pattern-ends a b c) v = plain tt
+  facts (pattern-ends-end a b c) v = plain tt
+  facts (array-pattern-close a b c) v = plain tt
+  facts object-pattern v = plain tt
+  facts pattern-fields v = plain tt
+  facts pattern-fields-end v = plain tt
+  facts object-rest v = plain tt
+  facts (object-rest-end a b) v = plain tt
+  facts (object-pattern-close a b) v = plain tt
+  facts pattern-field v = plain tt
+  facts (pattern-into a) v = plain tt
+  facts (pattern-default a b) v = plain tt
+  facts (default-value a b) v = plain tt
+  facts (default-end a b c) v = plain tt

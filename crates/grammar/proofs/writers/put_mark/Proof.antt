@@ -1,0 +1,26 @@
+-- `writers::put_mark` meets its contract: one writing after the other.
+-- Assumes nothing.
+use Rattle.grammar.specs.Image.{entry, payload}
+use Rattle.grammar.proofs.WritingLaws.{and-then}
+use borrow.Author.Needs.{needs}
+use Rattle.grammar.proofs.writers.put_mark.Statement.{statement}
+use Rattle.grammar.proofs.writers.put_mark.Tie as tie
+
+put-head-requires : tie.Need-put-head-requires
+put-head-requires c κs = search needs
+
+put-span-requires : tie.Need-put-span-requires
+put-span-requires c κs = search needs
+
+same-length : tie.Need-same-length
+same-length c = search needs
+
+returns : tie.Need-returns
+unfolding entry payload
+returns c =
+    let head = c .before .before .before .before .before .before .put-head .ensures in
+    let span = c .before .before .put-span .ensures in
+    and-then head span
+
+pub put-mark-spec : {M : Type 1} → statement M
+put-mark-spec = tie.close (tie.spec put-head-requires put-span-requires same-length returns)

@@ -1,0 +1,21 @@
+-- `writers::put_span` meets its contract: one writing after the other.
+-- Assumes nothing.
+use Rattle.grammar.proofs.WritingLaws.{and-then}
+use borrow.Author.Needs.{needs}
+use Rattle.grammar.proofs.writers.put_span.Statement.{statement}
+use Rattle.grammar.proofs.writers.put_span.Tie as tie
+
+put-number-requires : tie.Need-put-number-requires
+put-number-requires c κs = search needs
+
+put-number-requires-2 : tie.Need-put-number-requires-2
+put-number-requires-2 c κs = search needs
+
+same-length : tie.Need-same-length
+same-length c = search needs
+
+returns : tie.Need-returns
+returns c = and-then (c .before .before .before .before .before .before .put-number .ensures) (c .before .before .put-number2 .ensures)
+
+pub put-span-spec : {M : Type 1} → statement M
+put-span-spec = tie.close (tie.spec put-number-requires put-number-requires-2 same-length returns)

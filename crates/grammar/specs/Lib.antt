@@ -1,0 +1,12 @@
+pub mod Trees
+pub mod Image
+pub mod Lexemes
+pub mod Productions
+pub mod Reading
+pub mod Says
+pub mod Answer
+pub mod Settings
+pub mod Writing
+pub mod Operators
+pub mod Records
+pub mod Source

@@ -1,0 +1,3 @@
+// The grammar: 01's phrases as derivations (specs/), what follows from them (proofs/), and the code that the phrase functions lean on.
+pub mod operators; // operators by their kinds
+pub mod writers; // records into a lent output

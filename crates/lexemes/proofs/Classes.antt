@@ -1,0 +1,125 @@
+-- The table of byte classes as the code has it, and its rule: one test of all 256 entries, which antt computes, and what it says of each.
+-- Assumes nothing.
+use mathlib.Core.Path.{_≡_, refl, sym, _∙_, subst}
+use mathlib.Core.Bool.{Bool, true, false, not, _&&_}
+use mathlib.Core.List.{List, [], _∷_}
+use Prim.Native.Nat.{ℕ, zero, suc, _+_, _-_, _<_, _≤_}
+use native.Mathlib.Omega.{arith}
+use native.Mathlib.Decide.{decLt}
+use borrow.Author.Tests.{le-ltb}
+use lib.Dec.{T, eqb, eqb→eq, leb, le→leb, leb→le}
+use lib.ListN.{length, getD}
+use Rattle.regex.specs.Regex.{END, Rule}
+use Rattle.regex.proofs.Bools.{and, refutes, and-left, and-right, every, Each, each, all, all-at, implies, implied}
+use Rattle.regex.proofs.Tables.{steps, gives}
+use Rattle.lexemes.specs.Letters.{WHITE, OTHER, letter, next}
+use Rattle.lexemes.specs.Scan.{classOf, asciiClass, Ran, Best}
+use Rattle.lexemes.proofs.Letters.{letter-ascii, next-ascii, by-byte, inside}
+use Rattle.lexemes.proofs.Moves.{Sees, go, stop}
+
+unfoldable pub table : List ℕ
+table =
+    0 ∷ 0 ∷ 0 ∷ 0 ∷ 0 ∷ 0 ∷ 0 ∷ 0 ∷ 0 ∷ 4 ∷ 4 ∷ 0 ∷ 0 ∷ 4 ∷ 0 ∷ 0 ∷
+    0 ∷ 0 ∷ 0 ∷ 0 ∷ 0 ∷ 0 ∷ 0 ∷ 0 ∷ 0 ∷ 0 ∷ 0 ∷ 0 ∷ 0 ∷ 0 ∷ 0 ∷ 0 ∷
+    4 ∷ 10 ∷ 5 ∷ 8 ∷ 10 ∷ 10 ∷ 10 ∷ 6 ∷ 10 ∷ 10 ∷ 10 ∷ 10 ∷ 10 ∷ 10 ∷ 10 ∷ 9 ∷
+    3 ∷ 2 ∷ 2 ∷ 2 ∷ 2 ∷ 2 ∷ 2 ∷ 2 ∷ 2 ∷ 2 ∷ 10 ∷ 10 ∷ 10 ∷ 10 ∷ 10 ∷ 10 ∷
+    7 ∷ 1 ∷ 1 ∷ 1 ∷ 1 ∷ 1 ∷ 1 ∷ 1 ∷ 1 ∷ 1 ∷ 1 ∷ 1 ∷ 1 ∷ 1 ∷ 1 ∷ 1 ∷
+    1 ∷ 1 ∷ 1 ∷ 1 ∷ 1 ∷ 1 ∷ 1 ∷ 1 ∷ 1 ∷ 1 ∷ 1 ∷ 10 ∷ 0 ∷ 10 ∷ 10 ∷ 1 ∷
+    0 ∷ 1 ∷ 1 ∷ 1 ∷ 1 ∷ 1 ∷ 1 ∷ 1 ∷ 1 ∷ 1 ∷ 1 ∷ 1 ∷ 1 ∷ 1 ∷ 1 ∷ 1 ∷
+    1 ∷ 1 ∷ 1 ∷ 1 ∷ 1 ∷ 1 ∷ 1 ∷ 1 ∷ 1 ∷ 1 ∷ 1 ∷ 10 ∷ 10 ∷ 10 ∷ 10 ∷ 0 ∷
+    0 ∷ 0 ∷ 0 ∷ 0 ∷ 0 ∷ 0 ∷ 0 ∷ 0 ∷ 0 ∷ 0 ∷ 0 ∷ 0 ∷ 0 ∷ 0 ∷ 0 ∷ 0 ∷
+    0 ∷ 0 ∷ 0 ∷ 0 ∷ 0 ∷ 0 ∷ 0 ∷ 0 ∷ 0 ∷ 0 ∷ 0 ∷ 0 ∷ 0 ∷ 0 ∷ 0 ∷ 0 ∷
+    0 ∷ 0 ∷ 0 ∷ 0 ∷ 0 ∷ 0 ∷ 0 ∷ 0 ∷ 0 ∷ 0 ∷ 0 ∷ 0 ∷ 0 ∷ 0 ∷ 0 ∷ 0 ∷
+    0 ∷ 0 ∷ 0 ∷ 0 ∷ 0 ∷ 0 ∷ 0 ∷ 0 ∷ 0 ∷ 0 ∷ 0 ∷ 0 ∷ 0 ∷ 0 ∷ 0 ∷ 0 ∷
+    0 ∷ 0 ∷ 0 ∷ 0 ∷ 0 ∷ 0 ∷ 0 ∷ 0 ∷ 0 ∷ 0 ∷ 0 ∷ 0 ∷ 0 ∷ 0 ∷ 0 ∷ 0 ∷
+    0 ∷ 0 ∷ 0 ∷ 0 ∷ 0 ∷ 0 ∷ 0 ∷ 0 ∷ 0 ∷ 0 ∷ 0 ∷ 0 ∷ 0 ∷ 0 ∷ 0 ∷ 0 ∷
+    0 ∷ 0 ∷ 0 ∷ 0 ∷ 0 ∷ 0 ∷ 0 ∷ 0 ∷ 0 ∷ 0 ∷ 0 ∷ 0 ∷ 0 ∷ 0 ∷ 0 ∷ 0 ∷
+    0 ∷ 0 ∷ 0 ∷ 0 ∷ 0 ∷ 0 ∷ 0 ∷ 0 ∷ 0 ∷ 0 ∷ 0 ∷ 0 ∷ 0 ∷ 0 ∷ 0 ∷ 0 ∷ []
+
+right : ℕ → Bool
+right b = eqb (getD table b 0) (classOf b)
+
+pub table-right : (b : ℕ) → b < 256 → getD table b 0 ≡ classOf b
+unfolding right table all classOf asciiClass
+table-right b h = eqb→eq (getD table b 0) (classOf b) (all-at right 256 tt b h)
+
+-- A byte that has a class is one of ASCII, and not 0.
+pub class-zero : classOf 0 ≡ 0
+unfolding classOf asciiClass
+class-zero = refl
+
+pub class-small : (b : ℕ) → 1 ≤ classOf b → b < 128
+unfolding classOf
+class-small b h = by (decLt b 128)
+  where
+    by : Dec (b < 128) → b < 128
+    by (yes l) = l
+    by (no n) = absurd (omega (arith, simp (le-ltb b 128 (omega arith)) at h))
+
+abbrev pub between : ℕ → ℕ → ℕ → Bool
+between lo hi b = leb lo (classOf b) && leb (classOf b) hi
+
+pub is-between : (lo hi b : ℕ) → lo ≤ classOf b → classOf b ≤ hi → T (between lo hi b)
+is-between lo hi b p q = and (leb lo (classOf b)) (leb (classOf b) hi) (le→leb lo (classOf b) p) (le→leb (classOf b) hi q)
+
+pub not-between : (lo hi b : ℕ) → (lo ≤ classOf b → classOf b ≤ hi → ⊥) → T (not (between lo hi b))
+not-between lo hi b n =
+    refutes (between lo hi b)
+    (λ t. n (leb→le lo (classOf b) (and-left (leb lo (classOf b)) (leb (classOf b) hi) t))
+    (leb→le (classOf b) hi (and-right (leb lo (classOf b)) (leb (classOf b) hi) t)))
+
+-- The bytes of the classes lo to hi pass a test, and no other letter does.
+abbrev covering : ℕ → ℕ → (ℕ → Bool) → List Bool
+covering lo hi f =
+    implies 128 (between lo hi) f ∷ implies 128 (λ b. not (between lo hi b)) (λ b. not (f b)) ∷ not (f WHITE) ∷ not (f OTHER) ∷ not (f END) ∷ []
+
+unfoldable pub covers : ℕ → ℕ → (ℕ → Bool) → Bool
+unfolding implies classOf asciiClass
+covers lo hi f = every (covering lo hi f)
+
+module _ (s : List ℕ) (lo hi : ℕ) (f : ℕ → Bool) (some : 1 ≤ lo) (c : T (covers lo hi f)) where
+  parts : Each (covering lo hi f)
+  unfolding covers
+  parts = each (covering lo hi f) c
+
+  -- A byte of these classes, and a place where none stands.
+  pub classed : (i : ℕ) → lo ≤ classOf (getD s i 0) → classOf (getD s i 0) ≤ hi → Sees s i f (i + 1)
+  classed i p q =
+      let small : getD s i 0 < 128 = class-small (getD s i 0) (omega arith) in
+      let here : i < length s = inside s i (positive (getD s i 0) p) in
+      record {
+        passes = subst (λ (x : ℕ). T (f x)) (sym (letter-ascii s i here small)) (implied 128 (between lo hi) f (parts .0) (getD s i 0) small (is-between lo hi (getD s i 0) p q));
+        after = sym (next-ascii s i here small);
+      }
+    where
+      positive : (b : ℕ) → lo ≤ classOf b → 0 < b
+      positive zero p = absurd (omega (arith, class-zero))
+      positive (suc b) p = omega arith
+
+  pub unclassed : (i : ℕ) → (lo ≤ classOf (getD s i 0) → classOf (getD s i 0) ≤ hi → ⊥) → Sees s i (λ l. not (f l)) (next s i)
+  unclassed i n =
+      record {
+        passes =
+            by-byte s i (λ l. not (f l)) (parts .1 .1 .0) (parts .1 .1 .1 .0) (parts .1 .1 .1 .1 .0)
+            (λ small. implied 128 (λ b. not (between lo hi b)) (λ b. not (f b)) (parts .1 .0) (getD s i 0) small (not-between lo hi (getD s i 0) n));
+        after = refl;
+      }
+
+  -- Over a run of these classes, by which the table S comes back.
+  module _ (from r : ℕ) (ran : Ran s from lo hi r) (S : List Rule) (t : T (steps S f S)) where
+    pub run-on : (k e n i : ℕ) → from ≤ i → i + n ≡ r → Best s S r k e → Best s S i k e
+    run-on k e zero i a b l = subst (λ (x : ℕ). Best s S x k e) (omega arith) l
+    run-on k e (suc n) i a b l =
+        let c = ran .each i a (omega arith) in
+        go (classed i (c .0) (c .1)) (run-on k e n (i + 1) (omega arith) (omega arith) l) t
+
+    pub run-stop : (k : ℕ) → T (steps S (λ l. not (f l)) []) → T (gives S k) → Best s S from k r
+    run-stop k u a = run-on k r (r - from) from (omega arith) (omega (arith, ran .start)) (stop (unclassed r (ran .over)) u a)
+
+-- What holds of each number from f below i, and of i, holds below i + 1.
+pub up-to : (P : ℕ → Type 0) (f i : ℕ) → ((k : ℕ) → f ≤ k → k < i → P k) → P i → (k : ℕ) → f ≤ k → k < i + 1 → P k
+up-to P f i h p k g l = by (decLt k i)
+  where
+    by : Dec (k < i) → P k
+    by (yes m) = h k g m
+    by (no n) = subst (λ (x : ℕ). P x) (omega arith) p

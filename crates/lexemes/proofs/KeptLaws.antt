@@ -1,0 +1,198 @@
+-- The theorems on the lexemes of a source: there is one list of them and no other, they cover the source without gap or overlap, and the kept
+-- ones from a place are none, or one and the kept ones from its end.
+-- Assumes nothing.
+use mathlib.Core.Path.{_≡_, refl, sym, _∙_, ap, subst}
+use mathlib.Core.Bool.{Bool, true, false, not, cond}
+use mathlib.Core.List.{List, [], _∷_, _++_, append-assoc}
+use mathlib.Core.Logic.{_⊎_, inl, inr, ⊎-elim}
+use Prim.Native.Nat.{ℕ, zero, suc, _+_, _-_, _≤_, _<_}
+use native.Mathlib.Omega.{arith}
+use native.Mathlib.Decide.{decLt, ℕ-discrete}
+use lib.Dec.{T, eqb, leb, ltb, le→leb, lt→ltb, eqb→eq}
+use lib.ListN.{length, getD, take, drop, drop-of-length-le, take-append-drop}
+use lib.Seq.{drop-drop}
+use Rattle.regex.proofs.Bools.{and, all, all-at, implies, implied}
+use Rattle.lexemes.specs.declared.Lexeme.{Lexeme}
+use Rattle.lexemes.specs.declared.kept.Cursor.{Cursor}
+use Rattle.lexemes.specs.Kinds.{EOF}
+use Rattle.lexemes.specs.Lexeme.{LexemeAt, lexeme}
+use Rattle.lexemes.specs.Kept.{Lexemes, none, some, dropped, bad, keep, Kept, first, NextKept, firstBad, FirstBad, Stands, oneOf}
+use Rattle.lexemes.proofs.Laws.{lexeme-once, lexeme-bounds, lexeme-always, lexeme-not-eof}
+
+module _ {s : List ℕ} where
+  -- One list of lexemes, and no other.
+  pub lexemes-once : {at : ℕ} {xs ys : List Lexeme} → Lexemes s at xs → Lexemes s at ys → xs ≡ ys
+  lexemes-once (none h) (none g) = refl
+  lexemes-once (none h) (some g l m) = absurd (omega arith)
+  lexemes-once (some g l m) (none h) = absurd (omega arith)
+  lexemes-once (some {l = l} {ls = xs} g d m) (some {l = l′} {ls = ys} g′ d′ m′) =
+      let e : l ≡ l′ = lexeme-once s d d′ in
+      let f : xs ≡ ys = lexemes-once (subst (λ (x : Lexeme). Lexemes s (x .end) xs) e m) m′ in
+      cc
+
+  lexemes-from : (n at : ℕ) → length s ≤ at + n → (xs : List Lexeme) × Lexemes s at xs
+  lexemes-from zero at h = ([], none {at = at} (omega arith))
+  lexemes-from (suc n) at h = by (decLt at (length s)) (lexemes-from n (lexeme-always s at .0 .end))
+    where
+      by : Dec (at < length s) → (length s ≤ lexeme-always s at .0 .end + n → (xs : List Lexeme) × Lexemes s (lexeme-always s at .0 .end) xs) → (xs : List Lexeme) × Lexemes s at xs
+      by (no g) rec = ([], none {at = at} (omega arith))
+      by (yes g) rec =
+          let l = lexeme-always s at in
+          let b = lexeme-bounds s g (l .1) in
+          let r = rec (omega (arith, b .1)) in
+          (l .0 ∷ r .0, some g (l .1) (r .1))
+
+-- Every source has a list of lexemes, from every place.
+pub lexemes-always : (s : List ℕ) (at : ℕ) → (xs : List Lexeme) × Lexemes s at xs
+lexemes-always s at = lexemes-from (length s) at (omega arith)
+
+-- The text of a lexeme, and of a list of them.
+abbrev pub textOf : List ℕ → Lexeme → List ℕ
+textOf s l = take (l .end - l .start) (drop (l .start) s)
+
+unfoldable pub textsOf : List ℕ → List Lexeme → List ℕ
+textsOf s [] = []
+textsOf s (l ∷ ls) = textOf s l ++ textsOf s ls
+
+-- They cover the source from the place on: each begins where the one before it ends, and ends further on.
+pub lexemes-cover : {s : List ℕ} {at : ℕ} {xs : List Lexeme} → Lexemes s at xs → textsOf s xs ≡ drop at s
+unfolding textsOf
+lexemes-cover {s} {at} (none h) = sym (drop-of-length-le s {i = at} h)
+lexemes-cover {s} {at} (some {l = l} {ls = ls} g d m) =
+    let b = lexeme-bounds s g d in
+    ap (λ (x : List ℕ). textOf s l ++ x) (lexemes-cover m) ∙ cut s (l .start) (l .end) (omega (arith, b)) ∙ ap (λ (i : ℕ). drop i s) (b .0)
+  where
+    cut : (s : List ℕ) (a e : ℕ) → a ≤ e → take (e - a) (drop a s) ++ drop e s ≡ drop a s
+    cut s a e h =
+        let q : e ≡ a + (e - a) = omega arith in
+        ap (λ (x : List ℕ). take (e - a) (drop a s) ++ x) (ap (λ (i : ℕ). drop i s) q ∙ sym (drop-drop (e - a) a s)) ∙ take-append-drop (e - a) (drop a s)
+
+-- Each of them ends further on than it begins, within the source.
+pub data Forward (s : List ℕ) : ℕ → List Lexeme → Type 0 where
+  end : {at : ℕ} → Forward s at []
+  on : {at : ℕ} {l : Lexeme} {ls : List Lexeme} → l .start ≡ at → at < l .end → l .end ≤ length s → Forward s (l .end) ls → Forward s at (l ∷ ls)
+
+pub lexemes-forward : {s : List ℕ} {at : ℕ} {xs : List Lexeme} → Lexemes s at xs → Forward s at xs
+lexemes-forward (none h) = end
+lexemes-forward {s} (some g d m) = let b = lexeme-bounds s g d in on (b .0) (b .1) (b .2) (lexemes-forward m)
+
+-- The kept lexemes: one list of them, and no other.
+pub kept-once : {s : List ℕ} {at : ℕ} {xs ys : List Lexeme} → Kept s at xs → Kept s at ys → xs ≡ ys
+kept-once k k′ = k .kept ∙ ap keep (lexemes-once (k .all) (k′ .all)) ∙ sym (k′ .kept)
+
+pub kept-always : (s : List ℕ) (at : ℕ) → (xs : List Lexeme) × Kept s at xs
+kept-always s at = let l = lexemes-always s at in (keep (l .0), record { lexemes = l .0; all = l .1; kept = refl })
+
+pub next-once : {s : List ℕ} {at : ℕ} {l l′ : Lexeme} → NextKept s at l → NextKept s at l′ → l ≡ l′
+next-once {at = at} n n′ = n .is-first ∙ ap (first at) (kept-once (n .is-left) (n′ .is-left)) ∙ sym (n′ .is-first)
+
+pub first-bad-once : {s : List ℕ} {l l′ : Lexeme} → FirstBad s l → FirstBad s l′ → l ≡ l′
+first-bad-once {s} b b′ = b .is-first ∙ ap (firstBad (length s)) (lexemes-once (b .all) (b′ .all)) ∙ sym (b′ .is-first)
+
+pub stands-once : {s : List ℕ} {at : ℕ} {c c′ : Cursor} → Stands s at c → Stands s at c′ → c ≡ c′
+stands-once {s} {at} {c} {c′} k k′ =
+    let e : c .last ≡ c′ .last = k .last ∙ sym (k′ .last) in
+    let f : c .current ≡ c′ .current = next-once (k .current) (k′ .current) in
+    λ i. record { last = e i; current = f i }
+
+-- A lexeme before a list: dropped or kept.
+module _ {s : List ℕ} {at : ℕ} {l : Lexeme} (h : at < length s) (d : LexemeAt s at l) where
+  pub kept-drop : {xs : List Lexeme} → dropped (l .kind) ≡ true → Kept s (l .end) xs → Kept s at xs
+  unfolding keep
+  kept-drop e k =
+      record { lexemes = l ∷ k .lexemes; all = some h d (k .all); kept = k .kept ∙ sym (ap (λ (b : Bool). cond b (keep (k .lexemes)) (l ∷ keep (k .lexemes))) e) }
+
+  pub kept-keep : {xs : List Lexeme} → dropped (l .kind) ≡ false → Kept s (l .end) xs → Kept s at (l ∷ xs)
+  unfolding keep
+  kept-keep e k =
+      record {
+        lexemes = l ∷ k .lexemes;
+        all = some h d (k .all);
+        kept = ap (λ (xs : List Lexeme). l ∷ xs) (k .kept) ∙ sym (ap (λ (b : Bool). cond b (keep (k .lexemes)) (l ∷ keep (k .lexemes))) e);
+      }
+
+pub kept-none : {s : List ℕ} {at : ℕ} → length s ≤ at → Kept s at []
+unfolding keep
+kept-none h = record { lexemes = []; all = none h; kept = refl }
+
+-- Two kept lexemes in a row are two lexemes with none but dropped ones between.
+pub data Rest (s : List ℕ) : List Lexeme → Type 0 where
+  nothing : Rest s []
+  next : {l : Lexeme} {ls : List Lexeme} → l .start < l .end → l .end ≤ length s → LexemeAt s (l .start) l → dropped (l .kind) ≡ false → Kept s (l .end) ls → Rest s (l ∷ ls)
+
+walk : {s : List ℕ} {at : ℕ} {ls : List Lexeme} → Lexemes s at ls → Rest s (keep ls)
+unfolding keep
+walk (none h) = nothing
+walk {s} {at} (some {l = l} {ls = ls} g d m) = by (dropped (l .kind)) refl (walk m)
+  where
+    by : (b : Bool) → dropped (l .kind) ≡ b → Rest s (keep ls) → Rest s (cond b (keep ls) (l ∷ keep ls))
+    by true e r = r
+    by false e r =
+        let b = lexeme-bounds s g d in
+        next {l = l} (omega (arith, b)) (b .2) (subst (λ (i : ℕ). LexemeAt s i l) (sym (b .0)) d) e record { lexemes = ls; all = m; kept = refl }
+
+-- The law by which the phrases layer steps: the kept lexemes from a place are none, or one and the kept lexemes from its end.
+pub kept-step : {s : List ℕ} {at : ℕ} {xs : List Lexeme} → Kept s at xs → Rest s xs
+kept-step {s} k = subst (λ (xs : List Lexeme). Rest s xs) (sym (k .kept)) (walk (k .all))
+
+-- From the cursor's side: with EOF as its current lexeme none is left, and any other is the first that is left.
+pub next-eof : {s : List ℕ} {at : ℕ} {l : Lexeme} → NextKept s at l → l .kind ≡ EOF → Kept s at [] × (l ≡ lexeme EOF at at)
+next-eof {s} {at} {l} n e = by (n .left) (n .is-left) (n .is-first)
+  where
+    by : (ks : List Lexeme) → Kept s at ks → l ≡ first at ks → Kept s at [] × (l ≡ lexeme EOF at at)
+    by [] k q = (k, q)
+    by (x ∷ ks) k q = absurd (no-eof (kept-step k))
+      where
+        no-eof : Rest s (x ∷ ks) → ⊥
+        no-eof (next h g d f r) = lexeme-not-eof s (omega arith) d (sym (ap (λ (y : Lexeme). y .kind) q) ∙ e)
+
+pub next-some : {s : List ℕ} {at : ℕ} {l : Lexeme} → NextKept s at l → (l .kind ≡ EOF → ⊥) → (ls : List Lexeme) × Kept s at (l ∷ ls) × Kept s (l .end) ls
+next-some {s} {at} {l} n e = by (n .left) (n .is-left) (n .is-first)
+  where
+    by : (ks : List Lexeme) → Kept s at ks → l ≡ first at ks → (ls : List Lexeme) × Kept s at (l ∷ ls) × Kept s (l .end) ls
+    by [] k q = absurd (e (ap (λ (y : Lexeme). y .kind) q))
+    by (x ∷ ks) k q = (ks, subst (λ (y : Lexeme). Kept s at (y ∷ ks)) (sym q) k, subst (λ (y : Lexeme). Kept s (y .end) ks) (sym q) (rest (kept-step k)))
+      where
+        rest : Rest s (x ∷ ks) → Kept s (x .end) ks
+        rest (next h g d f r) = r
+
+-- What the code finds on its way to the next kept lexeme, and to the first bad one.
+pub record Skipping (s : List ℕ) (at i : ℕ) : Type 0 where
+  pub on : {ks : List Lexeme} → Kept s i ks → Kept s at ks
+
+module _ {s : List ℕ} {at : ℕ} where
+  pub skip-start : Skipping s at at
+  skip-start = record { on = λ k. k }
+
+  module _ {i : ℕ} (m : Skipping s at i) where
+    pub skip-on : {l : Lexeme} → i < length s → LexemeAt s i l → dropped (l .kind) ≡ true → Skipping s at (l .end)
+    skip-on h d e = record { on = λ k. m .on (kept-drop h d e k) }
+
+    pub skip-found : {l : Lexeme} → i < length s → LexemeAt s i l → dropped (l .kind) ≡ false → NextKept s at l
+    skip-found {l} h d e = let r = kept-always s (l .end) in record { left = l ∷ r .0; is-left = m .on (kept-keep h d e (r .1)); is-first = refl }
+
+    pub skip-end : length s ≤ i → NextKept s at (lexeme EOF at at)
+    skip-end h = record { left = []; is-left = m .on (kept-none h); is-first = refl }
+
+pub record Good (s : List ℕ) (i : ℕ) : Type 0 where
+  pub on : {l : Lexeme} {ls : List Lexeme} → Lexemes s i ls → l ≡ firstBad (length s) ls → FirstBad s l
+
+module _ {s : List ℕ} where
+  pub good-start : Good s 0
+  good-start = record { on = λ {l} {ls} m e. record { lexemes = ls; all = m; is-first = e } }
+
+  module _ {i : ℕ} (m : Good s i) where
+    pub good-on : {l : Lexeme} → i < length s → LexemeAt s i l → bad (l .kind) ≡ false → Good s (l .end)
+    unfolding firstBad
+    good-on {l} h d e =
+        record { on = λ {l = b} {ls} x q. m .on (some h d x) (q ∙ sym (ap (λ (t : Bool). cond t l (firstBad (length s) ls)) e)) }
+
+    pub good-bad : {l : Lexeme} → i < length s → LexemeAt s i l → bad (l .kind) ≡ true → FirstBad s l
+    unfolding firstBad
+    good-bad {l} h d e =
+        let r = lexemes-always s (l .end) in
+        m .on (some h d (r .1)) (sym (ap (λ (t : Bool). cond t l (firstBad (length s) (r .0))) e))
+
+    pub good-end : length s ≤ i → FirstBad s (lexeme EOF (length s) (length s))
+    unfolding firstBad
+    good-end h = m .on (none h) refl

@@ -1,0 +1,15 @@
+pub mod Letters
+pub mod Moves
+pub mod Classes
+pub mod Spaces
+pub mod Quotes
+pub mod Slashes
+pub mod Numerals
+pub mod Verbatim
+pub mod Operations
+pub mod Keywords
+pub mod Firsts
+pub mod Automaton
+pub mod Laws
+pub mod KeptLaws
+pub mod Fates

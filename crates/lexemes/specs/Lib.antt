@@ -1,0 +1,7 @@
+pub mod Kinds
+pub mod Letters
+pub mod Rules
+pub mod Lexeme
+pub mod Kept
+pub mod Scan
+pub mod Words

@@ -1,0 +1,5 @@
+pub mod Bools
+pub mod Derive
+pub mod Tables
+pub mod Longest
+pub mod Exists
