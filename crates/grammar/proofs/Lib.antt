@@ -10,11 +10,11 @@ pub mod WritingLaws
 pub mod SaysLaws
 pub mod ImageLaws
 pub mod OperatorLaws
-pub mod Marked
-pub mod Shut
 pub mod Whole
 pub mod Sorts
 pub mod Shapes
 pub mod Obeys
 pub mod Room
 pub mod Source
+pub mod Marked
+pub mod Shut

@@ -1,166 +1,202 @@
--- 01's marked readings, from the kept lexemes of each source on, and three more of its sentences: one list under one claim, computed.
--- (Reading 10 is the lexemes' own.)
+-- 01's marked readings, and four more of its sentences, from the bytes of a source to the answer, through lexemes and decoders: one list under one claim, computed.
 -- Assumes nothing.
-use mathlib.Core.Path.{_≡_, refl}
+use mathlib.Core.Path.{_≡_, refl, sym, ap, subst}
+use mathlib.Core.Bool.{Bool, true, false, not, _&&_, _||_}
 use mathlib.Core.List.{List, [], _∷_, _++_}
-use Prim.Native.Nat.{ℕ, zero, suc, _+_}
-use Rattle.lexemes.specs.Kinds.{IDENT, MINUS, MUL, ASSIGN, COMMA, L-PAREN, R-PAREN, L-BRACE, R-BRACE, NOT, FLOAT, L-BRACK, R-BRACK, FOR-KW, COLON, IN-KW, QUESTION-MARK, DOT, STRING-DOUBLE, STRING-BLOCK}
+use mathlib.Core.Option.{Option, some, none as nowhere}
+use Prim.Native.Nat.{ℕ, zero, suc, _+_, _-_, _≤_, _<_}
+use Prim.Native.String.{String}
+use native.Mathlib.Omega.{arith}
+use lib.Dec.{T, eqb, leb, ltb, leb→le, ltb→lt, eqb→eq}
+use lib.ListN.{length, drop, replicate}
+use lib.Seq.{slice}
+use borrow.Author.Tests.{eqb-true, eqb-false}
+use Rattle.strings.specs.Utf8.{In, Utf8, row-00-7F}
+use Rattle.strings.specs.Utf8 as unicode
+use Rattle.strings.proofs.Marked.{marked-reading-5, marked-reading-6, marked-reading-7}
+use Rattle.blocks.specs.Blocks.{a-good, ends}
+use Rattle.blocks.proofs.Marked.{marked-reading-8}
+use Rattle.lexemes.specs.declared.Lexeme.{Lexeme as Range}
+use Rattle.lexemes.specs.Kinds.{EOF, FLOAT, IDENT, STRING-DOUBLE, STRING-SINGLE, STRING-DOUBLE-VERBATIM, STRING-SINGLE-VERBATIM, STRING-BLOCK}
+use Rattle.lexemes.specs.Words.{ascii}
+use Rattle.lexemes.specs.Lexeme.{lexeme, block}
+use Rattle.lexemes.specs.Kept.{Lexemes, keep, firstBad}
+use Rattle.lexemes.specs.Kept as lexemes
+use Rattle.lexemes.specs.Rules.{rules}
+use Rattle.lexemes.specs.Letters.{letter, next}
+use Rattle.lexemes.proofs.Munch.{Lexed, all, lex, lexed, munch, munched-ruled}
 use Rattle.grammar.specs.Trees.{Trees, none, _⊕_, count}
-use Rattle.grammar.specs.Image.{payload, entry, image}
-use Rattle.grammar.specs.Lexemes.{Said, says, nothing, good, said, Lexeme, start-of, stop-of}
+use Rattle.grammar.specs.Image.{image, entry, payload}
+use Rattle.grammar.specs.Lexemes.{Said, says, nothing, good, said, Lexeme}
 use Rattle.grammar.specs.Productions.{rule, source, with-field, with-assert}
-use Rattle.grammar.specs.Reading.{has, choose, view, production, done, broken, Reads}
-use Rattle.grammar.specs.Answer.{document-01}
+use Rattle.grammar.specs.Reading.{has, choose, view, production, Outcome, done, broken}
+use Rattle.grammar.specs.Says.{plain, Says, its-text, no-text, Told}
+use Rattle.grammar.specs.Says as says-of
+use Rattle.grammar.specs.Answer.{Verdict, refused, tree, verdict, Judged, read, bad-lexeme, document-01}
+use Rattle.grammar.specs.Source.{Bad, bad, Kept, kept}
+use Rattle.grammar.proofs.Chosen.{and-left, and-right}
 use Rattle.grammar.proofs.Execute.{run, after, sound}
+use Rattle.grammar.proofs.Source.{no-meaning, double-back}
 
--- A lexeme that says a text, and one that says nothing.
-abbrev pub word : ℕ → ℕ → ℕ → List ℕ → Lexeme
-word k a e w = record { kind = k; start = a; stop = e; word = says w }
+-- ---- what is computed of a source
 
-abbrev pub sign : ℕ → ℕ → ℕ → Lexeme
-sign k a e = record { kind = k; start = a; stop = e; word = nothing }
+-- all bytes are ASCII
+unfoldable pub low : List ℕ → Bool
+low [] = true
+low (b ∷ s) = ltb b 0x80 && low s
 
--- One-letter names and digits.
-abbrev pub name : ℕ → ℕ → Lexeme
-name a c = word IDENT a (a + 1) (c ∷ [])
+low-utf8 : (s : List ℕ) → T (low s) → Utf8 s
+unfolding low
+low-utf8 [] h = unicode.Utf8.none
+low-utf8 (b ∷ s) h =
+    let x : In 0x00 0x7F b = omega (arith, ltb→lt b 0x80 (and-left (ltb b 0x80) (low s) h)) in
+    unicode.Utf8.more (row-00-7F x) (low-utf8 s (and-right (ltb b 0x80) (low s) h))
 
-abbrev pub digit : ℕ → ℕ → Lexeme
-digit a c = word FLOAT a (a + 1) (c ∷ [])
+-- what names and numbers say; any other kind says nothing, if it is no string
+unfoldable pub word-at : List ℕ → ℕ → ℕ → ℕ → Said
+word-at s k a e = elim (eqb k IDENT) [ true ↦ says (slice a e s) | false ↦ elim (eqb k FLOAT) [ true ↦ says (plain (slice a e s)) | false ↦ nothing ] ]
 
--- A reading: under a setting, these lexemes have this image, or are refused with number, place and detail.
+unfoldable pub no-string : ℕ → Bool
+no-string k = not (eqb k STRING-DOUBLE) && (not (eqb k STRING-SINGLE) && (not (eqb k STRING-DOUBLE-VERBATIM) && (not (eqb k STRING-SINGLE-VERBATIM) && not (eqb k STRING-BLOCK))))
+
+not-eqb : (a b : ℕ) → T (not (eqb a b)) → a ≡ b → ⊥
+not-eqb a b h e = by (eqb a b) refl h
+  where
+    by : (t : Bool) → eqb a b ≡ t → T (not t) → ⊥
+    by true q h = h
+    by false q h = eqb-false a b q e
+
+word-says : (s : List ℕ) (k a e : ℕ) → T (no-string k) → Says s k a e (word-at s k a e)
+unfolding word-at no-string
+word-says s k a e h = by (eqb k IDENT) refl (eqb k FLOAT) refl
+  where
+    A : Bool
+    A = not (eqb k STRING-DOUBLE)
+
+    B : Bool
+    B = not (eqb k STRING-SINGLE)
+
+    C : Bool
+    C = not (eqb k STRING-DOUBLE-VERBATIM)
+
+    D : Bool
+    D = not (eqb k STRING-SINGLE-VERBATIM)
+
+    E : Bool
+    E = not (eqb k STRING-BLOCK)
+
+    by : (t : Bool) → eqb k IDENT ≡ t → (u : Bool) → eqb k FLOAT ≡ u → Says s k a e (elim t [ true ↦ says (slice a e s) | false ↦ elim u [ true ↦ says (plain (slice a e s)) | false ↦ nothing ] ])
+    by true q u r = rw (eqb-true k IDENT q) (its-text says-of.Means.name)
+    by false q true r = rw (eqb-true k FLOAT r) (its-text says-of.Means.number)
+    by false q false r =
+        let h₁ = and-right A (B && (C && (D && E))) h in
+        let h₂ = and-right B (C && (D && E)) h₁ in
+        let h₃ = and-right C (D && E) h₂ in
+        no-text
+        (no-meaning s a e k (eqb-false k IDENT q) (eqb-false k FLOAT r) (not-eqb k STRING-DOUBLE (and-left A (B && (C && (D && E))) h)) (not-eqb k STRING-SINGLE (and-left B (C && (D && E)) h₁))
+        (not-eqb k STRING-DOUBLE-VERBATIM (and-left C (D && E) h₂)) (not-eqb k STRING-SINGLE-VERBATIM (and-left D E h₃)) (not-eqb k STRING-BLOCK (and-right D E h₃)))
+
+unfoldable pub words : List ℕ → List Range → List Lexeme
+words s [] = []
+words s (l ∷ ls) = record { kind = l .kind; start = l .start; stop = l .end; word = word-at s (l .kind) (l .start) (l .end) } ∷ words s ls
+
+unfoldable pub no-strings : List Range → Bool
+no-strings [] = true
+no-strings (l ∷ ls) = no-string (l .kind) && no-strings ls
+
+words-told : (s : List ℕ) (ls : List Range) → T (no-strings ls) → Told s ls (words s ls)
+unfolding words no-strings
+words-told s [] h = Told.none
+words-told s (l ∷ ls) h =
+    Told.more (word-says s (l .kind) (l .start) (l .end) (and-left (no-string (l .kind)) (no-strings ls) h)) (words-told s ls (and-right (no-string (l .kind)) (no-strings ls) h))
+
+-- ---- a reading, from bytes
+
+-- Under a setting a source has this image, or is refused with number, place and detail.
 pub data Marked : Type 0 where
-  reads : ℕ → List Lexeme → List ℕ → Marked
-  refuses : ℕ → List Lexeme → ℕ → ℕ → ℕ → ℕ → Marked
+  reads : ℕ → List ℕ → List ℕ → Marked
+  refuses : ℕ → List ℕ → ℕ → ℕ → ℕ → ℕ → Marked
 
 abbrev pub Holds : Marked → Type 0
-Holds (reads s xs bytes) = (ts : Trees) × (p : ℕ) × (ys : List Lexeme) × Reads (document-01 .prefix) s (document-01 .depth) xs (done ts p ys) × (image ts ≡ bytes)
-Holds (refuses s xs n a e x) = (p : ℕ) × (ys : List Lexeme) × Reads (document-01 .prefix) s (document-01 .depth) xs (broken n p ys x) × (start-of p ys ≡ a) × (stop-of p ys ≡ e)
+Holds (reads s bytes img) = (ts : Trees) × Judged Bad Kept document-01 s bytes (tree ts) × (image ts ≡ img)
+Holds (refuses s bytes n a e x) = Judged Bad Kept document-01 s bytes (refused n a e x)
+
+-- a source whose lexemes and what they say are known
+judge : (s : ℕ) (bytes : List ℕ) (ls : List Range) (xs : List Lexeme) (o : Outcome) → T (leb s 7) → T (leb (length bytes) 65000) → T (low bytes) → Lexemes bytes 0 ls
+    → firstBad (length bytes) ls ≡ lexeme EOF (length bytes) (length bytes) → Told bytes (keep ls) xs → run 20 s 2000 source none 200 0 xs ≡ some o → Judged Bad Kept document-01 s bytes (verdict o)
+judge s bytes ls xs o h g l m f t r =
+    read (leb→le s 7 h) (leb→le (length bytes) 65000 g) (low-utf8 bytes l)
+    (kept (record { lexemes = ls; all = m; is-first = sym f }) (record { lexemes = ls; all = m; kept = refl }) t)
+    (sound 20 s 2000 source none 200 0 xs o r)
+
+-- a source without strings: all is computed
+pub plainly : (s : ℕ) (bytes : List ℕ) (ls : List Range) (o : Outcome) → T (leb s 7) → T (leb (length bytes) 65000) → T (low bytes) → lex 500 bytes 0 ≡ all ls
+    → firstBad (length bytes) ls ≡ lexeme EOF (length bytes) (length bytes) → T (no-strings (keep ls)) → run 20 s 2000 source none 200 0 (words bytes (keep ls)) ≡ some o
+    → Judged Bad Kept document-01 s bytes (verdict o)
+plainly s bytes ls o h g l m f t r = judge s bytes ls (words bytes (keep ls)) o h g l (lexed bytes 500 0 ls m) f (words-told bytes (keep ls) t) r
+
+-- ---- 01's list
+
+-- n of `(`, then `1`, then n of `)`
+unfoldable pub parens : ℕ → List ℕ
+parens n = replicate n 0x28 ++ 0x31 ∷ replicate n 0x29
 
 abbrev pub All : List Marked → Type 0
 All [] = Unit
 All (m ∷ ms) = Holds m × All ms
 
--- n of `(`, then `1`, then n of `)`.
-unfoldable pub closing : ℕ → ℕ → List Lexeme
-closing a zero = []
-closing a (suc n) = sign R-PAREN a (a + 1) ∷ closing (a + 1) n
-
-unfoldable pub opening : ℕ → ℕ → ℕ → List Lexeme
-opening a zero n = digit a 0x31 ∷ closing (a + 1) n
-opening a (suc m) n = sign L-PAREN a (a + 1) ∷ opening (a + 1) m n
-
--- `[v for [k]: v in o]`
-abbrev pub iteration : List Lexeme
-iteration =
-    sign L-BRACK 0 1 ∷ name 1 0x76 ∷ sign FOR-KW 3 6 ∷ sign L-BRACK 7 8 ∷ name 8 0x6B ∷ sign R-BRACK 9 10 ∷ sign COLON 10 11 ∷ name 12 0x76 ∷ sign IN-KW 14 16 ∷
-    name 17 0x6F ∷ sign R-BRACK 18 19 ∷ []
-
 unfoldable pub marked : List Marked
-unfolding opening closing
+unfolding parens
 marked =
     -- 1. Empty: 7 at 0,0
-    refuses 0 [] 7 0 0 0 ∷
+    refuses 0 ([]) 7 0 0 0 ∷
     -- 2. `1`: image 04 00 01 31
-    reads 0 (digit 0 0x31 ∷ []) (0x04 ∷ 0x00 ∷ 0x01 ∷ 0x31 ∷ []) ∷
+    reads 0 (ascii "1") (0x04 ∷ 0x00 ∷ 0x01 ∷ 0x31 ∷ []) ∷
     -- 3. `1 2`: 5 at 2,3, detail 1
-    refuses 0 (digit 0 0x31 ∷ digit 2 0x32 ∷ []) 5 2 3 1 ∷
+    refuses 0 (ascii "1 2") 5 2 3 1 ∷
     -- 4. `a-b-c` is (a-b)-c
-    reads 0 (name 0 0x61 ∷ sign MINUS 1 2 ∷ name 2 0x62 ∷ sign MINUS 3 4 ∷ name 4 0x63 ∷ [])
-    (0x06 ∷ 0x00 ∷ 0x05 ∷ 0x00 ∷ 0x00 ∷ 0x00 ∷ 0x01 ∷ 0x61 ∷ 0x06 ∷ 0x00 ∷ 0x05 ∷ 0x00 ∷ 0x02 ∷ 0x00 ∷ 0x03 ∷ 0x62 ∷ 0x0D ∷ 0x00 ∷ 0x01 ∷ 0x04 ∷
-    0x06 ∷ 0x00 ∷ 0x05 ∷ 0x00 ∷ 0x04 ∷ 0x00 ∷ 0x05 ∷ 0x63 ∷ 0x0D ∷ 0x00 ∷ 0x01 ∷ 0x04 ∷ []) ∷
+    reads 0 (ascii "a-b-c") (0x06 ∷ 0x00 ∷ 0x05 ∷ 0x00 ∷ 0x00 ∷ 0x00 ∷ 0x01 ∷ 0x61 ∷ 0x06 ∷ 0x00 ∷ 0x05 ∷ 0x00 ∷ 0x02 ∷ 0x00 ∷ 0x03 ∷ 0x62 ∷ 0x0D ∷ 0x00 ∷ 0x01 ∷ 0x04 ∷ 0x06 ∷ 0x00 ∷ 0x05 ∷ 0x00 ∷ 0x04 ∷ 0x00 ∷ 0x05 ∷ 0x63 ∷ 0x0D ∷ 0x00 ∷ 0x01 ∷ 0x04 ∷ []) ∷
     -- 5. `"\x41"`: D0 81
-    reads 0 (word STRING-DOUBLE 0 6 (0xD0 ∷ 0x81 ∷ []) ∷ []) (0x05 ∷ 0x00 ∷ 0x02 ∷ 0xD0 ∷ 0x81 ∷ []) ∷
+    reads 0 (0x22 ∷ 0x5C ∷ 0x78 ∷ 0x34 ∷ 0x31 ∷ 0x22 ∷ []) (0x05 ∷ 0x00 ∷ 0x02 ∷ 0xD0 ∷ 0x81 ∷ []) ∷
     -- 6. `"\uD83D\uDE00"`: F0 9F 98 80
-    reads 0 (word STRING-DOUBLE 0 14 (0xF0 ∷ 0x9F ∷ 0x98 ∷ 0x80 ∷ []) ∷ []) (0x05 ∷ 0x00 ∷ 0x04 ∷ 0xF0 ∷ 0x9F ∷ 0x98 ∷ 0x80 ∷ []) ∷
+    reads 0 (0x22 ∷ 0x5C ∷ 0x75 ∷ 0x44 ∷ 0x38 ∷ 0x33 ∷ 0x44 ∷ 0x5C ∷ 0x75 ∷ 0x44 ∷ 0x45 ∷ 0x30 ∷ 0x30 ∷ 0x22 ∷ []) (0x05 ∷ 0x00 ∷ 0x04 ∷ 0xF0 ∷ 0x9F ∷ 0x98 ∷ 0x80 ∷ []) ∷
     -- 7. `"\uD800x"`: 9 at 0,9
-    refuses 0 (sign STRING-DOUBLE 0 9 ∷ []) 9 0 9 0 ∷
+    refuses 0 (0x22 ∷ 0x5C ∷ 0x75 ∷ 0x44 ∷ 0x38 ∷ 0x30 ∷ 0x30 ∷ 0x78 ∷ 0x22 ∷ []) 9 0 9 0 ∷
     -- 8. `|||-`, LF, two spaces `mass`, LF, two spaces `depth`, LF, `|||`: `mass` LF `depth`
-    reads 0 (word STRING-BLOCK 0 23 (0x6D ∷ 0x61 ∷ 0x73 ∷ 0x73 ∷ 0x0A ∷ 0x64 ∷ 0x65 ∷ 0x70 ∷ 0x74 ∷ 0x68 ∷ []) ∷ [])
-    (0x05 ∷ 0x00 ∷ 0x0A ∷ 0x6D ∷ 0x61 ∷ 0x73 ∷ 0x73 ∷ 0x0A ∷ 0x64 ∷ 0x65 ∷ 0x70 ∷ 0x74 ∷ 0x68 ∷ []) ∷
+    reads 0 (0x7C ∷ 0x7C ∷ 0x7C ∷ 0x2D ∷ 0x0A ∷ 0x20 ∷ 0x20 ∷ 0x6D ∷ 0x61 ∷ 0x73 ∷ 0x73 ∷ 0x0A ∷ 0x20 ∷ 0x20 ∷ 0x64 ∷ 0x65 ∷ 0x70 ∷ 0x74 ∷ 0x68 ∷ 0x0A ∷ 0x7C ∷ 0x7C ∷ 0x7C ∷ []) (0x05 ∷ 0x00 ∷ 0x0A ∷ 0x6D ∷ 0x61 ∷ 0x73 ∷ 0x73 ∷ 0x0A ∷ 0x64 ∷ 0x65 ∷ 0x70 ∷ 0x74 ∷ 0x68 ∷ []) ∷
     -- 9. `f(a=1, 2)`: 8 at 7,8, detail 1
-    refuses 0 (name 0 0x66 ∷ sign L-PAREN 1 2 ∷ name 2 0x61 ∷ sign ASSIGN 3 4 ∷ digit 4 0x31 ∷ sign COMMA 5 6 ∷ digit 7 0x32 ∷ sign R-PAREN 8 9 ∷ []) 8 7 8 1 ∷
+    refuses 0 (ascii "f(a=1, 2)") 8 7 8 1 ∷
+    -- 10. `if a then 1else 2`: 4 at 10,13
+    refuses 0 (ascii "if a then 1else 2") 4 10 13 39 ∷
     -- 11. `a?.b`: 5 at 1,2
-    refuses 0 (name 0 0x61 ∷ sign QUESTION-MARK 1 2 ∷ sign DOT 2 3 ∷ name 3 0x62 ∷ []) 5 1 2 1 ∷
+    refuses 0 (ascii "a?.b") 5 1 2 1 ∷
     -- 12. `[v for [k]: v in o]`: setting 0, 5 at 7,8; setting 1, 5 at 10,11; setting 2, a tree
-    refuses 0 iteration 5 7 8 IDENT ∷
-    refuses 1 iteration 5 10 11 IN-KW ∷
-    reads 2 iteration
-    (0x06 ∷ 0x00 ∷ 0x05 ∷ 0x00 ∷ 0x01 ∷ 0x00 ∷ 0x02 ∷ 0x76 ∷ 0x19 ∷ 0x00 ∷ 0x05 ∷ 0x00 ∷ 0x0C ∷ 0x00 ∷ 0x0D ∷ 0x76 ∷ 0x06 ∷ 0x00 ∷ 0x05 ∷ 0x00 ∷ 0x11 ∷ 0x00 ∷ 0x12 ∷ 0x6F ∷
-    0x23 ∷ 0x00 ∷ 0x02 ∷ 0x00 ∷ 0x6B ∷ 0x08 ∷ 0x00 ∷ 0x02 ∷ 0x00 ∷ 0x01 ∷ []) ∷
+    refuses 0 (ascii "[v for [k]: v in o]") 5 7 8 IDENT ∷
+    refuses 1 (ascii "[v for [k]: v in o]") 5 10 11 76 ∷
+    reads 2 (ascii "[v for [k]: v in o]") (0x06 ∷ 0x00 ∷ 0x05 ∷ 0x00 ∷ 0x01 ∷ 0x00 ∷ 0x02 ∷ 0x76 ∷ 0x19 ∷ 0x00 ∷ 0x05 ∷ 0x00 ∷ 0x0C ∷ 0x00 ∷ 0x0D ∷ 0x76 ∷ 0x06 ∷ 0x00 ∷ 0x05 ∷ 0x00 ∷ 0x11 ∷ 0x00 ∷ 0x12 ∷ 0x6F ∷ 0x23 ∷ 0x00 ∷ 0x02 ∷ 0x00 ∷ 0x6B ∷ 0x08 ∷ 0x00 ∷ 0x02 ∷ 0x00 ∷ 0x01 ∷ []) ∷
     -- 13. 199 `(`, `1`, 199 `)`: a tree; 200 of each: 11 at 200,201
-    reads 0 (opening 0 199 199) (0x04 ∷ 0x00 ∷ 0x01 ∷ 0x31 ∷ []) ∷
-    refuses 0 (opening 0 200 200) 11 200 201 0 ∷
+    reads 0 (parens 199) (0x04 ∷ 0x00 ∷ 0x01 ∷ 0x31 ∷ []) ∷
+    refuses 0 (parens 200) 11 200 201 0 ∷
     -- "Readings that look right and aren't": `(a.b).c` is two runs
-    reads 0 (sign L-PAREN 0 1 ∷ name 1 0x61 ∷ sign DOT 2 3 ∷ name 3 0x62 ∷ sign R-PAREN 4 5 ∷ sign DOT 5 6 ∷ name 6 0x63 ∷ [])
-    (0x06 ∷ 0x00 ∷ 0x05 ∷ 0x00 ∷ 0x01 ∷ 0x00 ∷ 0x02 ∷ 0x61 ∷ 0x05 ∷ 0x00 ∷ 0x01 ∷ 0x62 ∷ 0x14 ∷ 0x00 ∷ 0x06 ∷ 0x00 ∷ 0x03 ∷ 0x00 ∷ 0x04 ∷ 0x01 ∷ 0x00 ∷ 0x05 ∷ 0x00 ∷ 0x01 ∷ 0x63 ∷ 0x14 ∷ 0x00 ∷ 0x06 ∷ 0x00 ∷ 0x06 ∷ 0x00 ∷ 0x07 ∷ 0x01 ∷ 0x00 ∷ []) ∷
-    -- "Comprehension faults (8) come after its last clause": `{a:1,b:2 for x in y}`
-    refuses 0
-    (sign L-BRACE 0 1 ∷ name 1 0x61 ∷ sign COLON 2 3 ∷ digit 3 0x31 ∷ sign COMMA 4 5 ∷ name 5 0x62 ∷ sign COLON 6 7 ∷ digit 7 0x32 ∷ sign FOR-KW 9 12 ∷ name 13 0x78 ∷
-    sign IN-KW 15 17 ∷ name 18 0x79 ∷ sign R-BRACE 19 20 ∷ []) 8 19 20 2 ∷
-    -- `!a`: "operator byte in enum order"
-    reads 0 (sign NOT 0 1 ∷ name 1 0x61 ∷ []) (0x06 ∷ 0x00 ∷ 0x05 ∷ 0x00 ∷ 0x01 ∷ 0x00 ∷ 0x02 ∷ 0x61 ∷ 0x0C ∷ 0x00 ∷ 0x01 ∷ 0x03 ∷ []) ∷
-    -- the case of `readtree`: `-a*b` is -(a*b)
-    reads 0 (sign MINUS 0 1 ∷ name 1 0x61 ∷ sign MUL 2 3 ∷ name 3 0x62 ∷ [])
-    (0x06 ∷ 0x00 ∷ 0x05 ∷ 0x00 ∷ 0x01 ∷ 0x00 ∷ 0x02 ∷ 0x61 ∷ 0x06 ∷ 0x00 ∷ 0x05 ∷ 0x00 ∷ 0x03 ∷ 0x00 ∷ 0x04 ∷ 0x62 ∷ 0x0D ∷ 0x00 ∷ 0x01 ∷ 0x00 ∷ 0x0C ∷ 0x00 ∷ 0x01 ∷ 0x01 ∷ []) ∷
+    reads 0 (ascii "(a.b).c") (0x06 ∷ 0x00 ∷ 0x05 ∷ 0x00 ∷ 0x01 ∷ 0x00 ∷ 0x02 ∷ 0x61 ∷ 0x05 ∷ 0x00 ∷ 0x01 ∷ 0x62 ∷ 0x14 ∷ 0x00 ∷ 0x06 ∷ 0x00 ∷ 0x03 ∷ 0x00 ∷ 0x04 ∷ 0x01 ∷ 0x00 ∷ 0x05 ∷ 0x00 ∷ 0x01 ∷ 0x63 ∷ 0x14 ∷ 0x00 ∷ 0x06 ∷ 0x00 ∷ 0x06 ∷ 0x00 ∷ 0x07 ∷ 0x01 ∷ 0x00 ∷ []) ∷
+    -- "Comprehension faults (8) come after its last clause"
+    refuses 0 (ascii "{a:1,b:2 for x in y}") 8 19 20 2 ∷
+    -- "operator byte in enum order"
+    reads 0 (ascii "!a") (0x06 ∷ 0x00 ∷ 0x05 ∷ 0x00 ∷ 0x01 ∷ 0x00 ∷ 0x02 ∷ 0x61 ∷ 0x0C ∷ 0x00 ∷ 0x01 ∷ 0x03 ∷ []) ∷
+    -- The case of `readtree`: `-a*b` is -(a*b)
+    reads 0 (ascii "-a*b") (0x06 ∷ 0x00 ∷ 0x05 ∷ 0x00 ∷ 0x01 ∷ 0x00 ∷ 0x02 ∷ 0x61 ∷ 0x06 ∷ 0x00 ∷ 0x05 ∷ 0x00 ∷ 0x03 ∷ 0x00 ∷ 0x04 ∷ 0x62 ∷ 0x0D ∷ 0x00 ∷ 0x01 ∷ 0x00 ∷ 0x0C ∷ 0x00 ∷ 0x01 ∷ 0x01 ∷ []) ∷
     []
 
+block-source : List ℕ
+block-source = 0x7C ∷ 0x7C ∷ 0x7C ∷ 0x2D ∷ 0x0A ∷ 0x20 ∷ 0x20 ∷ 0x6D ∷ 0x61 ∷ 0x73 ∷ 0x73 ∷ 0x0A ∷ 0x20 ∷ 0x20 ∷ 0x64 ∷ 0x65 ∷ 0x70 ∷ 0x74 ∷ 0x68 ∷ 0x0A ∷ 0x7C ∷ 0x7C ∷ 0x7C ∷ []
+
+block-lexemes : Lexemes block-source 0 (lexeme STRING-BLOCK 0 23 ∷ [])
+unfolding block-source rules munch letter next
+block-lexemes =
+    lexemes.Lexemes.some (ltb→lt 0 23 tt)
+    (block (ltb→lt 0 23 tt) (munched-ruled block-source 0 STRING-BLOCK 3 refl) (a-good (ends (marked-reading-8 .0) refl)) refl)
+    (lexemes.Lexemes.none (leb→le 23 23 tt))
+
 pub marked-readings : All marked
-unfolding marked run after production choose rule view has _⊕_ count with-field with-assert good said image entry payload
-marked-readings = (
-  (_, _, sound (document-01 .prefix) 0 100 source none (document-01 .depth) 0 _ _ refl, refl, refl),
-  (
-    (_, _, _, sound (document-01 .prefix) 0 100 source none (document-01 .depth) 0 _ _ refl, refl),
-    (
-      (_, _, sound (document-01 .prefix) 0 100 source none (document-01 .depth) 0 _ _ refl, refl, refl),
-      (
-        (_, _, _, sound (document-01 .prefix) 0 100 source none (document-01 .depth) 0 _ _ refl, refl),
-        (
-          (_, _, _, sound (document-01 .prefix) 0 100 source none (document-01 .depth) 0 _ _ refl, refl),
-          (
-            (_, _, _, sound (document-01 .prefix) 0 100 source none (document-01 .depth) 0 _ _ refl, refl),
-            (
-              (_, _, sound (document-01 .prefix) 0 100 source none (document-01 .depth) 0 _ _ refl, refl, refl),
-              (
-                (_, _, _, sound (document-01 .prefix) 0 100 source none (document-01 .depth) 0 _ _ refl, refl),
-                (
-                  (_, _, sound (document-01 .prefix) 0 100 source none (document-01 .depth) 0 _ _ refl, refl, refl),
-                  (
-                    (_, _, sound (document-01 .prefix) 0 100 source none (document-01 .depth) 0 _ _ refl, refl, refl),
-                    (
-                      (_, _, sound (document-01 .prefix) 0 100 source none (document-01 .depth) 0 _ _ refl, refl, refl),
-                      (
-                        (_, _, sound (document-01 .prefix) 1 100 source none (document-01 .depth) 0 _ _ refl, refl, refl),
-                        (
-                          (_, _, _, sound (document-01 .prefix) 2 100 source none (document-01 .depth) 0 _ _ refl, refl),
-                          (
-                            (_, _, _, sound (document-01 .prefix) 0 5000 source none (document-01 .depth) 0 _ _ refl, refl),
-                            (
-                              (_, _, sound (document-01 .prefix) 0 5000 source none (document-01 .depth) 0 _ _ refl, refl, refl),
-                              (
-                                (_, _, _, sound (document-01 .prefix) 0 100 source none (document-01 .depth) 0 _ _ refl, refl),
-                                (
-                                  (_, _, sound (document-01 .prefix) 0 100 source none (document-01 .depth) 0 _ _ refl, refl, refl),
-                                  (
-                                    (_, _, _, sound (document-01 .prefix) 0 100 source none (document-01 .depth) 0 _ _ refl, refl),
-                                    (
-                                      (_, _, _, sound (document-01 .prefix) 0 100 source none (document-01 .depth) 0 _ _ refl, refl),
-                                      tt,
-                                    ),
-                                  ),
-                                ),
-                              ),
-                            ),
-                          ),
-                        ),
-                      ),
-                    ),
-                  ),
-                ),
-              ),
-            ),
-          ),
-        ),
-      ),
-    ),
-  ),
-)
+unfolding marked parens block-source lex rules firstBad keep lexemes.bad lexemes.dropped no-strings no-string words word-at plain low run after production choose rule view has _⊕_ count with-field with-assert good said image entry payload verdict
+marked-readings = (plainly 0 _ _ _ tt tt tt refl refl tt refl, ((_, plainly 0 _ _ _ tt tt tt refl refl tt refl, refl), (plainly 0 _ _ _ tt tt tt refl refl tt refl, ((_, plainly 0 _ _ _ tt tt tt refl refl tt refl, refl), ((_, judge 0 _ _ _ _ tt tt tt (lexed _ 500 0 _ refl) refl (Told.more (its-text (says-of.Means.double marked-reading-5)) Told.none) refl, refl), ((_, judge 0 _ _ _ _ tt tt tt (lexed _ 500 0 _ refl) refl (Told.more (its-text (says-of.Means.double marked-reading-6)) Told.none) refl, refl), (judge 0 _ _ _ _ tt tt tt (lexed _ 500 0 _ refl) refl (Told.more (no-text (λ w m. marked-reading-7 w (double-back _ 0 9 w m))) Told.none) refl, ((_, judge 0 block-source _ _ _ tt tt tt block-lexemes refl (Told.more (its-text (says-of.Means.block (marked-reading-8 .1))) Told.none) refl, refl), (plainly 0 _ _ _ tt tt tt refl refl tt refl, (bad-lexeme (leb→le 0 7 tt) (leb→le 17 65000 tt) (low-utf8 _ tt) (bad (eqb-false 39 EOF refl) (record { lexemes = _; all = lexed (ascii "if a then 1else 2") 500 0 _ refl; is-first = refl })), (plainly 0 _ _ _ tt tt tt refl refl tt refl, (plainly 0 _ _ _ tt tt tt refl refl tt refl, (plainly 1 _ _ _ tt tt tt refl refl tt refl, ((_, plainly 2 _ _ _ tt tt tt refl refl tt refl, refl), ((_, plainly 0 _ _ _ tt tt tt refl refl tt refl, refl), (plainly 0 _ _ _ tt tt tt refl refl tt refl, ((_, plainly 0 _ _ _ tt tt tt refl refl tt refl, refl), (plainly 0 _ _ _ tt tt tt refl refl tt refl, ((_, plainly 0 _ _ _ tt tt tt refl refl tt refl, refl), ((_, plainly 0 _ _ _ tt tt tt refl refl tt refl, refl), tt))))))))))))))))))))

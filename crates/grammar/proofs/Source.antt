@@ -29,7 +29,8 @@ use Rattle.grammar.specs.Says.{Means, name, number, double, single, doub
 use Rattle.grammar.specs.Answer.{Answer, Answers, document-01}
 use Rattle.grammar.specs.Source.{Bad, bad, Kept, kept, Reads01}
 use Rattle.grammar.proofs.SaysLaws.{told-once}
-use Rattle.grammar.proofs.Whole.{Lexing, answers-once, answers-always}
+use Rattle.grammar.specs.Settings.{_⊑_}
+use Rattle.grammar.proofs.Whole.{Lexing, answers-once, answers-always, larger, Fifth, smaller}
 
 -- ---- every lexeme says something or nothing
 
@@ -42,7 +43,7 @@ module _ (s : List ℕ) (a e : ℕ) where
       by (inl q) = (says (q .0), its-text (to (q .0) (q .1)))
       by (inr q) = (nothing, no-text (λ w m. q w (from w m)))
 
-  double-back : (w : List ℕ) → Means s STRING-DOUBLE a e w → Quoted (slice (a + 1) (e - 1) s) w
+  pub double-back : (w : List ℕ) → Means s STRING-DOUBLE a e w → Quoted (slice (a + 1) (e - 1) s) w
   double-back w (double q) = q
 
   single-back : (w : List ℕ) → Means s STRING-SINGLE a e w → Quoted (slice (a + 1) (e - 1) s) w
@@ -64,7 +65,7 @@ module _ (s : List ℕ) (a e : ℕ) where
       by (MissingTermination n, x) = not-good _ x (λ m q. let z : _≡_ {A = ℕ} 0 1 = cc in omega arith)
       by (MissingIndent n, x) = not-good _ x (λ m q. let z : _≡_ {A = ℕ} 0 1 = cc in omega arith)
 
-  no-meaning : (k : ℕ) → (k ≡ IDENT → ⊥) → (k ≡ FLOAT → ⊥) → (k ≡ STRING-DOUBLE → ⊥) → (k ≡ STRING-SINGLE → ⊥) → (k ≡ STRING-DOUBLE-VERBATIM → ⊥) → (k ≡ STRING-SINGLE-VERBATIM → ⊥)
+  pub no-meaning : (k : ℕ) → (k ≡ IDENT → ⊥) → (k ≡ FLOAT → ⊥) → (k ≡ STRING-DOUBLE → ⊥) → (k ≡ STRING-SINGLE → ⊥) → (k ≡ STRING-DOUBLE-VERBATIM → ⊥) → (k ≡ STRING-SINGLE-VERBATIM → ⊥)
       → (k ≡ STRING-BLOCK → ⊥) → (w : List ℕ) → Means s k a e w → ⊥
   no-meaning k p q r t u v x w name = p refl
   no-meaning k p q r t u v x w number = q refl
@@ -162,3 +163,15 @@ reads-once = answers-once lexing document-01
 -- There always is one.
 pub reads-always : (setting : ℕ) (source : List ℕ) (room : ℕ) → (a : Answer) × (out : List ℕ) × Reads01 setting source room a out
 reads-always = answers-always lexing document-01
+
+-- ---- demand 3
+
+module _ (s s′ : ℕ) (le : s ⊑ s′) (source : List ℕ) (room : ℕ) {a a′ : Answer} {out out′ : List ℕ} (x : Reads01 s source room a out) (x′ : Reads01 s′ source room a′ out′) where
+  -- A larger setting changes no tree and no refusal for room.
+  pub larger-setting : s′ ≤ 7 → (a .number ≡ 0) ⊎ (a .number ≡ 12) → (a′ ≡ a) × (out′ ≡ out)
+  larger-setting = larger lexing document-01 s s′ le source room x x′
+
+  -- Where the larger setting has a tree, the smaller has the same, or refuses with number 5 at the first place that the larger reads by a
+  -- switch the smaller lacks.
+  pub smaller-setting : s ≤ 7 → (a′ .number ≡ 0) ⊎ (a′ .number ≡ 12) → ((a ≡ a′) × (out ≡ out′)) ⊎ Fifth lexing document-01 s s′ le source room x x′
+  smaller-setting = smaller lexing document-01 s s′ le source room x x′

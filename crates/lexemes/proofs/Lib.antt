@@ -13,3 +13,4 @@ pub mod Automaton
 pub mod Laws
 pub mod KeptLaws
 pub mod Fates
+pub mod Munch

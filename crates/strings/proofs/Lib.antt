@@ -9,3 +9,4 @@ mod Escapes
 mod Walk
 mod Steps
 pub mod Always
+pub mod Marked
