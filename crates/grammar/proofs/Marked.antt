@@ -18,7 +18,7 @@ use Rattle.blocks.specs.Blocks.{a-good, ends}
 use Rattle.blocks.proofs.Marked.{marked-reading-8}
 use Rattle.lexemes.specs.declared.Lexeme.{Lexeme as Range}
 use Rattle.lexemes.specs.Kinds.{EOF, FLOAT, IDENT, STRING-DOUBLE, STRING-SINGLE, STRING-DOUBLE-VERBATIM, STRING-SINGLE-VERBATIM, STRING-BLOCK}
-use Rattle.lexemes.specs.Words.{ascii}
+use Rattle.lexemes.specs.Letters.{ascii}
 use Rattle.lexemes.specs.Lexeme.{lexeme, block}
 use Rattle.lexemes.specs.Kept.{Lexemes, keep, firstBad}
 use Rattle.lexemes.specs.Kept as lexemes

@@ -14,10 +14,9 @@ use Rattle.regex.specs.Regex.{Rule, _⇒_, eps}
 use Rattle.regex.proofs.Tables.{left}
 use Rattle.regex.proofs.Exists.{closes, Outcome, outcome}
 use Rattle.lexemes.specs.Kinds.{OR, NULL-COAELSE, AND, BIT-XOR, EQ, NE, LE, GE, LHS, RHS, PLUS, MINUS, MUL, MODULO, BIT-NOT, L-BRACK, R-BRACK, L-PAREN, R-PAREN, L-BRACE, R-BRACE, COLON, SEMI, DOTDOTDOT, COMMA, DOLLAR, ERROR-FLOAT-JUNK-AFTER-POINT, ERROR-FLOAT-JUNK-AFTER-EXPONENT, ERROR-FLOAT-JUNK-AFTER-EXPONENT-SIGN, STRING-DOUBLE, STRING-SINGLE, STRING-BLOCK, SINGLE-LINE-SLASH-COMMENT, SINGLE-LINE-HASH-COMMENT, MULTI-LINE-COMMENT}
-use Rattle.lexemes.specs.Letters.{text}
+use Rattle.lexemes.specs.Letters.{text, ascii}
 use Rattle.lexemes.specs.Rules.{rules}
 use Rattle.lexemes.specs.Lexeme.{Beats}
-use Rattle.lexemes.specs.Words.{ascii}
 use Rattle.lexemes.proofs.Letters.{sound, letter-past}
 use Rattle.lexemes.proofs.Keywords.{others}
 

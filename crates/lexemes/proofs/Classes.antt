@@ -1,4 +1,4 @@
--- The table of byte classes as the code has it, and its rule: one test of all 256 entries, which antt computes, and what it says of each.
+-- The table of byte classes and its rule: one test of all 256 entries, which antt computes, and what it says of each.
 -- Assumes nothing.
 use mathlib.Core.Path.{_≡_, refl, sym, _∙_, subst}
 use mathlib.Core.Bool.{Bool, true, false, not, _&&_}
@@ -13,35 +13,16 @@ use Rattle.regex.specs.Regex.{END, Rule}
 use Rattle.regex.proofs.Bools.{and, refutes, and-left, and-right, every, Each, each, all, all-at, implies, implied}
 use Rattle.regex.proofs.Tables.{steps, gives}
 use Rattle.lexemes.specs.Letters.{WHITE, OTHER, letter, next}
-use Rattle.lexemes.specs.Scan.{classOf, asciiClass, Ran, Best}
+use Rattle.lexemes.specs.Scan.{classOf, asciiClass, classTable, Ran, Best}
 use Rattle.lexemes.proofs.Letters.{letter-ascii, next-ascii, by-byte, inside}
 use Rattle.lexemes.proofs.Moves.{Sees, go, stop}
 
-unfoldable pub table : List ℕ
-table =
-    0 ∷ 0 ∷ 0 ∷ 0 ∷ 0 ∷ 0 ∷ 0 ∷ 0 ∷ 0 ∷ 4 ∷ 4 ∷ 0 ∷ 0 ∷ 4 ∷ 0 ∷ 0 ∷
-    0 ∷ 0 ∷ 0 ∷ 0 ∷ 0 ∷ 0 ∷ 0 ∷ 0 ∷ 0 ∷ 0 ∷ 0 ∷ 0 ∷ 0 ∷ 0 ∷ 0 ∷ 0 ∷
-    4 ∷ 10 ∷ 5 ∷ 8 ∷ 10 ∷ 10 ∷ 10 ∷ 6 ∷ 10 ∷ 10 ∷ 10 ∷ 10 ∷ 10 ∷ 10 ∷ 10 ∷ 9 ∷
-    3 ∷ 2 ∷ 2 ∷ 2 ∷ 2 ∷ 2 ∷ 2 ∷ 2 ∷ 2 ∷ 2 ∷ 10 ∷ 10 ∷ 10 ∷ 10 ∷ 10 ∷ 10 ∷
-    7 ∷ 1 ∷ 1 ∷ 1 ∷ 1 ∷ 1 ∷ 1 ∷ 1 ∷ 1 ∷ 1 ∷ 1 ∷ 1 ∷ 1 ∷ 1 ∷ 1 ∷ 1 ∷
-    1 ∷ 1 ∷ 1 ∷ 1 ∷ 1 ∷ 1 ∷ 1 ∷ 1 ∷ 1 ∷ 1 ∷ 1 ∷ 10 ∷ 0 ∷ 10 ∷ 10 ∷ 1 ∷
-    0 ∷ 1 ∷ 1 ∷ 1 ∷ 1 ∷ 1 ∷ 1 ∷ 1 ∷ 1 ∷ 1 ∷ 1 ∷ 1 ∷ 1 ∷ 1 ∷ 1 ∷ 1 ∷
-    1 ∷ 1 ∷ 1 ∷ 1 ∷ 1 ∷ 1 ∷ 1 ∷ 1 ∷ 1 ∷ 1 ∷ 1 ∷ 10 ∷ 10 ∷ 10 ∷ 10 ∷ 0 ∷
-    0 ∷ 0 ∷ 0 ∷ 0 ∷ 0 ∷ 0 ∷ 0 ∷ 0 ∷ 0 ∷ 0 ∷ 0 ∷ 0 ∷ 0 ∷ 0 ∷ 0 ∷ 0 ∷
-    0 ∷ 0 ∷ 0 ∷ 0 ∷ 0 ∷ 0 ∷ 0 ∷ 0 ∷ 0 ∷ 0 ∷ 0 ∷ 0 ∷ 0 ∷ 0 ∷ 0 ∷ 0 ∷
-    0 ∷ 0 ∷ 0 ∷ 0 ∷ 0 ∷ 0 ∷ 0 ∷ 0 ∷ 0 ∷ 0 ∷ 0 ∷ 0 ∷ 0 ∷ 0 ∷ 0 ∷ 0 ∷
-    0 ∷ 0 ∷ 0 ∷ 0 ∷ 0 ∷ 0 ∷ 0 ∷ 0 ∷ 0 ∷ 0 ∷ 0 ∷ 0 ∷ 0 ∷ 0 ∷ 0 ∷ 0 ∷
-    0 ∷ 0 ∷ 0 ∷ 0 ∷ 0 ∷ 0 ∷ 0 ∷ 0 ∷ 0 ∷ 0 ∷ 0 ∷ 0 ∷ 0 ∷ 0 ∷ 0 ∷ 0 ∷
-    0 ∷ 0 ∷ 0 ∷ 0 ∷ 0 ∷ 0 ∷ 0 ∷ 0 ∷ 0 ∷ 0 ∷ 0 ∷ 0 ∷ 0 ∷ 0 ∷ 0 ∷ 0 ∷
-    0 ∷ 0 ∷ 0 ∷ 0 ∷ 0 ∷ 0 ∷ 0 ∷ 0 ∷ 0 ∷ 0 ∷ 0 ∷ 0 ∷ 0 ∷ 0 ∷ 0 ∷ 0 ∷
-    0 ∷ 0 ∷ 0 ∷ 0 ∷ 0 ∷ 0 ∷ 0 ∷ 0 ∷ 0 ∷ 0 ∷ 0 ∷ 0 ∷ 0 ∷ 0 ∷ 0 ∷ 0 ∷ []
-
 right : ℕ → Bool
-right b = eqb (getD table b 0) (classOf b)
+right b = eqb (getD classTable b 0) (48 + classOf b)
 
-pub table-right : (b : ℕ) → b < 256 → getD table b 0 ≡ classOf b
-unfolding right table all classOf asciiClass
-table-right b h = eqb→eq (getD table b 0) (classOf b) (all-at right 256 tt b h)
+pub table-right : (b : ℕ) → b < 256 → getD classTable b 0 ≡ 48 + classOf b
+unfolding right classTable all classOf asciiClass
+table-right b h = eqb→eq (getD classTable b 0) (48 + classOf b) (all-at right 256 tt b h)
 
 -- A byte that has a class is one of ASCII, and not 0.
 pub class-zero : classOf 0 ≡ 0
@@ -123,3 +104,22 @@ up-to P f i h p k g l = by (decLt k i)
     by : Dec (k < i) → P k
     by (yes m) = h k g m
     by (no n) = subst (λ (x : ℕ). P x) (omega arith) p
+
+-- A digit, by its byte.
+digits-are : T (implies 256 (λ b. leb 48 b && leb b 57) (between 2 3))
+unfolding implies classOf asciiClass
+digits-are = tt
+
+digits-only : T (implies 128 (between 2 3) (λ b. leb 48 b && leb b 57))
+unfolding implies classOf asciiClass
+digits-only = tt
+
+pub digit-class : (b : ℕ) → 48 ≤ b → b ≤ 57 → (2 ≤ classOf b) × (classOf b ≤ 3)
+digit-class b h g =
+    let t = implied 256 (λ b. leb 48 b && leb b 57) (between 2 3) digits-are b (omega arith) (and (leb 48 b) (leb b 57) (le→leb 48 b h) (le→leb b 57 g)) in
+    (leb→le 2 (classOf b) (and-left (leb 2 (classOf b)) (leb (classOf b) 3) t), leb→le (classOf b) 3 (and-right (leb 2 (classOf b)) (leb (classOf b) 3) t))
+
+pub class-digit : (b : ℕ) → 2 ≤ classOf b → classOf b ≤ 3 → (48 ≤ b) × (b ≤ 57)
+class-digit b h g =
+    let t = implied 128 (between 2 3) (λ b. leb 48 b && leb b 57) digits-only b (class-small b (omega arith)) (is-between 2 3 b h g) in
+    (leb→le 48 b (and-left (leb 48 b) (leb b 57) t), leb→le b 57 (and-right (leb 48 b) (leb b 57) t))

@@ -115,25 +115,31 @@ pub kept-none : {s : List ℕ} {at : ℕ} → length s ≤ at → Kept s at []
 unfolding keep
 kept-none h = record { lexemes = []; all = none h; kept = refl }
 
--- Two kept lexemes in a row are two lexemes with none but dropped ones between.
-pub data Rest (s : List ℕ) : List Lexeme → Type 0 where
-  nothing : Rest s []
-  next : {l : Lexeme} {ls : List Lexeme} → l .start < l .end → l .end ≤ length s → LexemeAt s (l .start) l → dropped (l .kind) ≡ false → Kept s (l .end) ls → Rest s (l ∷ ls)
+-- Kept lexemes from a place on: none, or one from there on, which ends within the source, and the kept lexemes from its end.
+pub data Rest (s : List ℕ) (at : ℕ) : List Lexeme → Type 0 where
+  nothing : Rest s at []
+  next :
+      {l : Lexeme} {ls : List Lexeme} → at ≤ l .start → l .start < l .end → l .end ≤ length s → LexemeAt s (l .start) l → dropped (l .kind) ≡ false →
+      Kept s (l .end) ls → Rest s at (l ∷ ls)
 
-walk : {s : List ℕ} {at : ℕ} {ls : List Lexeme} → Lexemes s at ls → Rest s (keep ls)
+sooner : {s : List ℕ} {at at′ : ℕ} {xs : List Lexeme} → at ≤ at′ → Rest s at′ xs → Rest s at xs
+sooner h nothing = nothing
+sooner h (next {l = l} f a b d e k) = next {l = l} (omega arith) a b d e k
+
+walk : {s : List ℕ} {at : ℕ} {ls : List Lexeme} → Lexemes s at ls → Rest s at (keep ls)
 unfolding keep
 walk (none h) = nothing
 walk {s} {at} (some {l = l} {ls = ls} g d m) = by (dropped (l .kind)) refl (walk m)
   where
-    by : (b : Bool) → dropped (l .kind) ≡ b → Rest s (keep ls) → Rest s (cond b (keep ls) (l ∷ keep ls))
-    by true e r = r
+    by : (b : Bool) → dropped (l .kind) ≡ b → Rest s (l .end) (keep ls) → Rest s at (cond b (keep ls) (l ∷ keep ls))
+    by true e r = sooner (omega (arith, lexeme-bounds s g d)) r
     by false e r =
         let b = lexeme-bounds s g d in
-        next {l = l} (omega (arith, b)) (b .2) (subst (λ (i : ℕ). LexemeAt s i l) (sym (b .0)) d) e record { lexemes = ls; all = m; kept = refl }
+        next {l = l} (omega (arith, b)) (omega (arith, b)) (b .2) (subst (λ (i : ℕ). LexemeAt s i l) (sym (b .0)) d) e record { lexemes = ls; all = m; kept = refl }
 
 -- The law by which the phrases layer steps: the kept lexemes from a place are none, or one and the kept lexemes from its end.
-pub kept-step : {s : List ℕ} {at : ℕ} {xs : List Lexeme} → Kept s at xs → Rest s xs
-kept-step {s} k = subst (λ (xs : List Lexeme). Rest s xs) (sym (k .kept)) (walk (k .all))
+pub kept-step : {s : List ℕ} {at : ℕ} {xs : List Lexeme} → Kept s at xs → Rest s at xs
+kept-step {s} {at} k = subst (λ (xs : List Lexeme). Rest s at xs) (sym (k .kept)) (walk (k .all))
 
 -- From the cursor's side: with EOF as its current lexeme none is left, and any other is the first that is left.
 pub next-eof : {s : List ℕ} {at : ℕ} {l : Lexeme} → NextKept s at l → l .kind ≡ EOF → Kept s at [] × (l ≡ lexeme EOF at at)
@@ -143,8 +149,8 @@ next-eof {s} {at} {l} n e = by (n .left) (n .is-left) (n .is-first)
     by [] k q = (k, q)
     by (x ∷ ks) k q = absurd (no-eof (kept-step k))
       where
-        no-eof : Rest s (x ∷ ks) → ⊥
-        no-eof (next h g d f r) = lexeme-not-eof s (omega arith) d (sym (ap (λ (y : Lexeme). y .kind) q) ∙ e)
+        no-eof : Rest s at (x ∷ ks) → ⊥
+        no-eof (next f h g d n r) = lexeme-not-eof s (omega arith) d (sym (ap (λ (y : Lexeme). y .kind) q) ∙ e)
 
 pub next-some : {s : List ℕ} {at : ℕ} {l : Lexeme} → NextKept s at l → (l .kind ≡ EOF → ⊥) → (ls : List Lexeme) × Kept s at (l ∷ ls) × Kept s (l .end) ls
 next-some {s} {at} {l} n e = by (n .left) (n .is-left) (n .is-first)
@@ -153,8 +159,15 @@ next-some {s} {at} {l} n e = by (n .left) (n .is-left) (n .is-first)
     by [] k q = absurd (e (ap (λ (y : Lexeme). y .kind) q))
     by (x ∷ ks) k q = (ks, subst (λ (y : Lexeme). Kept s at (y ∷ ks)) (sym q) k, subst (λ (y : Lexeme). Kept s (y .end) ks) (sym q) (rest (kept-step k)))
       where
-        rest : Rest s (x ∷ ks) → Kept s (x .end) ks
-        rest (next h g d f r) = r
+        rest : Rest s at (x ∷ ks) → Kept s (x .end) ks
+        rest (next f h g d n r) = r
+
+-- A kept lexeme stands from the place on, and ends further on, within the source.
+pub next-bounds : {s : List ℕ} {at : ℕ} {l : Lexeme} → NextKept s at l → (l .kind ≡ EOF → ⊥) → (at ≤ l .start) × (l .start < l .end) × (l .end ≤ length s)
+next-bounds {s} {at} {l} n e = by (kept-step (next-some n e .1))
+  where
+    by : {ls : List Lexeme} → Rest s at (l ∷ ls) → (at ≤ l .start) × (l .start < l .end) × (l .end ≤ length s)
+    by (next f h g d q r) = (f, h, g)
 
 -- What the code finds on its way to the next kept lexeme, and to the first bad one.
 pub record Skipping (s : List ℕ) (at i : ℕ) : Type 0 where

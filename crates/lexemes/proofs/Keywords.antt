@@ -19,7 +19,7 @@ use Rattle.lexemes.specs.Letters.{text, letter, next}
 use Rattle.lexemes.specs.Rules.{rules, alpha, alnum}
 use Rattle.lexemes.specs.Lexeme.{Beats, Ruled, longest}
 use Rattle.lexemes.specs.Scan.{classOf, asciiClass, Ran, Best}
-use Rattle.lexemes.specs.Words.{ascii, wordBytes, wordFrom, wordKind, wordNext, wordText, FirstWord, Spells, KeywordAt}
+use Rattle.lexemes.specs.Words.{wordBytes, wordFrom, wordKind, wordNext, wordText, FirstWord, Spells, KeywordAt}
 use Rattle.lexemes.proofs.Letters.{sound}
 use Rattle.lexemes.proofs.Moves.{Sees, is, is-to, is-from, plain, notIn, Rest, at-rest, go}
 use Rattle.lexemes.proofs.Classes.{covers, classed, between, run-stop}

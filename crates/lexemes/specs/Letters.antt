@@ -4,6 +4,8 @@
 use mathlib.Core.Bool.{cond}
 use mathlib.Core.List.{List, [], _∷_}
 use Prim.Native.Nat.{ℕ, _+_, _*_, _%_, min}
+use Prim.Native.Char.{code}
+use Prim.Native.String.{String, [] as nil, _∷_ as _then_}
 use lib.Dec.{ltb}
 use lib.ListN.{length, getD}
 use Rattle.regex.specs.Regex.{Text, END, Range, _to_, within}
@@ -42,3 +44,8 @@ next s i = cond (ltb i (length s)) (min (i + width (getD s i 0)) (length s)) (i 
 
 abbrev pub text : List ℕ → Text
 text s = record { letter = letter s; next = next s }
+
+-- The bytes of an ASCII text.
+abbrev pub ascii : String → List ℕ
+ascii nil = []
+ascii (c then s) = code c ∷ ascii s

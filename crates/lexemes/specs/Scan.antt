@@ -2,7 +2,7 @@
 -- Assumes nothing.
 use mathlib.Core.Path.{_≡_}
 use mathlib.Core.Bool.{Bool, true, false, cond}
-use mathlib.Core.List.{List, [], _∷_}
+use mathlib.Core.List.{List, [], _∷_, _++_}
 use mathlib.Core.Logic.{_⊎_}
 use Prim.Native.Nat.{ℕ, _+_, _≤_, _<_}
 use Prim.Native.Char.{code}
@@ -10,7 +10,7 @@ use lib.Dec.{eqb, ltb}
 use lib.ListN.{length, getD}
 use Rattle.regex.specs.Regex.{Range, _to_, within, Class, only, but, Re, eps, one, _·_, _∣_, star, Rule, _⇒_, inClass, Longest, Nothing, Takes}
 use Rattle.lexemes.specs.Kinds.{OR, NULL-COAELSE, AND, BIT-OR, BIT-XOR, BIT-AND, EQ, NE, LT, GT, LE, GE, LHS, RHS, PLUS, MINUS, MUL, MODULO, NOT, BIT-NOT, L-BRACK, R-BRACK, L-PAREN, R-PAREN, L-BRACE, R-BRACE, COLON, SEMI, DOT, COMMA, DOLLAR, ASSIGN, QUESTION-MARK, FLOAT, ERROR-FLOAT-JUNK-AFTER-POINT, ERROR-FLOAT-JUNK-AFTER-EXPONENT, ERROR-FLOAT-JUNK-AFTER-EXPONENT-SIGN, STRING-DOUBLE, STRING-SINGLE, STRING-DOUBLE-VERBATIM, STRING-SINGLE-VERBATIM, ERROR-STRING-VERBATIM-MISSING-QUOTES, SINGLE-LINE-SLASH-COMMENT, SINGLE-LINE-HASH-COMMENT, MULTI-LINE-COMMENT, ERROR-COMMENT-UNTERMINATED}
-use Rattle.lexemes.specs.Letters.{text, letter, next}
+use Rattle.lexemes.specs.Letters.{text, letter, next, ascii}
 use Rattle.lexemes.specs.Rules.{_–_, chr, some, alpha, digit, noDigit, groups, exponent, ee, sign, opt, line, newLine, space, noStar, noStarSlash, noSlash}
 use Rattle.lexemes.specs.Lexeme.{Beats, Ruled}
 
@@ -46,6 +46,26 @@ asciiClass b =
 
 unfoldable pub classOf : ℕ → ℕ
 classOf b = cond (ltb b 128) (asciiClass b) 0
+
+-- The table of classes, as src/bytes.rt has it, sixteen to a row: `0` for class 0 and so on up to `:` for 10.
+unfoldable pub classTable : List ℕ
+classTable =
+    ascii "0000000004400400" ++
+    ascii "0000000000000000" ++
+    ascii "4:58:::6:::::::9" ++
+    ascii "3222222222::::::" ++
+    ascii "7111111111111111" ++
+    ascii "11111111111:0::1" ++
+    ascii "0111111111111111" ++
+    ascii "11111111111::::0" ++
+    ascii "0000000000000000" ++
+    ascii "0000000000000000" ++
+    ascii "0000000000000000" ++
+    ascii "0000000000000000" ++
+    ascii "0000000000000000" ++
+    ascii "0000000000000000" ++
+    ascii "0000000000000000" ++
+    ascii "0000000000000000"
 
 -- The bytes from f up to r have classes lo to hi, and the byte at r has not.
 pub record Ran (s : List ℕ) (f lo hi r : ℕ) : Type 0 where

@@ -4,15 +4,9 @@ use mathlib.Core.Path.{_≡_}
 use mathlib.Core.List.{List, [], _∷_, _++_}
 use mathlib.Core.Logic.{_⊎_}
 use Prim.Native.Nat.{ℕ, _+_, _-_, _≤_, _<_}
-use Prim.Native.Char.{code}
-use Prim.Native.String.{String, [] as nil, _∷_ as _then_}
 use lib.ListN.{getD, take, drop}
+use Rattle.lexemes.specs.Letters.{ascii}
 use Rattle.lexemes.specs.Kinds.{IDENT, TAILSTRICT-KW, LOCAL-KW, IMPORTSTR-KW, IMPORTBIN-KW, IMPORT-KW, IF-KW, THEN-KW, ELSE-KW, FUNCTION-KW, ERROR-KW, IN-KW, NULL-KW, TRUE-KW, FALSE-KW, SELF-KW, SUPER-KW, FOR-KW, ASSERT-KW}
-
--- The bytes of an ASCII text.
-abbrev pub ascii : String → List ℕ
-ascii nil = []
-ascii (c then s) = code c ∷ ascii s
 
 -- The keywords, one after the other; where each starts; its kind; the next one that has the same first letter.
 unfoldable pub wordBytes : List ℕ

@@ -5,7 +5,7 @@ ghost use Prim.Native.Nat.{ℕ, _+_, _≤_, _<_, min};
 ghost use lib.ListN.{length, getD};
 ghost use Rattle.regex.specs.Regex.{within};
 ghost use Rattle.lexemes.specs.Letters.{WHITE, OTHER, letter, next, codePoint, whiteSpace};
-ghost use Rattle.lexemes.specs.Scan.{classOf, Ran};
+ghost use Rattle.lexemes.specs.Scan.{classOf, classTable, Ran};
 
 // What a byte begins, or goes on with: the classes by name.
 pub struct Class {
@@ -36,270 +36,31 @@ impl Class {
     pub const OPERATOR: u8 = 10; // any other that an operator begins with
 }
 
-// The class of each byte value.
-const CLASS: [u8; 256] = [
-    0,
-    0,
-    0,
-    0,
-    0,
-    0,
-    0,
-    0,
-    0,
-    4,
-    4,
-    0,
-    0,
-    4,
-    0,
-    0,
-    0,
-    0,
-    0,
-    0,
-    0,
-    0,
-    0,
-    0,
-    0,
-    0,
-    0,
-    0,
-    0,
-    0,
-    0,
-    0,
-    4,
-    10,
-    5,
-    8,
-    10,
-    10,
-    10,
-    6,
-    10,
-    10,
-    10,
-    10,
-    10,
-    10,
-    10,
-    9,
-    3,
-    2,
-    2,
-    2,
-    2,
-    2,
-    2,
-    2,
-    2,
-    2,
-    10,
-    10,
-    10,
-    10,
-    10,
-    10,
-    7,
-    1,
-    1,
-    1,
-    1,
-    1,
-    1,
-    1,
-    1,
-    1,
-    1,
-    1,
-    1,
-    1,
-    1,
-    1,
-    1,
-    1,
-    1,
-    1,
-    1,
-    1,
-    1,
-    1,
-    1,
-    1,
-    1,
-    10,
-    0,
-    10,
-    10,
-    1,
-    0,
-    1,
-    1,
-    1,
-    1,
-    1,
-    1,
-    1,
-    1,
-    1,
-    1,
-    1,
-    1,
-    1,
-    1,
-    1,
-    1,
-    1,
-    1,
-    1,
-    1,
-    1,
-    1,
-    1,
-    1,
-    1,
-    1,
-    10,
-    10,
-    10,
-    10,
-    0,
-    0,
-    0,
-    0,
-    0,
-    0,
-    0,
-    0,
-    0,
-    0,
-    0,
-    0,
-    0,
-    0,
-    0,
-    0,
-    0,
-    0,
-    0,
-    0,
-    0,
-    0,
-    0,
-    0,
-    0,
-    0,
-    0,
-    0,
-    0,
-    0,
-    0,
-    0,
-    0,
-    0,
-    0,
-    0,
-    0,
-    0,
-    0,
-    0,
-    0,
-    0,
-    0,
-    0,
-    0,
-    0,
-    0,
-    0,
-    0,
-    0,
-    0,
-    0,
-    0,
-    0,
-    0,
-    0,
-    0,
-    0,
-    0,
-    0,
-    0,
-    0,
-    0,
-    0,
-    0,
-    0,
-    0,
-    0,
-    0,
-    0,
-    0,
-    0,
-    0,
-    0,
-    0,
-    0,
-    0,
-    0,
-    0,
-    0,
-    0,
-    0,
-    0,
-    0,
-    0,
-    0,
-    0,
-    0,
-    0,
-    0,
-    0,
-    0,
-    0,
-    0,
-    0,
-    0,
-    0,
-    0,
-    0,
-    0,
-    0,
-    0,
-    0,
-    0,
-    0,
-    0,
-    0,
-    0,
-    0,
-    0,
-    0,
-    0,
-    0,
-    0,
-    0,
-    0,
-    0,
-    0,
-    0,
-    0,
-    0,
-    0,
-    0,
-    0,
-    0,
-    0,
-    0,
-    0,
-    0,
-];
+// The class of each byte value, sixteen to a row, `0` for 0 and so on up to `:` for 10.
+pub const CLASS: [u8; 256] = *b"\
+    0000000004400400\
+    0000000000000000\
+    4:58:::6:::::::9\
+    3222222222::::::\
+    7111111111111111\
+    11111111111:0::1\
+    0111111111111111\
+    11111111111::::0\
+    0000000000000000\
+    0000000000000000\
+    0000000000000000\
+    0000000000000000\
+    0000000000000000\
+    0000000000000000\
+    0000000000000000\
+    0000000000000000";
 
-pub fn class_of(b: u8) -> u8
+// The table is handed down, since a constant is set up anew wherever it is named.
+pub fn class_of(classes: &[u8; 256], b: u8) -> u8
+    requires { ⌜ now classes ≡ classTable ⌝ }
     ensures { λ r. ⌜ r ≡ classOf b ⌝ }
 {
-    CLASS[b as usize]
+    classes[b as usize] - b'0'
 }
 
 // The byte at i; 0, which begins no rule and goes on with none, past the end.
@@ -310,13 +71,13 @@ pub fn peek(src: &[u8], i: usize) -> u8
 }
 
 // The end of the run of bytes from `from` on whose classes are lo to hi.
-pub fn run(src: &[u8], from: usize, lo: u8, hi: u8) -> usize
-    requires { ⌜ (from ≤ length (now src)) × (1 ≤ lo) ⌝ }
+pub fn run(src: &[u8], from: usize, lo: u8, hi: u8, classes: &[u8; 256]) -> usize
+    requires { ⌜ (from ≤ length (now src)) × (1 ≤ lo) × (now classes ≡ classTable) ⌝ }
     ensures { λ r. ⌜ Ran (now (src .entry)) from lo hi r ⌝ }
 {
     let mut i = from;
     while i < src.len() {
-        let c = class_of(src[i]);
+        let c = class_of(classes, src[i]);
         if c < lo {
             return i;
         }

@@ -3,8 +3,9 @@ ghost use mathlib.Core.Path.{_≡_};
 ghost use Prim.Native.Nat.{ℕ};
 ghost use Rattle.lexemes.specs.Kept.{dropped, bad, NextKept, FirstBad, Stands};
 use super::Lexeme;
+use super::bytes::CLASS;
 use super::kinds::Kind;
-use super::lexer;
+use super::scan;
 
 // White space and good comments, which stand together in `SyntaxKind`.
 fn is_dropped(kind: u8) -> bool
@@ -40,9 +41,10 @@ fn is_bad(kind: u8) -> bool
 pub fn next_kept(src: &[u8], at: usize) -> Lexeme
     ensures { λ r. ⌜ NextKept (now (src .entry)) at r ⌝ }
 {
+    let classes = CLASS;
     let mut i = at;
     while i < src.len() {
-        let l = lexer::lexeme_at(src, i);
+        let l = scan::lexeme_by(src, i, &classes);
         if !is_dropped(l.kind) {
             return l;
         }
@@ -59,9 +61,10 @@ pub fn next_kept(src: &[u8], at: usize) -> Lexeme
 pub fn first_bad(src: &[u8]) -> Lexeme
     ensures { λ r. ⌜ FirstBad (now (src .entry)) r ⌝ }
 {
+    let classes = CLASS;
     let mut i = 0;
     while i < src.len() {
-        let l = lexer::lexeme_at(src, i);
+        let l = scan::lexeme_by(src, i, &classes);
         if is_bad(l.kind) {
             return l;
         }

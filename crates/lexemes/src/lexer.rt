@@ -1,117 +1,13 @@
 // The lexeme at a place of the source.
-ghost use mathlib.Core.Path.{_≡_};
-ghost use Prim.Native.Nat.{ℕ, _<_};
-ghost use lib.ListN.{length, getD};
-ghost use Rattle.lexemes.specs.Lexeme.{Ruled, LexemeAt, lexeme, blockKind, blockEnd};
-ghost use Rattle.lexemes.specs.Scan.{classOf};
+ghost use Rattle.lexemes.specs.Lexeme.{LexemeAt};
 use super::Lexeme;
-use super::Matched;
-use super::at;
-use super::bytes;
-use super::bytes::Class;
-use super::comments;
-use super::kinds::Kind;
-use super::numbers;
-use super::operators;
-use super::quoted;
-use super::words;
-use blocks::Block;
+use super::bytes::CLASS;
+use super::scan;
 
-fn blank_at(src: &[u8], at: usize) -> Matched
-    requires { ⌜ (at < length (now src)) × (classOf (getD (now src) at 0) ≡ 4) ⌝ }
-    ensures { λ r. ⌜ Ruled (now (src .entry)) at (r .kind) (r .end) ⌝ }
-{
-    Matched {
-        kind: Kind::WHITESPACE,
-        end: bytes::run(src, at + 1, Class::BLANK, Class::BLANK),
-    }
-}
-
-// A character that no rule takes.
-fn error_at(src: &[u8], at: usize) -> Matched
-    requires { ⌜ (at < length (now src)) × (classOf (getD (now src) at 0) ≡ 0) ⌝ }
-    ensures { λ r. ⌜ Ruled (now (src .entry)) at (r .kind) (r .end) ⌝ }
-{
-    Matched {
-        kind: Kind::LEXING_ERROR,
-        end: bytes::after(src, at),
-    }
-}
-
-// What the rules match at a place of the source: the scanner for the class of its first byte.
-fn scan(src: &[u8], at: usize) -> Matched
-    requires { ⌜ at < length (now src) ⌝ }
-    ensures { λ r. ⌜ Ruled (now (src .entry)) at (r .kind) (r .end) ⌝ }
-{
-    let c = bytes::class_of(src[at]);
-    match c {
-        Class::ALPHA => words::word_at(src, at),
-        Class::DIGIT => numbers::number_at(src, at),
-        Class::ZERO => numbers::number_at(src, at),
-        Class::BLANK => blank_at(src, at),
-        Class::DOUBLE => quoted::string_at(src, at, b'"', Kind::STRING_DOUBLE),
-        Class::SINGLE => quoted::string_at(src, at, b'\'', Kind::STRING_SINGLE),
-        Class::AT => at::at_sign(src, at),
-        Class::HASH => comments::hash_at(src, at),
-        Class::SLASH => comments::slash_at(src, at),
-        Class::OPERATOR => operators::operator_at(src, at),
-        _ => error_at(src, at),
-    }
-}
-
-// A block's lexeme, which began at `at`: its kind by its fault.
-fn of_block(at: usize, b: Block) -> Lexeme
-    ensures { λ r. ⌜ r ≡ lexeme (blockKind b) at (blockEnd b) ⌝ }
-{
-    match b {
-        Block::Good(end) => Lexeme {
-            kind: Kind::STRING_BLOCK,
-            start: at,
-            end,
-        },
-        Block::UnexpectedEnd(end) => Lexeme {
-            kind: Kind::ERROR_STRING_BLOCK_UNEXPECTED_END,
-            start: at,
-            end,
-        },
-        Block::MissingNewLine(end) => Lexeme {
-            kind: Kind::ERROR_STRING_BLOCK_MISSING_NEW_LINE,
-            start: at,
-            end,
-        },
-        Block::MissingTermination(end) => Lexeme {
-            kind: Kind::ERROR_STRING_BLOCK_MISSING_TERMINATION,
-            start: at,
-            end,
-        },
-        Block::MissingIndent(end) => Lexeme {
-            kind: Kind::ERROR_STRING_BLOCK_MISSING_INDENT,
-            start: at,
-            end,
-        },
-    }
-}
-
-// The lexeme at a place of the source; past its end, EOF.
+// Past the end of the source that is EOF, with no character.
 pub fn lexeme_at(src: &[u8], at: usize) -> Lexeme
     ensures { λ r. ⌜ LexemeAt (now (src .entry)) at r ⌝ }
 {
-    if src.len() <= at {
-        return Lexeme {
-            kind: Kind::EOF,
-            start: at,
-            end: at,
-        };
-    }
-    let m = scan(src, at);
-    let kind = m.kind;
-    let end = m.end;
-    if kind != Kind::STRING_BLOCK {
-        return Lexeme {
-            kind,
-            start: at,
-            end,
-        };
-    }
-    of_block(at, blocks::block_at(src, end))
+    let classes = CLASS;
+    scan::lexeme_by(src, at, &classes)
 }

@@ -1,14 +1,15 @@
 // Lexemes: the longest match of the rules of syntax_kinds.rs, written out, and the kept lexemes of a source.
-pub mod at; // what begins with `@`: verbatim strings, and junk
-pub mod bytes; // bytes, characters and their classes
-pub mod comments; // what begins with `/` or `#`
+mod at; // what begins with `@`: verbatim strings, and junk
+mod bytes; // bytes, characters and their classes
+mod comments; // what begins with `/` or `#`
 pub mod kept; // the next kept lexeme, a cursor over them, the first bad lexeme
 pub mod kinds; // the kinds by name
 pub mod lexer; // the lexeme at a place
-pub mod numbers; // numbers and their junk rules
-pub mod operators; // operators and punctuation
-pub mod quoted; // strings in quotes with escapes
-pub mod words; // identifiers and keywords
+mod numbers; // numbers and their junk rules
+mod operators; // operators and punctuation
+mod quoted; // strings in quotes with escapes
+mod scan; // which of these it is, and blocks
+mod words; // identifiers and keywords
 
 // What the rules match at a place: a kind, and where the match ends.
 pub struct Matched {

@@ -4,23 +4,41 @@ ghost use mathlib.Core.Logic.{_⊎_};
 ghost use Prim.Native.Nat.{ℕ, _+_, _≤_, _<_};
 ghost use lib.ListN.{length, getD};
 ghost use Rattle.lexemes.specs.Lexeme.{Ruled};
-ghost use Rattle.lexemes.specs.Scan.{Says, IsDigit, Digits, Tried, Ended, ExponentAt, FractionAt, afterSign, afterE};
+ghost use Rattle.lexemes.specs.Scan.{Says, Ran, IsDigit, Digits, Tried, Ended, ExponentAt, FractionAt, afterSign, afterE};
 use super::Matched;
 use super::bytes;
-use super::bytes::Class;
 use super::kinds::Kind;
 
 fn is_digit(src: &[u8], i: usize) -> bool
     ensures { λ r. ⌜ Says r (IsDigit (getD (now (src .entry)) i 0)) ⌝ }
 {
-    let c = bytes::class_of(bytes::peek(src, i));
-    if c < Class::DIGIT {
+    let b = bytes::peek(src, i);
+    if b < b'0' {
         return false;
     }
-    if Class::ZERO < c {
+    if b'9' < b {
         return false;
     }
     true
+}
+
+// The end of the run of digits from `from` on.
+fn digit_run(src: &[u8], from: usize) -> usize
+    requires { ⌜ from ≤ length (now src) ⌝ }
+    ensures { λ r. ⌜ Ran (now (src .entry)) from 2 3 r ⌝ }
+{
+    let mut i = from;
+    while i < src.len() {
+        let b = src[i];
+        if b < b'0' {
+            return i;
+        }
+        if b'9' < b {
+            return i;
+        }
+        i += 1;
+    }
+    i
 }
 
 // The end of `[0-9]*(_[0-9]+)*` from `from` on.
@@ -28,12 +46,12 @@ fn digits_from(src: &[u8], from: usize) -> usize
     requires { ⌜ from ≤ length (now src) ⌝ }
     ensures { λ r. ⌜ Digits (now (src .entry)) from r ⌝ }
 {
-    let mut i = bytes::run(src, from, Class::DIGIT, Class::ZERO);
+    let mut i = digit_run(src, from);
     while bytes::peek(src, i) == b'_' {
         if !is_digit(src, i + 1) {
             return i;
         }
-        i = bytes::run(src, i + 2, Class::DIGIT, Class::ZERO);
+        i = digit_run(src, i + 2);
     }
     i
 }

@@ -3,7 +3,7 @@ ghost use mathlib.Core.Path.{_≡_};
 ghost use mathlib.Core.List.{List};
 ghost use Prim.Native.Nat.{ℕ, _+_, _≤_, _<_};
 ghost use lib.ListN.{length, getD};
-ghost use Rattle.lexemes.specs.Scan.{classOf, Says};
+ghost use Rattle.lexemes.specs.Scan.{classOf, classTable, Says};
 ghost use Rattle.lexemes.specs.Lexeme.{Ruled};
 ghost use Rattle.lexemes.specs.Words.{FirstWord, Spells, KeywordAt, wordBytes, wordFrom, wordKind, wordNext, wordText};
 use super::Matched;
@@ -12,103 +12,8 @@ use super::bytes::Class;
 use super::kinds::Kind;
 
 // The keywords in the order of their kinds, one after the other; where each starts; its kind; the next that has the same first letter.
-const BYTES: [u8; 95] = [
-    116,
-    97,
-    105,
-    108,
-    115,
-    116,
-    114,
-    105,
-    99,
-    116,
-    108,
-    111,
-    99,
-    97,
-    108,
-    105,
-    109,
-    112,
-    111,
-    114,
-    116,
-    115,
-    116,
-    114,
-    105,
-    109,
-    112,
-    111,
-    114,
-    116,
-    98,
-    105,
-    110,
-    105,
-    109,
-    112,
-    111,
-    114,
-    116,
-    105,
-    102,
-    116,
-    104,
-    101,
-    110,
-    101,
-    108,
-    115,
-    101,
-    102,
-    117,
-    110,
-    99,
-    116,
-    105,
-    111,
-    110,
-    101,
-    114,
-    114,
-    111,
-    114,
-    105,
-    110,
-    110,
-    117,
-    108,
-    108,
-    116,
-    114,
-    117,
-    101,
-    102,
-    97,
-    108,
-    115,
-    101,
-    115,
-    101,
-    108,
-    102,
-    115,
-    117,
-    112,
-    101,
-    114,
-    102,
-    111,
-    114,
-    97,
-    115,
-    115,
-    101,
-    114,
-    116,
-];
+const BYTES: [u8; 95] =
+    *b"tailstrictlocalimportstrimportbinimportifthenelsefunctionerrorinnulltruefalseselfsuperforassert";
 
 const FROM: [usize; 19] = [
     0,
@@ -255,11 +160,11 @@ fn keyword(src: &[u8], at: usize, end: usize) -> u8
     Kind::IDENT
 }
 
-pub fn word_at(src: &[u8], at: usize) -> Matched
-    requires { ⌜ (at < length (now src)) × (classOf (getD (now src) at 0) ≡ 1) ⌝ }
+pub fn word_at(src: &[u8], at: usize, classes: &[u8; 256]) -> Matched
+    requires { ⌜ (at < length (now src)) × (classOf (getD (now src) at 0) ≡ 1) × (now classes ≡ classTable) ⌝ }
     ensures { λ r. ⌜ Ruled (now (src .entry)) at (r .kind) (r .end) ⌝ }
 {
-    let end = bytes::run(src, at + 1, Class::ALPHA, Class::ZERO);
+    let end = bytes::run(src, at + 1, Class::ALPHA, Class::ZERO, classes);
     let kind = keyword(src, at, end);
     Matched { kind, end }
 }

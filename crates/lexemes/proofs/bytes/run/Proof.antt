@@ -11,11 +11,11 @@ use Rattle.lexemes.proofs.bytes.run.Statement.{statement}
 use Rattle.lexemes.proofs.bytes.run.Tie as tie
 
 abbrev Inv-loop : tie.InvT-loop
-Inv-loop src from lo hi i₀ i =
+Inv-loop src from lo hi classes i₀ i =
     (from ≤ i) × (i ≤ length src) × ((k : ℕ) → from ≤ k → k < i → (lo ≤ classOf (getD src k 0)) × (classOf (getD src k 0) ≤ hi))
 
 abbrev μ-loop : tie.MeasureT-loop
-μ-loop src from lo hi i₀ i = length src - i
+μ-loop src from lo hi classes i₀ i = length src - i
 
 loop-holds : tie.Need-loop-holds Inv-loop μ-loop
 loop-holds c = (search needs, search needs, λ k g l. omega arith)
@@ -53,7 +53,8 @@ loop-again c =
     let loop = c .before .before .before .before .before .loop in
     let class-of = c .before .before .class-of in
     let if1 = c .before .if1 in
-    let if2 = c .if2 in (
+    let if2 = c .if2 in
+    (
       omega arith,
       omega arith,
       up-to (λ (k : ℕ). (args .lo ≤ classOf (getD s k 0)) × (classOf (getD s k 0) ≤ args .hi)) (args .from) (loop .i) (loop .inv .2)

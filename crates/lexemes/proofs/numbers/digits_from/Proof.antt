@@ -17,15 +17,13 @@ Inv-loop src from i₀ i = (from ≤ i) × (i ≤ length src) × Hops src from i
 abbrev μ-loop : tie.MeasureT-loop
 μ-loop src from i₀ i = length src - i
 
-run-requires : tie.Need-run-requires Inv-loop μ-loop
-run-requires c κs =
-    let pre = c .before .pre in
-    (pre, omega arith)
+digit-run-requires : tie.Need-digit-run-requires Inv-loop μ-loop
+digit-run-requires c κs = search needs
 
 loop-holds : tie.Need-loop-holds Inv-loop μ-loop
 loop-holds c =
-    let run = c .run in
-    (run .ensures .start, run .ensures .end, run-hops (run .ensures) here, λ d. run .ensures .over (d .0) (d .1))
+    let digit-run = c .digit-run in
+    (digit-run .ensures .start, digit-run .ensures .end, run-hops (digit-run .ensures) here, λ d. digit-run .ensures .over (d .0) (d .1))
 
 peek-requires : tie.Need-peek-requires Inv-loop μ-loop
 peek-requires c κs = search needs
@@ -43,8 +41,8 @@ returns c =
     let if2 = c .if2 in
     record { start = loop .inv .0; end = loop .inv .1; hops = loop .inv .2; over = loop .inv .3; no-group = λ e. denied (not-true (is-digit .result) (if2 .taken)) (is-digit .ensures) }
 
-add-run : tie.Need-add-run Inv-loop μ-loop
-add-run c =
+add-digit-run : tie.Need-add-digit-run Inv-loop μ-loop
+add-digit-run c =
     let args = c .before .before .before .before .before .before .before .args in
     let s = args .src .now in
     let loop = c .before .before .before .before .loop in
@@ -52,8 +50,8 @@ add-run c =
     let if2 = c .if2 in
     omega (arith, digit-inside s (loop .i + 1) (said (not-false (is-digit .result) (if2 .left)) (is-digit .ensures)))
 
-run-requires-2 : tie.Need-run-requires-2 Inv-loop μ-loop
-run-requires-2 c κs =
+digit-run-requires-2 : tie.Need-digit-run-requires-2 Inv-loop μ-loop
+digit-run-requires-2 c κs =
     let args = c .before .before .before .before .before .before .before .args in
     let s = args .src .now in
     let loop = c .before .before .before .before .loop in
@@ -63,21 +61,21 @@ run-requires-2 c κs =
 
 loop-less : tie.Need-loop-less Inv-loop μ-loop
 loop-less c =
-    let run2 = c .run2 in
-    omega (arith, run2 .ensures .start, run2 .ensures .end)
+    let digit-run2 = c .digit-run2 in
+    omega (arith, digit-run2 .ensures .start, digit-run2 .ensures .end)
 
 loop-again : tie.Need-loop-again Inv-loop μ-loop
 loop-again c =
     let loop = c .before .before .before .before .before .loop in
-    let run2 = c .run2 in
+    let digit-run2 = c .digit-run2 in
     let peek = c .before .before .before .before .peek in
     let if1 = c .before .before .before .if1 in
     let is-digit = c .before .before .is-digit in
     let if2 = c .before .if2 in (
-      omega (arith, loop .inv .0, run2 .ensures .start),
-      run2 .ensures .end,
-      run-hops (run2 .ensures) (group-on (loop .inv .2) (sym (peek .ensures) ∙ if1 .taken) (said (not-false (is-digit .result) (if2 .left)) (is-digit .ensures)) refl),
-      λ d. run2 .ensures .over (d .0) (d .1),
+      omega (arith, loop .inv .0, digit-run2 .ensures .start),
+      digit-run2 .ensures .end,
+      run-hops (digit-run2 .ensures) (group-on (loop .inv .2) (sym (peek .ensures) ∙ if1 .taken) (said (not-false (is-digit .result) (if2 .left)) (is-digit .ensures)) refl),
+      λ d. digit-run2 .ensures .over (d .0) (d .1),
     )
 
 returns-2 : tie.Need-returns-2 Inv-loop μ-loop
@@ -93,14 +91,14 @@ digits-from-spec =
     (tie.spec
     Inv-loop
     μ-loop
-    run-requires
+    digit-run-requires
     loop-holds
     peek-requires
     add-is-digit
     is-digit-requires
     returns
-    add-run
-    run-requires-2
+    add-digit-run
+    digit-run-requires-2
     loop-less
     loop-again
     returns-2)

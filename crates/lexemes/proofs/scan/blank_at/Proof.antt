@@ -1,9 +1,9 @@
--- `lexemes::lexer::blank_at` meets its contract: a run of blanks.
+-- `lexemes::scan::blank_at` meets its contract: a run of blanks.
 -- Assumes nothing.
 use borrow.Author.Needs.{needs}
 use Rattle.lexemes.proofs.Firsts.{blank-scanned}
-use Rattle.lexemes.proofs.lexer.blank_at.Statement.{statement}
-use Rattle.lexemes.proofs.lexer.blank_at.Tie as tie
+use Rattle.lexemes.proofs.scan.blank_at.Statement.{statement}
+use Rattle.lexemes.proofs.scan.blank_at.Tie as tie
 
 add-run : tie.Need-add-run
 add-run c = search needs

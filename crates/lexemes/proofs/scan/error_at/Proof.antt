@@ -1,9 +1,9 @@
--- `lexemes::lexer::error_at` meets its contract: no rule begins with the byte.
+-- `lexemes::scan::error_at` meets its contract: no rule begins with the byte.
 -- Assumes nothing.
 use borrow.Author.Needs.{needs}
 use Rattle.lexemes.proofs.Firsts.{error-scanned}
-use Rattle.lexemes.proofs.lexer.error_at.Statement.{statement}
-use Rattle.lexemes.proofs.lexer.error_at.Tie as tie
+use Rattle.lexemes.proofs.scan.error_at.Statement.{statement}
+use Rattle.lexemes.proofs.scan.error_at.Tie as tie
 
 after-requires : tie.Need-after-requires
 after-requires c κs = search needs

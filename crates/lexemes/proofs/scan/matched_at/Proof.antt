@@ -1,12 +1,12 @@
--- `lexemes::lexer::scan` meets its contract: each scanner's answer, by the class of the first byte.
+-- `lexemes::scan::matched_at` meets its contract: each scanner's answer, by the class of the first byte.
 -- Assumes nothing.
 use mathlib.Core.Path.{refl, sym, _∙_}
 use mathlib.Core.Logic.{inl, inr}
 use lib.ListN.{getD}
 use borrow.Author.Needs.{needs}
 use Rattle.lexemes.proofs.Firsts.{only, is-byte, no-class}
-use Rattle.lexemes.proofs.lexer.scan.Statement.{statement}
-use Rattle.lexemes.proofs.lexer.scan.Tie as tie
+use Rattle.lexemes.proofs.scan.matched_at.Statement.{statement}
+use Rattle.lexemes.proofs.scan.matched_at.Tie as tie
 
 shared-slice-read-class-of : tie.Need-shared-slice-read-class-of
 shared-slice-read-class-of c = search needs
@@ -34,7 +34,7 @@ string-at-requires c κs =
     let s = args .src .now in
     let class-of = c .before .class-of in
     let match = c .match in
-    (pre, is-byte 5 34 (getD s (args .at) 0) tt (sym (class-of .ensures) ∙ match .keys5), inl (refl, refl))
+    (pre .0, is-byte 5 34 (getD s (args .at) 0) tt (sym (class-of .ensures) ∙ match .keys5), inl (refl, refl))
 
 string-at-requires-2 : tie.Need-string-at-requires-2
 unfolding only
@@ -44,7 +44,7 @@ string-at-requires-2 c κs =
     let s = args .src .now in
     let class-of = c .before .class-of in
     let match = c .match in
-    (pre, is-byte 6 39 (getD s (args .at) 0) tt (sym (class-of .ensures) ∙ match .keys6), inr (refl, refl))
+    (pre .0, is-byte 6 39 (getD s (args .at) 0) tt (sym (class-of .ensures) ∙ match .keys6), inr (refl, refl))
 
 at-sign-requires : tie.Need-at-sign-requires
 unfolding only
@@ -54,7 +54,7 @@ at-sign-requires c κs =
     let s = args .src .now in
     let class-of = c .before .class-of in
     let match = c .match in
-    (pre, is-byte 7 64 (getD s (args .at) 0) tt (sym (class-of .ensures) ∙ match .keys7))
+    (pre .0, is-byte 7 64 (getD s (args .at) 0) tt (sym (class-of .ensures) ∙ match .keys7))
 
 hash-at-requires : tie.Need-hash-at-requires
 unfolding only
@@ -64,7 +64,7 @@ hash-at-requires c κs =
     let s = args .src .now in
     let class-of = c .before .class-of in
     let match = c .match in
-    (pre, is-byte 8 35 (getD s (args .at) 0) tt (sym (class-of .ensures) ∙ match .keys8))
+    (pre .0, is-byte 8 35 (getD s (args .at) 0) tt (sym (class-of .ensures) ∙ match .keys8))
 
 slash-at-requires : tie.Need-slash-at-requires
 unfolding only
@@ -74,7 +74,7 @@ slash-at-requires c κs =
     let s = args .src .now in
     let class-of = c .before .class-of in
     let match = c .match in
-    (pre, is-byte 9 47 (getD s (args .at) 0) tt (sym (class-of .ensures) ∙ match .keys9))
+    (pre .0, is-byte 9 47 (getD s (args .at) 0) tt (sym (class-of .ensures) ∙ match .keys9))
 
 operator-at-requires : tie.Need-operator-at-requires
 operator-at-requires c κs = search needs
@@ -86,7 +86,7 @@ error-at-requires c κs =
     let s = args .src .now in
     let class-of = c .before .class-of in
     let match = c .match in
-    (pre, no-class (getD s (args .at) 0) (class-of .result) (class-of .ensures) (match .rest))
+    (pre .0, no-class (getD s (args .at) 0) (class-of .result) (class-of .ensures) (match .rest))
 
 returns : tie.Need-returns
 returns c = search needs
@@ -121,8 +121,8 @@ returns-10 c = search needs
 returns-11 : tie.Need-returns-11
 returns-11 c = search needs
 
-pub scan-spec : {M : Type 1} → statement M
-scan-spec =
+pub matched-at-spec : {M : Type 1} → statement M
+matched-at-spec =
     tie.close
     (tie.spec
     shared-slice-read-class-of

@@ -1,11 +1,11 @@
--- `lexemes::lexer::of_block` meets its contract, variant by variant.
+-- `lexemes::scan::of_block` meets its contract, variant by variant.
 -- Assumes nothing.
 use mathlib.Core.Path.{sym, ap}
 use borrow.Author.Needs.{needs}
 use Rattle.blocks.specs.declared.Block.{Block}
 use Rattle.lexemes.specs.Lexeme.{lexeme, blockKind, blockEnd}
-use Rattle.lexemes.proofs.lexer.of_block.Statement.{statement}
-use Rattle.lexemes.proofs.lexer.of_block.Tie as tie
+use Rattle.lexemes.proofs.scan.of_block.Statement.{statement}
+use Rattle.lexemes.proofs.scan.of_block.Tie as tie
 
 enum-known-b : tie.Need-enum-known-b
 enum-known-b c = search needs
