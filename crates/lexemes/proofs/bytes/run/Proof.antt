@@ -53,8 +53,7 @@ loop-again c =
     let loop = c .before .before .before .before .before .loop in
     let class-of = c .before .before .class-of in
     let if1 = c .before .if1 in
-    let if2 = c .if2 in
-    (
+    let if2 = c .if2 in (
       omega arith,
       omega arith,
       up-to (λ (k : ℕ). (args .lo ≤ classOf (getD s k 0)) × (classOf (getD s k 0) ≤ args .hi)) (args .from) (loop .i) (loop .inv .2)
