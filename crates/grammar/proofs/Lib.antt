@@ -16,5 +16,6 @@ pub mod Shapes
 pub mod Obeys
 pub mod Room
 pub mod Source
+pub mod Ranges
 pub mod Marked
 pub mod Shut

@@ -25,12 +25,13 @@ use Rattle.lexemes.specs.Kept as lexemes
 use Rattle.lexemes.specs.Rules.{rules}
 use Rattle.lexemes.specs.Letters.{letter, next}
 use Rattle.lexemes.proofs.Munch.{Lexed, all, lex, lexed, munch, munched-ruled}
+use Rattle.lexemes.specs.Texts.{plain}
 use Rattle.grammar.specs.Trees.{Trees, none, _⊕_, count}
 use Rattle.grammar.specs.Image.{image, entry, payload}
 use Rattle.grammar.specs.Lexemes.{Said, says, nothing, good, said, Lexeme}
 use Rattle.grammar.specs.Productions.{rule, source, with-field, with-assert}
 use Rattle.grammar.specs.Reading.{has, choose, view, production, Outcome, done, broken}
-use Rattle.grammar.specs.Says.{plain, Says, its-text, no-text, Told}
+use Rattle.grammar.specs.Says.{Says, its-text, no-text, Told}
 use Rattle.grammar.specs.Says as says-of
 use Rattle.grammar.specs.Answer.{Verdict, refused, tree, verdict, Judged, read, bad-lexeme, document-01}
 use Rattle.grammar.specs.Source.{Bad, bad, Kept, kept}

@@ -11,12 +11,12 @@ use Rattle.lexemes.specs.Rules.{rules}
 use Rattle.lexemes.specs.Kept.{keep, firstBad}
 use Rattle.lexemes.specs.Kept as lexemes
 use Rattle.lexemes.proofs.Munch.{lex}
+use Rattle.lexemes.specs.Texts.{plain}
 use Rattle.grammar.specs.Trees.{_⊕_, count}
 use Rattle.grammar.specs.Image.{payload, entry, image}
 use Rattle.grammar.specs.Lexemes.{good, said}
 use Rattle.grammar.specs.Productions.{rule, with-field, with-assert}
 use Rattle.grammar.specs.Reading.{has, choose, view, production}
-use Rattle.grammar.specs.Says.{plain}
 use Rattle.grammar.specs.Answer.{document-01, Answer, Verdict, verdict, Judged, answer, output}
 use Rattle.grammar.specs.Source.{Bad, Kept, Reads01}
 use Rattle.grammar.proofs.Execute.{run, after}

@@ -1,21 +1,15 @@
 -- What a kept lexeme of a source says: the one place where the phrases meet the bytes of a source.
 -- Assumes nothing.
-use mathlib.Core.Bool.{true, false}
 use mathlib.Core.List.{List, [], _∷_}
 use Prim.Native.Nat.{ℕ, _+_, _-_}
-use lib.Dec.{eqb}
 use lib.ListN.{drop}
 use lib.Seq.{slice}
 use Rattle.strings.specs.Literals.{Quoted, Verbatim}
 use Rattle.blocks.specs.Blocks.{BlockText}
 use Rattle.lexemes.specs.declared.Lexeme.{Lexeme as Range}
 use Rattle.lexemes.specs.Kinds.{FLOAT, IDENT, STRING-DOUBLE, STRING-SINGLE, STRING-DOUBLE-VERBATIM, STRING-SINGLE-VERBATIM, STRING-BLOCK}
+use Rattle.lexemes.specs.Texts.{plain}
 use Rattle.grammar.specs.Lexemes.{Said, says, nothing, Lexeme}
-
--- "A number keeps its literal without underscores": parse_number's `text.replace('_', "")`.
-unfoldable pub plain : List ℕ → List ℕ
-plain [] = []
-plain (b ∷ s) = elim (eqb b 0x5F) [ true ↦ plain s | false ↦ b ∷ plain s ]
 
 -- ident, parse_number, parse_string_content: of the source s, the lexeme of this kind from a to e has this text.
 pub data Means (s : List ℕ) : ℕ → ℕ → ℕ → List ℕ → Type 0 where

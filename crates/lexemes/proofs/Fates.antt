@@ -5,17 +5,9 @@ use mathlib.Core.Bool.{Bool, true, false, not, _&&_}
 use mathlib.Core.List.{List, [], _∷_}
 use Prim.Native.Nat.{ℕ, _≤_, _<_}
 use lib.Dec.{T, leb, le→leb}
-use Rattle.regex.proofs.Bools.{and, implies, implied}
+use Rattle.regex.proofs.Bools.{true-is, false-is, and, implies, implied}
 use Rattle.lexemes.specs.Kept.{dropped, bad}
 use Rattle.lexemes.proofs.Moves.{notIn, Rest, at-rest}
-
-yes-true : (t : Bool) → T t → true ≡ t
-yes-true true h = refl
-yes-true false h = absurd h
-
-no-false : (t : Bool) → T (not t) → false ≡ t
-no-false true h = absurd h
-no-false false h = refl
 
 -- A test of all kinds from lo to hi.
 abbrev from-to : ℕ → ℕ → ℕ → Bool
@@ -47,18 +39,18 @@ none-bad lo hi = implies 256 (λ k. from-to lo hi k && notIn singles k) (λ k. n
 module _ (lo hi k : ℕ) (fits : k < 256) (h : lo ≤ k) (g : k ≤ hi) where
   pub drops : T (all-dropped lo hi) → true ≡ dropped k
   unfolding all-dropped
-  drops t = yes-true (dropped k) (implied 256 (from-to lo hi) dropped t k fits (is-from-to lo hi k h g))
+  drops t = true-is (dropped k) (implied 256 (from-to lo hi) dropped t k fits (is-from-to lo hi k h g))
 
   pub keeps : T (none-dropped lo hi) → false ≡ dropped k
   unfolding none-dropped
-  keeps t = no-false (dropped k) (implied 256 (from-to lo hi) (λ k. not (dropped k)) t k fits (is-from-to lo hi k h g))
+  keeps t = false-is (dropped k) (implied 256 (from-to lo hi) (λ k. not (dropped k)) t k fits (is-from-to lo hi k h g))
 
   pub spoils : T (all-bad lo hi) → true ≡ bad k
   unfolding all-bad
-  spoils t = yes-true (bad k) (implied 256 (from-to lo hi) bad t k fits (is-from-to lo hi k h g))
+  spoils t = true-is (bad k) (implied 256 (from-to lo hi) bad t k fits (is-from-to lo hi k h g))
 
   pub spares : Rest singles k → T (none-bad lo hi) → false ≡ bad k
   unfolding none-bad
   spares r t =
-      no-false (bad k)
+      false-is (bad k)
       (implied 256 (λ k. from-to lo hi k && notIn singles k) (λ k. not (bad k)) t k fits (and (from-to lo hi k) (notIn singles k) (is-from-to lo hi k h g) (at-rest singles k r)))

@@ -17,6 +17,7 @@ use Rattle.lexemes.specs.declared.kept.Cursor.{Cursor}
 use Rattle.lexemes.specs.Kinds.{EOF}
 use Rattle.lexemes.specs.Lexeme.{LexemeAt, lexeme}
 use Rattle.lexemes.specs.Kept.{Lexemes, none, some, dropped, bad, keep, Kept, first, NextKept, firstBad, FirstBad, Stands, oneOf}
+use Rattle.lexemes.specs.Texts.{textOf}
 use Rattle.lexemes.proofs.Laws.{lexeme-once, lexeme-bounds, lexeme-always, lexeme-not-eof}
 
 module _ {s : List ℕ} where
@@ -46,10 +47,7 @@ module _ {s : List ℕ} where
 pub lexemes-always : (s : List ℕ) (at : ℕ) → (xs : List Lexeme) × Lexemes s at xs
 lexemes-always s at = lexemes-from (length s) at (omega arith)
 
--- The text of a lexeme, and of a list of them.
-abbrev pub textOf : List ℕ → Lexeme → List ℕ
-textOf s l = take (l .end - l .start) (drop (l .start) s)
-
+-- The texts of a list of lexemes, one after the other.
 unfoldable pub textsOf : List ℕ → List Lexeme → List ℕ
 textsOf s [] = []
 textsOf s (l ∷ ls) = textOf s l ++ textsOf s ls

@@ -145,6 +145,9 @@ all-good = tt
 is-good : (w : ℕ) → w < 18 → Each (good w)
 is-good w h = each (good w) (all-at (λ w. every (good w)) 18 all-good w h)
 
+pub keyword-least : (w : ℕ) → w < 18 → TAILSTRICT-KW ≤ getD wordKind w 0
+keyword-least w h = leb→le TAILSTRICT-KW (getD wordKind w 0) (is-good w h .1 .0)
+
 all-lettered : T (all (λ i. between 1 3 (getD wordBytes i 0)) 95)
 unfolding all wordBytes classOf asciiClass
 all-lettered = tt
@@ -223,7 +226,7 @@ module _ (s : List ℕ) where
   pub words-to : (k i j : ℕ) → Takes (text s) words k i j → Keyword k i j
   words-to k i j t = tab-to 0 18 k i j (omega arith) (subst (λ (S : List Rule). Takes (text s) S k i j) words-tab t)
 
-  words-from : (w i j : ℕ) → w < 18 → Spells s (wordText w) i j → Takes (text s) words (getD wordKind w 0) i j
+  pub words-from : (w i j : ℕ) → w < 18 → Spells s (wordText w) i j → Takes (text s) words (getD wordKind w 0) i j
   words-from w i j h m = subst (λ (S : List Rule). Takes (text s) S (getD wordKind w 0) i j) (sym words-tab) (tab-from 0 18 w w i j (omega arith) h h m)
 
 -- The rule of identifiers, among the others.
@@ -319,7 +322,7 @@ module _ (s : List ℕ) (at : ℕ) where
     beaten k (inr x) = absurd (omega (arith, x .0 .0))
 
     keyword-kind : (w : ℕ) → w < 18 → (TAILSTRICT-KW ≤ getD wordKind w 0) × (getD wordKind w 0 ≤ ASSERT-KW)
-    keyword-kind w h = (leb→le TAILSTRICT-KW (getD wordKind w 0) (is-good w h .1 .0), leb→le (getD wordKind w 0) ASSERT-KW (is-good w h .1 .1 .0))
+    keyword-kind w h = (keyword-least w h, leb→le (getD wordKind w 0) ASSERT-KW (is-good w h .1 .1 .0))
 
     found : {k : ℕ} → KeywordAt s at e k → Best s (others ++ words) at k e
     found {k} (inl w) =

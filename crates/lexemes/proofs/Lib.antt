@@ -14,3 +14,5 @@ pub mod Laws
 pub mod KeptLaws
 pub mod Fates
 pub mod Munch
+pub mod TextLaws
+pub mod Characters

@@ -9,7 +9,7 @@ use native.Mathlib.Omega.{arith}
 use lib.Dec.{T, leb, le→leb, leb→le}
 use types.Run.{OneOf}
 use Rattle.regex.specs.Regex.{Range, _to_, within}
-use Rattle.regex.proofs.Bools.{and, and-left, and-right, or-left, or-right, or-cases}
+use Rattle.regex.proofs.Bools.{true-is, false-is, refutes, and, and-left, and-right, or-left, or-right, or-cases}
 use Rattle.lexemes.specs.Letters.{WHITE, OTHER, whiteSpace}
 
 -- In one of the ranges.
@@ -43,17 +43,9 @@ before h = inl h
 pub behind : {a b p : ℕ} → b < p → Outside a b p
 behind h = inr h
 
-yes-true : (t : Bool) → T t → t ≡ true
-yes-true true h = refl
-yes-true false h = absurd h
-
-no-false : (t : Bool) → (T t → ⊥) → t ≡ false
-no-false true h = absurd (h tt)
-no-false false h = refl
-
 pub is-white : (p : ℕ) → OneOf alone p ⊎ (((0x2000 ≤ p) × (p ≤ 0x200A)) ⊎ ((0x2028 ≤ p) × (p ≤ 0x2029))) → WHITE ≡ cond (within whiteSpace p) WHITE OTHER
 unfolding whiteSpace
-is-white p h = sym (ap (λ (b : Bool). cond b WHITE OTHER) (yes-true (within whiteSpace p) (within-from whiteSpace p (place h))))
+is-white p h = ap (λ (b : Bool). cond b WHITE OTHER) (true-is (within whiteSpace p) (within-from whiteSpace p (place h)))
   where
     place : OneOf alone p ⊎ (((0x2000 ≤ p) × (p ≤ 0x200A)) ⊎ ((0x2028 ≤ p) × (p ≤ 0x2029))) → In whiteSpace p
     place (inl (inl e)) = inl (omega arith)
@@ -67,7 +59,7 @@ is-white p h = sym (ap (λ (b : Bool). cond b WHITE OTHER) (yes-true (within whi
 
 pub is-other : (p : ℕ) → (OneOf alone p → ⊥) → Outside 0x2000 0x200A p → Outside 0x2028 0x2029 p → OTHER ≡ cond (within whiteSpace p) WHITE OTHER
 unfolding whiteSpace
-is-other p n a b = sym (ap (λ (t : Bool). cond t WHITE OTHER) (no-false (within whiteSpace p) (λ t. out (within-to whiteSpace p t))))
+is-other p n a b = ap (λ (t : Bool). cond t WHITE OTHER) (false-is (within whiteSpace p) (refutes (within whiteSpace p) (λ t. out (within-to whiteSpace p t))))
   where
     apart : {lo hi : ℕ} → Outside lo hi p → lo ≤ p → p ≤ hi → ⊥
     apart (inl x) h g = omega arith

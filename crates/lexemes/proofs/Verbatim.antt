@@ -9,7 +9,7 @@ use native.Mathlib.Omega.{arith}
 use lib.Dec.{T, eqb, ltb, ltb→lt, lt→ltb, leb, le→leb}
 use lib.ListN.{length, getD}
 use Rattle.regex.specs.Regex.{END, within, Rule, _⇒_, Re, _to_, but, one, eps, _·_, _∣_, star, inClass}
-use Rattle.regex.proofs.Bools.{and, and-left, is-true, is-false, implies, implied}
+use Rattle.regex.proofs.Bools.{true-is, false-is, and, and-left, is-true, is-false, implies, implied}
 use Rattle.regex.proofs.Tables.{left, steps, gives, silent}
 use Rattle.lexemes.specs.Kinds.{LEXING-ERROR, ERROR-STRING-VERBATIM-MISSING-QUOTES}
 use Rattle.lexemes.specs.Letters.{letter, next}
@@ -215,14 +215,6 @@ black-inside s i e = letter-inside s i (by (letter s i) e)
     by l e = ltb→lt l END (and-left (ltb l END) (not (within space l)) (is-true (inClass black l) e))
 
 -- `\S` by tests on the letter.
-yes-true : (t : Bool) → T t → true ≡ t
-yes-true true h = refl
-yes-true false h = absurd h
-
-no-false : (t : Bool) → T (not t) → false ≡ t
-no-false true h = absurd h
-no-false false h = refl
-
 below : T (implies 131 (λ l. ltb l 9) (inClass black))
 unfolding implies
 below = tt
@@ -237,15 +229,15 @@ above = tt
 
 module _ (l : ℕ) (h : l < 131) where
   pub black-below : l < 9 → true ≡ inClass black l
-  black-below g = yes-true (inClass black l) (implied 131 (λ l. ltb l 9) (inClass black) below l h (lt→ltb l 9 g))
+  black-below g = true-is (inClass black l) (implied 131 (λ l. ltb l 9) (inClass black) below l h (lt→ltb l 9 g))
 
   pub black-amid : 9 ≤ l → l < 14 → false ≡ inClass black l
   black-amid g k =
-      no-false (inClass black l)
+      false-is (inClass black l)
       (implied 131 (λ l. leb 9 l && ltb l 14) (λ l. not (inClass black l)) amid l h (and (leb 9 l) (ltb l 14) (le→leb 9 l g) (lt→ltb l 14 k)))
 
   pub black-above : 14 ≤ l → NotAll (32 ∷ 128 ∷ 130 ∷ []) l → true ≡ inClass black l
   black-above g n =
-      yes-true (inClass black l)
+      true-is (inClass black l)
       (implied 131 (λ l. leb 14 l && notIn (32 ∷ 128 ∷ 130 ∷ []) l) (inClass black) above l h
       (and (leb 14 l) (notIn (32 ∷ 128 ∷ 130 ∷ []) l) (le→leb 14 l g) (not-all (32 ∷ 128 ∷ 130 ∷ []) l n)))

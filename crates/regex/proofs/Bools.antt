@@ -51,6 +51,14 @@ is-true a e = subst (λ (x : Bool). T x) (sym e) tt
 pub is-false : (a : Bool) → a ≡ false → T (not a)
 is-false a e = subst (λ (x : Bool). T (not x)) (sym e) tt
 
+pub true-is : (a : Bool) → T a → true ≡ a
+true-is true t = refl
+true-is false t = absurd t
+
+pub false-is : (a : Bool) → T (not a) → false ≡ a
+false-is true t = absurd t
+false-is false t = refl
+
 -- A list of tests, all of which hold.
 abbrev pub every : List Bool → Bool
 every [] = true

@@ -95,7 +95,7 @@ module _ (t : Text) where
   orRight-from a (b ∣ b′) i k m = m
   orRight-from a (star b) i k m = m
 
-  or-to : (a b : Re) (i k : ℕ) → Match t a i k ⊎ Match t b i k → Match t (or a b) i k
+  pub or-to : (a b : Re) (i k : ℕ) → Match t a i k ⊎ Match t b i k → Match t (or a b) i k
   unfolding Match or
   or-to none b i k (inl m) = absurd m
   or-to none b i k (inr m) = m
