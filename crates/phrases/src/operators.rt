@@ -1,0 +1,21 @@
+// Binary operators under a setting: `??` has its switch.
+ghost use mathlib.Core.Path.{_≡_};
+ghost use Rattle.phrases.specs.Operators.{infix-under};
+use grammar::operators::Infix;
+use grammar::operators::binary_op;
+use lexemes::kinds::Kind;
+
+// prefix_binding_power
+pub const PREFIX: u8 = 20;
+
+pub fn infix(set: u64, kind: u8) -> Infix
+    ensures { λ r. ⌜ r ≡ infix-under set kind ⌝ }
+{
+    if kind != Kind::NULL_COAELSE {
+        return binary_op(kind);
+    }
+    if set / 4 % 2 == 1 {
+        return Infix::Binary(18, 2, 3);
+    }
+    Infix::NoInfix
+}
