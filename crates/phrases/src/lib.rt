@@ -6,7 +6,7 @@ ghost use Prim.Native.Nat.{_+_, _-_, _≤_, _<_};
 ghost use lib.ListN.{length};
 ghost use lib.Seq.{slice as part};
 ghost use Rattle.grammar.specs.Trees.{span};
-ghost use Rattle.grammar.specs.Productions.{goto, end, sub, deep, expr, infix-tail, suffixed, suffix as suffixPhrase, bracket, slice-end, slice-step, arguments, basic, array as arrayPhrase, array-comp, inside, comprehension, clauses, for-clause, assertion};
+ghost use Rattle.grammar.specs.Productions.{goto, end, sub, deep, expr as exprPhrase, infix-tail, suffixed, suffix as suffixPhrase, bracket, slice-end, slice-step, arguments, basic as basicPhrase, array as arrayPhrase, inside as insidePhrase, comprehension, clauses, for-clause, assertion};
 ghost use Rattle.grammar.specs.Productions.{member as memberPhrase, field as fieldPhrase, field-value, params as paramsPhrase, param as paramPhrase, binds, local-body, bind as bindPhrase, pattern, array-rest, array-rest-end, pattern-fields, pattern-field, pattern-default};
 ghost use Rattle.phrases.specs.Lexing.{Named, Header as HeaderAt, Imports, Suffixed};
 ghost use Rattle.phrases.specs.Meets.{Ready, state, Leads, LeadsAny, Takes, TakesSome, Counts, Tells, TellsSome, TellsAny, Joins, Argues, suffixes, titled, bound as bound-by, safely};
@@ -75,7 +75,7 @@ fn assert(src: &[u8], out: &mut [u8], c: Cursor, w: usize, left: usize, set: u64
         return a;
     };
     let from = c1.start;
-    let b = expr_bp(src, out, c1, w1, left, set, 0);
+    let b = expr(src, out, c1, w1, left, set, 0);
     let Answer::Done(c2, w2, _) = b else {
         return b;
     };
@@ -84,7 +84,7 @@ fn assert(src: &[u8], out: &mut [u8], c: Cursor, w: usize, left: usize, set: u64
         let w3 = writers::put_marked(out, w2, 32, from, to, 0);
         return Answer::Done(c2, w3, 1);
     }
-    let d = expr_bp(src, out, eat_any(src, c2), w2, left, set, 0);
+    let d = expr(src, out, eat_any(src, c2), w2, left, set, 0);
     let Answer::Done(c3, w3, _) = d else {
         return d;
     };
@@ -93,11 +93,11 @@ fn assert(src: &[u8], out: &mut [u8], c: Cursor, w: usize, left: usize, set: u64
 }
 
 // if_else, with if_spec_data's `if`: basic at `if`, else-part.
-fn if_else(src: &[u8], out: &mut [u8], c: Cursor, w: usize, left: usize, set: u64) -> Answer
+fn cond(src: &[u8], out: &mut [u8], c: Cursor, w: usize, left: usize, set: u64) -> Answer
     requires { ⌜ Ready (now src) c w × (c .kind ≡ 71) ⌝ }
-    ensures { λ r. ⌜ Leads set (now (src .entry)) left (state (goto basic) 0 c w (now (out .entry))) 0 end 1 r (now (out .exit)) ⌝ }
+    ensures { λ r. ⌜ Leads set (now (src .entry)) left (state (goto basicPhrase) 0 c w (now (out .entry))) 0 end 1 r (now (out .exit)) ⌝ }
 {
-    let a = expr_bp(src, out, eat_any(src, c), w, left, set, 0);
+    let a = expr(src, out, eat_any(src, c), w, left, set, 0);
     let Answer::Done(c1, w1, _) = a else {
         return a;
     };
@@ -105,7 +105,7 @@ fn if_else(src: &[u8], out: &mut [u8], c: Cursor, w: usize, left: usize, set: u6
     let Answer::Done(c2, w2, _) = b else {
         return b;
     };
-    let d = expr_bp(src, out, c2, w2, left, set, 0);
+    let d = expr(src, out, c2, w2, left, set, 0);
     let Answer::Done(c3, w3, _) = d else {
         return d;
     };
@@ -113,7 +113,7 @@ fn if_else(src: &[u8], out: &mut [u8], c: Cursor, w: usize, left: usize, set: u6
         let w4 = writers::put_marked(out, w3, 22, c.start, c.end, 0);
         return Answer::Done(c3, w4, 1);
     }
-    let e = expr_bp(src, out, eat_any(src, c3), w3, left, set, 0);
+    let e = expr(src, out, eat_any(src, c3), w3, left, set, 0);
     let Answer::Done(c4, w4, _) = e else {
         return e;
     };
@@ -142,7 +142,7 @@ fn slice(
     if c.kind == Kind::R_BRACK {
         return slice_close(src, out, c, w, parts, x, none, none);
     }
-    let a = expr_bp(src, out, c, w, left, set, 0);
+    let a = expr(src, out, c, w, left, set, 0);
     let Answer::Done(c1, w1, _) = a else {
         return a;
     };
@@ -174,7 +174,7 @@ fn step(
     if c.kind == Kind::R_BRACK {
         return slice_close(src, out, c, w, parts, x, y, Span { start: 0, end: 0 });
     }
-    let a = expr_bp(src, out, c, w, left, set, 0);
+    let a = expr(src, out, c, w, left, set, 0);
     let Answer::Done(c1, w1, _) = a else {
         return a;
     };
@@ -186,7 +186,7 @@ fn step(
 }
 
 // destruct, destruct_array: pattern; array-pattern up to `...` or `]`, that is pattern-starts, pattern-starts-end.
-fn destruct(src: &[u8], out: &mut [u8], c: Cursor, w: usize, left: usize, set: u64) -> Answer
+fn pat(src: &[u8], out: &mut [u8], c: Cursor, w: usize, left: usize, set: u64) -> Answer
     requires { ⌜ Ready (now src) c w ⌝ }
     ensures { λ r. ⌜ Takes set (now (src .entry)) (sub pattern) 1 0 left c w (now (out .entry)) r (now (out .exit)) ⌝ }
 {
@@ -215,7 +215,7 @@ fn destruct(src: &[u8], out: &mut [u8], c: Cursor, w: usize, left: usize, set: u
         if cur.kind == Kind::DOTDOTDOT {
             return rest(src, out, eat_any(src, cur), at, left - 1, set, n);
         }
-        let a = destruct(src, out, cur, at, left - 1, set);
+        let a = pat(src, out, cur, at, left - 1, set);
         let Answer::Done(c1, w1, _) = a else {
             return a;
         };
@@ -269,7 +269,7 @@ fn ends(
         if next.kind == Kind::R_BRACK {
             return array_pattern_close(src, out, next, at, n, keep, m, name);
         }
-        let a = destruct(src, out, next, at, left, set);
+        let a = pat(src, out, next, at, left, set);
         let Answer::Done(c1, w1, _) = a else {
             return a;
         };
@@ -323,7 +323,7 @@ fn item(src: &[u8], out: &mut [u8], c: Cursor, w: usize, left: usize, set: u64) 
     if c1.kind != Kind::COLON {
         return init(src, out, c1, w1, left, set, 0, name);
     }
-    let b = destruct(src, out, eat_any(src, c1), w1, left, set);
+    let b = pat(src, out, eat_any(src, c1), w1, left, set);
     let Answer::Done(c2, w2, _) = b else {
         return b;
     };
@@ -351,7 +351,7 @@ fn init(
         return Answer::Done(c, w1, 1);
     }
     let c1 = eat_any(src, c);
-    let a = expr_bp(src, out, c1, w, left, set, 0);
+    let a = expr(src, out, c1, w, left, set, 0);
     let Answer::Done(c2, w2, _) = a else {
         return a;
     };
@@ -389,7 +389,7 @@ fn param(src: &[u8], out: &mut [u8], c: Cursor, w: usize, left: usize, set: u64)
     requires { ⌜ Ready (now src) c w ⌝ }
     ensures { λ r. ⌜ TakesSome set (now (src .entry)) (sub paramPhrase) 1 4 left c w (now (out .entry)) r (now (out .exit)) ⌝ }
 {
-    let a = destruct(src, out, c, w, left, set);
+    let a = pat(src, out, c, w, left, set);
     let Answer::Done(c1, w1, _) = a else {
         return a;
     };
@@ -397,7 +397,7 @@ fn param(src: &[u8], out: &mut [u8], c: Cursor, w: usize, left: usize, set: u64)
         let w2 = writers::put_flag(out, w1, 30, 0);
         return Answer::Done(c1, w2, 1);
     }
-    let b = expr_bp(src, out, eat_any(src, c1), w1, left, set, 0);
+    let b = expr(src, out, eat_any(src, c1), w1, left, set, 0);
     let Answer::Done(c2, w2, _) = b else {
         return b;
     };
@@ -459,10 +459,10 @@ fn arg(
         if named != 0 {
             return error(c, 8, 1);
         }
-        return expr_bp(src, out, c, w, left, set, 0);
+        return expr(src, out, c, w, left, set, 0);
     }
     let c1 = eat_any(src, c);
-    let a = expr_bp(src, out, eat_any(src, c1), w, left, set, 0);
+    let a = expr(src, out, eat_any(src, c1), w, left, set, 0);
     let Answer::Done(c2, w2, _) = a else {
         return a;
     };
@@ -478,18 +478,18 @@ fn bind(src: &[u8], out: &mut [u8], c: Cursor, w: usize, left: usize, set: u64) 
     ensures { λ r. ⌜ Takes set (now (src .entry)) (sub bindPhrase) 1 0 left c w (now (out .entry)) r (now (out .exit)) ⌝ }
 {
     if c.kind != Kind::IDENT {
-        let a = destruct(src, out, c, w, left, set);
+        let a = pat(src, out, c, w, left, set);
         let Answer::Done(c1, w1, _) = a else {
             return a;
         };
-        return bound(src, out, c1, w1, left, set, 0, 0);
+        return rhs(src, out, c1, w1, left, set, 0, 0);
     }
     let from = c.start;
     let to = c.end;
     let w1 = writers::put_name(out, w, 25, from, to, &src[from..to]);
     let c1 = eat_any(src, c);
     if c1.kind != Kind::L_PAREN {
-        return bound(src, out, c1, w1, left, set, 0, 0);
+        return rhs(src, out, c1, w1, left, set, 0, 0);
     }
     let b = params(src, out, eat_any(src, c1), w1, left, set);
     let Answer::Done(c2, w2, n) = b else {
@@ -499,11 +499,11 @@ fn bind(src: &[u8], out: &mut [u8], c: Cursor, w: usize, left: usize, set: u64) 
     let Answer::Done(c3, w3, _) = d else {
         return d;
     };
-    bound(src, out, c3, w3, left, set, 1, n)
+    rhs(src, out, c3, w3, left, set, 1, n)
 }
 
 // bind from its `=` on: bind-function, and the same of the other binds.
-fn bound(
+fn rhs(
     src: &[u8],
     out: &mut [u8],
     c: Cursor,
@@ -520,7 +520,7 @@ fn bound(
     let Answer::Done(c1, w1, _) = a else {
         return a;
     };
-    let b = expr_bp(src, out, c1, w1, left, set, 0);
+    let b = expr(src, out, c1, w1, left, set, 0);
     let Answer::Done(c2, w2, _) = b else {
         return b;
     };
@@ -536,7 +536,7 @@ fn name(src: &[u8], out: &mut [u8], c: Cursor, w: usize, left: usize, set: u64) 
     if c.kind != Kind::L_BRACK {
         return leaves::fixed_name(src, out, c, w);
     }
-    let a = expr_bp(src, out, eat_any(src, c), w, left, set, 0);
+    let a = expr(src, out, eat_any(src, c), w, left, set, 0);
     let Answer::Done(c1, w1, _) = a else {
         return a;
     };
@@ -618,7 +618,7 @@ fn value(
     };
     let v = visibility(src, c1);
     let c2 = v.cursor;
-    let b = expr_bp(src, out, c2, w1, left, set, 0);
+    let b = expr(src, out, c2, w1, left, set, 0);
     let Answer::Done(c3, w3, _) = b else {
         return b;
     };
@@ -661,14 +661,14 @@ fn member(
 }
 
 // for_spec, after its `for`: for-clause.
-fn for_spec(src: &[u8], out: &mut [u8], c: Cursor, w: usize, left: usize, set: u64) -> Answer
+fn spec(src: &[u8], out: &mut [u8], c: Cursor, w: usize, left: usize, set: u64) -> Answer
     requires { ⌜ Ready (now src) c w ⌝ }
     ensures { λ r. ⌜ Takes set (now (src .entry)) (sub for-clause) 1 0 left c w (now (out .entry)) r (now (out .exit)) ⌝ }
 {
     if header_at(src, c, set) == 1 {
         return each(src, out, c, w, left, set);
     }
-    let a = destruct(src, out, c, w, left, set);
+    let a = pat(src, out, c, w, left, set);
     let Answer::Done(c1, w1, _) = a else {
         return a;
     };
@@ -676,7 +676,7 @@ fn for_spec(src: &[u8], out: &mut [u8], c: Cursor, w: usize, left: usize, set: u
     let Answer::Done(c2, w2, _) = b else {
         return b;
     };
-    let d = expr_bp(src, out, c2, w2, left, set, 0);
+    let d = expr(src, out, c2, w2, left, set, 0);
     let Answer::Done(c3, w3, _) = d else {
         return d;
     };
@@ -697,7 +697,7 @@ fn each(src: &[u8], out: &mut [u8], c: Cursor, w: usize, left: usize, set: u64) 
     let colon = eat_any(src, bracket);
     let v = visibility(src, eat_any(src, colon));
     let c1 = v.cursor;
-    let a = destruct(src, out, c1, w, left, set);
+    let a = pat(src, out, c1, w, left, set);
     let Answer::Done(c2, w2, _) = a else {
         return a;
     };
@@ -705,7 +705,7 @@ fn each(src: &[u8], out: &mut [u8], c: Cursor, w: usize, left: usize, set: u64) 
     let Answer::Done(c3, w3, _) = b else {
         return b;
     };
-    let d = expr_bp(src, out, c3, w3, left, set, 0);
+    let d = expr(src, out, c3, w3, left, set, 0);
     let Answer::Done(c4, w4, _) = d else {
         return d;
     };
@@ -716,7 +716,7 @@ fn each(src: &[u8], out: &mut [u8], c: Cursor, w: usize, left: usize, set: u64) 
 }
 
 // compspecs, if_spec_data, at `for`: clauses, more-clauses, if-clause. Tells how many they are.
-fn compspecs(src: &[u8], out: &mut [u8], c: Cursor, w: usize, left: usize, set: u64) -> Answer
+fn specs(src: &[u8], out: &mut [u8], c: Cursor, w: usize, left: usize, set: u64) -> Answer
     requires { ⌜ Ready (now src) c w × (c .kind ≡ 83) ⌝ }
     ensures { λ r. ⌜ Counts set (now (src .entry)) clauses 0 left c w (now (out .entry)) r (now (out .exit)) ⌝ }
 {
@@ -725,7 +725,7 @@ fn compspecs(src: &[u8], out: &mut [u8], c: Cursor, w: usize, left: usize, set: 
     let mut n: usize = 0;
     loop {
         if cur.kind == Kind::FOR_KW {
-            let a = for_spec(src, out, eat_any(src, cur), at, left, set);
+            let a = spec(src, out, eat_any(src, cur), at, left, set);
             let Answer::Done(c1, w1, _) = a else {
                 return a;
             };
@@ -737,7 +737,7 @@ fn compspecs(src: &[u8], out: &mut [u8], c: Cursor, w: usize, left: usize, set: 
         if cur.kind != Kind::IF_KW {
             return Answer::Done(cur, at, n);
         }
-        let b = expr_bp(src, out, eat_any(src, cur), at, left, set, 0);
+        let b = expr(src, out, eat_any(src, cur), at, left, set, 0);
         let Answer::Done(c2, w2, _) = b else {
             return b;
         };
@@ -748,9 +748,9 @@ fn compspecs(src: &[u8], out: &mut [u8], c: Cursor, w: usize, left: usize, set: 
 }
 
 // objinside: inside, members, next-member.
-fn objinside(src: &[u8], out: &mut [u8], c: Cursor, w: usize, left: usize, set: u64) -> Answer
+fn inside(src: &[u8], out: &mut [u8], c: Cursor, w: usize, left: usize, set: u64) -> Answer
     requires { ⌜ Ready (now src) c w ⌝ }
-    ensures { λ r. ⌜ Takes set (now (src .entry)) (sub inside) 1 7 left c w (now (out .entry)) r (now (out .exit)) ⌝ }
+    ensures { λ r. ⌜ Takes set (now (src .entry)) (sub insidePhrase) 1 7 left c w (now (out .entry)) r (now (out .exit)) ⌝ }
 {
     if c.kind == Kind::R_BRACE {
         return members_close(out, c, w, 0);
@@ -769,7 +769,7 @@ fn objinside(src: &[u8], out: &mut [u8], c: Cursor, w: usize, left: usize, set: 
         fault = f;
         cur = past_comma(src, c1);
         if cur.kind == Kind::FOR_KW {
-            return comps(src, out, cur, at, left, set, n, fault);
+            return comp(src, out, cur, at, left, set, n, fault);
         }
         if c1.kind != Kind::COMMA {
             return members_close(out, cur, at, n);
@@ -781,7 +781,7 @@ fn objinside(src: &[u8], out: &mut [u8], c: Cursor, w: usize, left: usize, set: 
 }
 
 // objinside, a comprehension of n members, at its `for`: comprehension, comprehension-end.
-fn comps(
+fn comp(
     src: &[u8],
     out: &mut [u8],
     c: Cursor,
@@ -794,7 +794,7 @@ fn comps(
     requires { ⌜ Ready (now src) c w × (c .kind ≡ 83) × (n ≤ c .at) × (fault ≤ 4) ⌝ }
     ensures { λ r. ⌜ Leads set (now (src .entry)) left (state (goto (comprehension fault)) n c w (now (out .entry))) 7 end 1 r (now (out .exit)) ⌝ }
 {
-    let a = compspecs(src, out, c, w, left, set);
+    let a = specs(src, out, c, w, left, set);
     let Answer::Done(c1, w1, m) = a else {
         return a;
     };
@@ -806,14 +806,14 @@ fn comps(
 }
 
 // expr_basic: basic.
-fn expr_basic(src: &[u8], out: &mut [u8], c: Cursor, w: usize, left: usize, set: u64) -> Answer
+fn basic(src: &[u8], out: &mut [u8], c: Cursor, w: usize, left: usize, set: u64) -> Answer
     requires { ⌜ Ready (now src) c w ⌝ }
-    ensures { λ r. ⌜ Takes set (now (src .entry)) (sub basic) 1 0 left c w (now (out .entry)) r (now (out .exit)) ⌝ }
+    ensures { λ r. ⌜ Takes set (now (src .entry)) (sub basicPhrase) 1 0 left c w (now (out .entry)) r (now (out .exit)) ⌝ }
 {
     let kind = c.kind;
     match kind {
         Kind::L_PAREN => {
-            let a = expr_bp(src, out, eat_any(src, c), w, left, set, 0);
+            let a = expr(src, out, eat_any(src, c), w, left, set, 0);
             let Answer::Done(c1, w1, _) = a else {
                 return a;
             };
@@ -821,32 +821,32 @@ fn expr_basic(src: &[u8], out: &mut [u8], c: Cursor, w: usize, left: usize, set:
         }
         Kind::L_BRACK => array(src, out, eat_any(src, c), w, left, set),
         Kind::L_BRACE => {
-            let a = objinside(src, out, eat_any(src, c), w, left, set);
+            let a = inside(src, out, eat_any(src, c), w, left, set);
             let Answer::Done(c1, w1, _) = a else {
                 return a;
             };
             eat(src, c1, w1, Kind::R_BRACE)
         }
         Kind::LOCAL_KW => local(src, out, eat_any(src, c), w, left, set),
-        Kind::IF_KW => if_else(src, out, c, w, left, set),
+        Kind::IF_KW => cond(src, out, c, w, left, set),
         Kind::FUNCTION_KW => func(src, out, c, w, left, set),
         Kind::ASSERT_KW => claim(src, out, c, w, left, set),
         Kind::ERROR_KW => {
-            let a = expr_bp(src, out, eat_any(src, c), w, left, set, 0);
+            let a = expr(src, out, eat_any(src, c), w, left, set, 0);
             let Answer::Done(c1, w1, _) = a else {
                 return a;
             };
             let w2 = writers::put_mark(out, w1, 17, c.start, c.end);
             Answer::Done(c1, w2, 1)
         }
-        Kind::IMPORTSTR_KW => import(src, out, c, w, left, set, 1),
-        Kind::IMPORTBIN_KW => import(src, out, c, w, left, set, 2),
-        Kind::IMPORT_KW => import(src, out, c, w, left, set, 0),
+        Kind::IMPORTSTR_KW => load(src, out, c, w, left, set, 1),
+        Kind::IMPORTBIN_KW => load(src, out, c, w, left, set, 2),
+        Kind::IMPORT_KW => load(src, out, c, w, left, set, 0),
         _ => leaves::atom(src, out, c, w),
     }
 }
 
-// expr_basic's arrays, after `[`: array, array-first, elements, next-element.
+// expr_basic's arrays, after `[`: array, array-first, array-comp, array-comp-end, elements, next-element.
 fn array(src: &[u8], out: &mut [u8], c: Cursor, w: usize, left: usize, set: u64) -> Answer
     requires { ⌜ Ready (now src) c w ⌝ }
     ensures { λ r. ⌜ Leads set (now (src .entry)) left (state (goto arrayPhrase) 0 c w (now (out .entry))) 0 end 1 r (now (out .exit)) ⌝ }
@@ -854,12 +854,16 @@ fn array(src: &[u8], out: &mut [u8], c: Cursor, w: usize, left: usize, set: u64)
     if c.kind == Kind::R_BRACK {
         return array_close(src, out, c, w, 7, 0);
     }
-    let a = expr_bp(src, out, c, w, left, set, 0);
+    let a = expr(src, out, c, w, left, set, 0);
     let Answer::Done(c1, w1, _) = a else {
         return a;
     };
     if clauses_at(src, c1) == 1 {
-        return comp(src, out, past_comma(src, c1), w1, left, set);
+        let d = specs(src, out, past_comma(src, c1), w1, left, set);
+        let Answer::Done(c2, w2, m) = d else {
+            return d;
+        };
+        return array_close(src, out, c2, w2, 8, m);
     }
     let mut cur = c1;
     let mut at = w1;
@@ -872,7 +876,7 @@ fn array(src: &[u8], out: &mut [u8], c: Cursor, w: usize, left: usize, set: u64)
         if next.kind == Kind::R_BRACK {
             return array_close(src, out, next, at, 7, n);
         }
-        let b = expr_bp(src, out, next, at, left, set, 0);
+        let b = expr(src, out, next, at, left, set, 0);
         let Answer::Done(c2, w2, _) = b else {
             return b;
         };
@@ -880,18 +884,6 @@ fn array(src: &[u8], out: &mut [u8], c: Cursor, w: usize, left: usize, set: u64)
         cur = c2;
         at = w2;
     }
-}
-
-// expr_basic's array comprehensions, at `for`: array-comp, array-comp-end.
-fn comp(src: &[u8], out: &mut [u8], c: Cursor, w: usize, left: usize, set: u64) -> Answer
-    requires { ⌜ Ready (now src) c w × (c .kind ≡ 83) ⌝ }
-    ensures { λ r. ⌜ Leads set (now (src .entry)) left (state (goto array-comp) 1 c w (now (out .entry))) 0 end 1 r (now (out .exit)) ⌝ }
-{
-    let a = compspecs(src, out, c, w, left, set);
-    let Answer::Done(c1, w1, n) = a else {
-        return a;
-    };
-    array_close(src, out, c1, w1, 8, n)
 }
 
 // expr_basic's local, after `local`: binds, binds-end.
@@ -928,7 +920,7 @@ fn body(src: &[u8], out: &mut [u8], c: Cursor, w: usize, left: usize, set: u64, 
     let Answer::Done(c1, w1, _) = a else {
         return a;
     };
-    let b = expr_bp(src, out, c1, w1, left, set, 0);
+    let b = expr(src, out, c1, w1, left, set, 0);
     let Answer::Done(c2, w2, _) = b else {
         return b;
     };
@@ -939,7 +931,7 @@ fn body(src: &[u8], out: &mut [u8], c: Cursor, w: usize, left: usize, set: u64, 
 // expr_basic's function: basic at `function`, function-body.
 fn func(src: &[u8], out: &mut [u8], c: Cursor, w: usize, left: usize, set: u64) -> Answer
     requires { ⌜ Ready (now src) c w × (c .kind ≡ 74) ⌝ }
-    ensures { λ r. ⌜ Leads set (now (src .entry)) left (state (goto basic) 0 c w (now (out .entry))) 0 end 1 r (now (out .exit)) ⌝ }
+    ensures { λ r. ⌜ Leads set (now (src .entry)) left (state (goto basicPhrase) 0 c w (now (out .entry))) 0 end 1 r (now (out .exit)) ⌝ }
 {
     let a = eat(src, eat_any(src, c), w, Kind::L_PAREN);
     let Answer::Done(c1, w1, _) = a else {
@@ -953,7 +945,7 @@ fn func(src: &[u8], out: &mut [u8], c: Cursor, w: usize, left: usize, set: u64) 
     let Answer::Done(c3, w3, _) = d else {
         return d;
     };
-    let e = expr_bp(src, out, c3, w3, left, set, 0);
+    let e = expr(src, out, c3, w3, left, set, 0);
     let Answer::Done(c4, w4, _) = e else {
         return e;
     };
@@ -964,7 +956,7 @@ fn func(src: &[u8], out: &mut [u8], c: Cursor, w: usize, left: usize, set: u64) 
 // expr_basic's assert: basic at `assert`.
 fn claim(src: &[u8], out: &mut [u8], c: Cursor, w: usize, left: usize, set: u64) -> Answer
     requires { ⌜ Ready (now src) c w × (c .kind ≡ 84) ⌝ }
-    ensures { λ r. ⌜ Leads set (now (src .entry)) left (state (goto basic) 0 c w (now (out .entry))) 0 end 1 r (now (out .exit)) ⌝ }
+    ensures { λ r. ⌜ Leads set (now (src .entry)) left (state (goto basicPhrase) 0 c w (now (out .entry))) 0 end 1 r (now (out .exit)) ⌝ }
 {
     let a = assert(src, out, c, w, left, set);
     let Answer::Done(c1, w1, _) = a else {
@@ -974,7 +966,7 @@ fn claim(src: &[u8], out: &mut [u8], c: Cursor, w: usize, left: usize, set: u64)
     let Answer::Done(c2, w2, _) = b else {
         return b;
     };
-    let d = expr_bp(src, out, c2, w2, left, set, 0);
+    let d = expr(src, out, c2, w2, left, set, 0);
     let Answer::Done(c3, w3, _) = d else {
         return d;
     };
@@ -983,19 +975,11 @@ fn claim(src: &[u8], out: &mut [u8], c: Cursor, w: usize, left: usize, set: u64)
 }
 
 // expr_basic's imports, whose kind is which: basic at `import`, `importstr`, `importbin`.
-fn import(
-    src: &[u8],
-    out: &mut [u8],
-    c: Cursor,
-    w: usize,
-    left: usize,
-    set: u64,
-    which: u8,
-) -> Answer
+fn load(src: &[u8], out: &mut [u8], c: Cursor, w: usize, left: usize, set: u64, which: u8) -> Answer
     requires { ⌜ Ready (now src) c w × Imports (c .kind) which ⌝ }
-    ensures { λ r. ⌜ Leads set (now (src .entry)) left (state (goto basic) 0 c w (now (out .entry))) 0 end 1 r (now (out .exit)) ⌝ }
+    ensures { λ r. ⌜ Leads set (now (src .entry)) left (state (goto basicPhrase) 0 c w (now (out .entry))) 0 end 1 r (now (out .exit)) ⌝ }
 {
-    let a = expr_bp(src, out, eat_any(src, c), w, left, set, 0);
+    let a = expr(src, out, eat_any(src, c), w, left, set, 0);
     let Answer::Done(c1, w1, _) = a else {
         return a;
     };
@@ -1004,11 +988,11 @@ fn import(
 }
 
 // expr_suffix: suffixed, and the loop over its suffixes.
-fn expr_suffix(src: &[u8], out: &mut [u8], c: Cursor, w: usize, left: usize, set: u64) -> Answer
+fn chain(src: &[u8], out: &mut [u8], c: Cursor, w: usize, left: usize, set: u64) -> Answer
     requires { ⌜ Ready (now src) c w ⌝ }
     ensures { λ r. ⌜ Takes set (now (src .entry)) (sub suffixed) 1 0 left c w (now (out .entry)) r (now (out .exit)) ⌝ }
 {
-    let a = expr_basic(src, out, c, w, left, set);
+    let a = basic(src, out, c, w, left, set);
     let Answer::Done(c1, w1, _) = a else {
         return a;
     };
@@ -1019,7 +1003,7 @@ fn expr_suffix(src: &[u8], out: &mut [u8], c: Cursor, w: usize, left: usize, set
         if suffix_at(cur.kind, set) == 0 {
             return Answer::Done(cur, at, 1);
         }
-        let b = suffix(src, out, cur, at, left, set, first);
+        let b = link(src, out, cur, at, left, set, first);
         let Answer::Done(c2, w2, f) = b else {
             return b;
         };
@@ -1030,7 +1014,7 @@ fn expr_suffix(src: &[u8], out: &mut [u8], c: Cursor, w: usize, left: usize, set
 }
 
 // expr_suffix, one suffix: suffix. Tells whether the next index part is the first of its run, as its flag.
-fn suffix(
+fn link(
     src: &[u8],
     out: &mut [u8],
     c: Cursor,
@@ -1050,7 +1034,7 @@ fn suffix(
         Kind::L_BRACK => index(src, out, c1, w, left, set, first),
         Kind::L_PAREN => args(src, out, c1, w, left, set, c.start),
         _ => {
-            let a = objinside(src, out, c1, w, left, set);
+            let a = inside(src, out, c1, w, left, set);
             let Answer::Done(c2, w2, _) = a else {
                 return a;
             };
@@ -1085,7 +1069,7 @@ fn safe(
         return member_name(src, out, c1, w1, first, 1);
     }
     let c2 = eat_any(src, c1);
-    let b = expr_bp(src, out, c2, w1, left, set, 0);
+    let b = expr(src, out, c2, w1, left, set, 0);
     let Answer::Done(c3, w3, _) = b else {
         return b;
     };
@@ -1122,7 +1106,7 @@ fn index(
             Span { start: 0, end: 0 },
         );
     }
-    let a = expr_bp(src, out, c, w, left, set, 0);
+    let a = expr(src, out, c, w, left, set, 0);
     let Answer::Done(c1, w1, _) = a else {
         return a;
     };
@@ -1144,13 +1128,13 @@ fn index(
 // expr_bp up to its loop: expr.
 fn sign(src: &[u8], out: &mut [u8], c: Cursor, w: usize, left: usize, set: u64, least: u8) -> Answer
     requires { ⌜ Ready (now src) c w ⌝ }
-    ensures { λ r. ⌜ Leads set (now (src .entry)) left (state (goto (expr least)) 0 c w (now (out .entry))) 0 (goto (infix-tail least)) 1 r (now (out .exit)) ⌝ }
+    ensures { λ r. ⌜ Leads set (now (src .entry)) left (state (goto (exprPhrase least)) 0 c w (now (out .entry))) 0 (goto (infix-tail least)) 1 r (now (out .exit)) ⌝ }
 {
     let p = unary_op(c.kind);
     let Prefix::Unary(o) = p else {
-        return expr_suffix(src, out, c, w, left, set);
+        return chain(src, out, c, w, left, set);
     };
-    let a = expr_bp(src, out, eat_any(src, c), w, left, set, operators::PREFIX);
+    let a = expr(src, out, eat_any(src, c), w, left, set, operators::PREFIX);
     let Answer::Done(c1, w1, _) = a else {
         return a;
     };
@@ -1159,7 +1143,7 @@ fn sign(src: &[u8], out: &mut [u8], c: Cursor, w: usize, left: usize, set: u64, 
 }
 
 // expr_bp: expr, one level deeper, infix-tail.
-pub fn expr_bp(
+pub fn expr(
     src: &[u8],
     out: &mut [u8],
     c: Cursor,
@@ -1169,7 +1153,7 @@ pub fn expr_bp(
     least: u8,
 ) -> Answer
     requires { ⌜ Ready (now src) c w ⌝ }
-    ensures { λ r. ⌜ Takes set (now (src .entry)) (deep (expr least)) 1 0 left c w (now (out .entry)) r (now (out .exit)) ⌝ }
+    ensures { λ r. ⌜ Takes set (now (src .entry)) (deep (exprPhrase least)) 1 0 left c w (now (out .entry)) r (now (out .exit)) ⌝ }
 {
     if left == 0 {
         return error(c, 11, 0);
@@ -1188,7 +1172,7 @@ pub fn expr_bp(
         if lbp < least {
             return Answer::Done(cur, at, 1);
         }
-        let d = expr_bp(src, out, eat_any(src, cur), at, left - 1, set, rbp);
+        let d = expr(src, out, eat_any(src, cur), at, left - 1, set, rbp);
         let Answer::Done(c2, w2, _) = d else {
             return d;
         };

@@ -1,0 +1,265 @@
+-- The answers of `slice`.
+use borrow.Author.Needs.{needs}
+use native.Mathlib.Omega.{arith}
+use lib.Dec.{lit<, lit≤}
+use lib.ListN.{length}
+use mathlib.Core.Path.{_≡_, refl, sym, ap, subst, _∙_}
+use mathlib.Core.Logic.{⊎-elim}
+use mathlib.Core.List.{[], _∷_}
+use Prim.Native.Nat.{ℕ, _+_, _*_, _-_, _≤_, _<_}
+use Rattle.phrases.proofs.Steps
+use Rattle.phrases.proofs.slice.Reads.{Post}
+use Rattle.phrases.proofs.+arg+args+array+assert+basic+bind+body+chain+claim+comp+cond+each+ends+expr+field+func+index+init+inside+item+link+load+local+member+name+obj+param+params+pat+rest+rhs+safe+sign+slice+spec+specs+step+value.Lts-slice as lts
+use Rattle.phrases.proofs.+arg+args+array+assert+basic+bind+body+chain+claim+comp+cond+each+ends+expr+field+func+index+init+inside+item+link+load+local+member+name+obj+param+params+pat+rest+rhs+safe+sign+slice+spec+specs+step+value.Proof.Frame.{slice-claims as K, slice-at as P}
+use Rattle.grammar.specs.Trees.{span}
+use Rattle.grammar.specs.Productions.{goto, end, eat, _▸_, rule, expression, slice-end, slice-ended, slice-step}
+use Rattle.grammar.specs.Reading.{choose, has}
+use Rattle.phrases.specs.Meets.{sliced}
+use borrow.Author.Tests.{ne-eqb}
+use Rattle.phrases.proofs.LexemeLaws.{sight}
+use Rattle.phrases.proofs.LeafLaws.{within}
+
+pub eat-any-requires : (t : ℕ) → lts.Need-eat-any-requires (K t) (P t) Post
+eat-any-requires t c κs =
+    let pre′ = c .before .before .before .before .before .pre in
+    let st = pre′ .1 .0 .stands in
+    st
+
+pub step-requires : (t : ℕ) → lts.Need-step-requires (K t) (P t) Post
+unfolding rule choose has sight
+step-requires t c κs =
+    let pre′ = c .before .before .before .before .before .before .pre in
+    let st = pre′ .1 .0 .stands in
+    let eat-any′ = c .eat-any in
+    let if1′ = c .before .before .if1 in
+    let args′ = c .before .before .before .before .before .before .args in
+    let p = args′ .parts in
+    let i = args′ .x .start in
+    let j = args′ .x .end in
+    let g = args′ .set in
+    let s = args′ .src .now in
+    let begin = Steps.at g s (args′ .left) (goto (slice-end p i j)) 0 (args′ .c) (args′ .w) (args′ .out .now) in
+    let colon = Steps.taken (lit< tt) st (eat-any′ .ensures) (if1′ .taken) (Steps.known (eat 29 ▸ goto (slice-step p i j 0 0)) st (if1′ .taken) (λ xs t. refl) begin) in
+    (omega (arith, pre′ .0), (Steps.ready (pre′ .1 .0) (lit≤ tt) colon, omega (arith, pre′ .1 .1), pre′ .1 .2, pre′ .1 .3, lit< tt, lit< tt))
+
+pub same-length : (t : ℕ) → lts.Need-same-length (K t) (P t) Post
+same-length t c =
+    search needs
+
+pub returns : (t : ℕ) → lts.Need-returns (K t) (P t) Post
+unfolding rule choose has sight
+returns t c =
+    let step′ = c .before .before .step in
+    let pre′ = c .before .before .before .before .before .before .before .before .before .pre in
+    let st = pre′ .1 .0 .stands in
+    let eat-any′ = c .before .before .before .eat-any in
+    let if1′ = c .before .before .before .before .before .if1 in
+    let args′ = c .before .before .before .before .before .before .before .before .before .args in
+    let p = args′ .parts in
+    let i = args′ .x .start in
+    let j = args′ .x .end in
+    record {
+      tells = λ n. Steps.tail-telling (lit≤ tt) (step′ .ensures .tells n)
+          (Steps.taken (lit< tt) st (eat-any′ .ensures) (if1′ .taken) (Steps.known (eat 29 ▸ goto (slice-step p i j 0 0)) st (if1′ .taken) (λ xs t. refl) Steps.here));
+    }
+
+pub slice-close-requires : (t : ℕ) → lts.Need-slice-close-requires (K t) (P t) Post
+slice-close-requires t c κs =
+    let pre′ = c .before .before .before .before .before .before .before .pre in
+    (pre′ .1 .0, pre′ .1 .2, pre′ .1 .3, lit< tt, lit< tt, lit< tt, lit< tt)
+
+pub same-length-2 : (t : ℕ) → lts.Need-same-length-2 (K t) (P t) Post
+same-length-2 t c =
+    search needs
+
+pub returns-2 : (t : ℕ) → lts.Need-returns-2 (K t) (P t) Post
+unfolding rule choose has sight
+returns-2 t c =
+    let slice-close′ = c .before .before .slice-close in
+    let args′ = c .before .before .before .before .before .before .before .before .before .before .args in
+    let g = args′ .set in
+    let p = args′ .parts in
+    let i = args′ .x .start in
+    let j = args′ .x .end in
+    let pre′ = c .before .before .before .before .before .before .before .before .before .before .pre in
+    let st = pre′ .1 .0 .stands in
+    let if2′ = c .before .before .before .before .if2 in
+    record {
+      tells = λ n. Steps.tail-telling (lit≤ tt) (slice-close′ .ensures .tells g (args′ .left) n)
+          (Steps.known (sliced p (span i j) (span 0 0) (span 0 0)) st (if2′ .taken) (λ xs t. refl) Steps.here);
+    }
+
+pub expr-requires : (t : ℕ) → lts.Need-expr-requires (K t) (P t) Post
+expr-requires t c κs =
+    let pre′ = c .before .before .before .before .before .before .before .pre in
+    (omega (arith, pre′ .0), pre′ .1 .0)
+
+pub enum-known-a : (t : ℕ) → lts.Need-enum-known-a (K t) (P t) Post
+enum-known-a t c =
+    search needs
+
+pub enum-told : (t : ℕ) → lts.Need-enum-told (K t) (P t) Post
+enum-told t c =
+    search needs
+
+pub same-length-3 : (t : ℕ) → lts.Need-same-length-3 (K t) (P t) Post
+same-length-3 t c =
+    search needs
+
+pub returns-3 : (t : ℕ) → lts.Need-returns-3 (K t) (P t) Post
+unfolding rule choose has sight
+returns-3 t c =
+    let expr′ = c .before .before .before .before .expr in
+    let match′ = c .before .match in
+    let args′ = c .before .before .before .before .before .before .before .before .before .before .before .before .args in
+    let p = args′ .parts in
+    let i = args′ .x .start in
+    let j = args′ .x .end in
+    let f = args′ .c .start in
+    let pre′ = c .before .before .before .before .before .before .before .before .before .before .before .before .pre in
+    let st = pre′ .1 .0 .stands in
+    let if1′ = c .before .before .before .before .before .before .before .before .if1 in
+    let if2′ = c .before .before .before .before .before .before .if2 in
+    record {
+      tells = λ n. Steps.passed-telling (Steps.takes-broken (expr′ .ensures) (match′ .keys2))
+          (Steps.known (expression ▸ goto (slice-ended p i j f)) st refl (λ xs t. simp (ne-eqb _ 29 (if1′ .left), ne-eqb _ 24 (if2′ .left))) Steps.here);
+    }
+
+pub eat-any-requires-2 : (t : ℕ) → lts.Need-eat-any-requires-2 (K t) (P t) Post
+unfolding rule choose has sight
+eat-any-requires-2 t c κs =
+    let expr′ = c .before .before .before .before .before .before .before .before .expr in
+    let a′ = c .before .before .before .before .a in
+    let args′ = c .before .before .before .before .before .before .before .before .before .before .before .before .before .before .before .before .args in
+    let p = args′ .parts in
+    let i = args′ .x .start in
+    let j = args′ .x .end in
+    let f = args′ .c .start in
+    let pre′ = c .before .before .before .before .before .before .before .before .before .before .before .before .before .before .before .before .pre in
+    let st = pre′ .1 .0 .stands in
+    let if1′ = c .before .before .before .before .before .before .before .before .before .before .before .before .if1 in
+    let if2′ = c .before .before .before .before .before .before .before .before .before .before .if2 in
+    let g = args′ .set in
+    let s = args′ .src .now in
+    let begin = Steps.at g s (args′ .left) (goto (slice-end p i j)) 0 (args′ .c) (args′ .w) (args′ .out .now) in
+    let read = Steps.took (expr′ .ensures) (a′ .given .1) (Steps.known (expression ▸ goto (slice-ended p i j f)) st refl (λ xs t. simp (ne-eqb _ 29 (if1′ .left), ne-eqb _ 24 (if2′ .left))) begin) in
+    let there = read .stands st in
+    there
+
+pub add-step : (t : ℕ) → lts.Need-add-step (K t) (P t) Post
+add-step t c =
+    let pre′ = c .before .before .before .before .before .before .before .before .before .before .before .before .before .before .before .before .before .pre in
+    omega (arith, pre′ .1 .1)
+
+pub step-requires-2 : (t : ℕ) → lts.Need-step-requires-2 (K t) (P t) Post
+unfolding rule choose has sight
+step-requires-2 t c κs =
+    let pre′ = c .before .before .before .before .before .before .before .before .before .before .before .before .before .before .before .before .before .pre in
+    let expr′ = c .before .before .before .before .before .before .before .before .before .expr in
+    let a′ = c .before .before .before .before .before .a in
+    let args′ = c .before .before .before .before .before .before .before .before .before .before .before .before .before .before .before .before .before .args in
+    let p = args′ .parts in
+    let i = args′ .x .start in
+    let j = args′ .x .end in
+    let f = args′ .c .start in
+    let st = pre′ .1 .0 .stands in
+    let if1′ = c .before .before .before .before .before .before .before .before .before .before .before .before .before .if1 in
+    let if2′ = c .before .before .before .before .before .before .before .before .before .before .before .if2 in
+    let g = args′ .set in
+    let s = args′ .src .now in
+    let begin = Steps.at g s (args′ .left) (goto (slice-end p i j)) 0 (args′ .c) (args′ .w) (args′ .out .now) in
+    let read = Steps.took (expr′ .ensures) (a′ .given .1) (Steps.known (expression ▸ goto (slice-ended p i j f)) st refl (λ xs t. simp (ne-eqb _ 29 (if1′ .left), ne-eqb _ 24 (if2′ .left))) begin) in
+    let there = read .stands st in
+    let eat-any2′ = c .eat-any2 in
+    let if3′ = c .before .before .if3 in
+    let colon2 = Steps.taken (lit< tt) there (eat-any2′ .ensures) (if3′ .taken) (Steps.known (eat 29 ▸ goto (slice-step (p + 2) i j f (a′ .given .0 .0 .at))) there (if3′ .taken) (λ xs t. refl) read) in
+    (omega (arith, pre′ .0), (Steps.ready (pre′ .1 .0) (lit≤ tt) colon2, omega (arith, pre′ .1 .1), pre′ .1 .2, pre′ .1 .3, within (pre′ .1 .0) .0, omega (arith, there .within, pre′ .1 .0 .short)))
+
+pub same-length-4 : (t : ℕ) → lts.Need-same-length-4 (K t) (P t) Post
+same-length-4 t c =
+    search needs
+
+pub returns-4 : (t : ℕ) → lts.Need-returns-4 (K t) (P t) Post
+unfolding rule choose has sight
+returns-4 t c =
+    let step2′ = c .before .before .step2 in
+    let expr′ = c .before .before .before .before .before .before .before .before .before .before .before .before .expr in
+    let a′ = c .before .before .before .before .before .before .before .before .a in
+    let args′ = c .before .before .before .before .before .before .before .before .before .before .before .before .before .before .before .before .before .before .before .before .args in
+    let p = args′ .parts in
+    let i = args′ .x .start in
+    let j = args′ .x .end in
+    let f = args′ .c .start in
+    let pre′ = c .before .before .before .before .before .before .before .before .before .before .before .before .before .before .before .before .before .before .before .before .pre in
+    let st = pre′ .1 .0 .stands in
+    let if1′ = c .before .before .before .before .before .before .before .before .before .before .before .before .before .before .before .before .if1 in
+    let if2′ = c .before .before .before .before .before .before .before .before .before .before .before .before .before .before .if2 in
+    let g = args′ .set in
+    let s = args′ .src .now in
+    let begin = Steps.at g s (args′ .left) (goto (slice-end p i j)) 0 (args′ .c) (args′ .w) (args′ .out .now) in
+    let read = Steps.took (expr′ .ensures) (a′ .given .1) (Steps.known (expression ▸ goto (slice-ended p i j f)) st refl (λ xs t. simp (ne-eqb _ 29 (if1′ .left), ne-eqb _ 24 (if2′ .left))) begin) in
+    let there = read .stands st in
+    let eat-any2′ = c .before .before .before .eat-any2 in
+    let if3′ = c .before .before .before .before .before .if3 in
+    record {
+      tells = λ n. Steps.tail-telling (lit≤ tt) (step2′ .ensures .tells (n + 1))
+          (Steps.taken (lit< tt) there (eat-any2′ .ensures) (if3′ .taken) (Steps.known (eat 29 ▸ goto (slice-step (p + 2) i j f (a′ .given .0 .0 .at))) there (if3′ .taken) (λ xs t. refl)
+          (Steps.took (expr′ .ensures) (a′ .given .1) (Steps.known (expression ▸ goto (slice-ended p i j f)) st refl (λ xs t. simp (ne-eqb _ 29 (if1′ .left), ne-eqb _ 24 (if2′ .left))) Steps.here))));
+    }
+
+pub add-slice-close : (t : ℕ) → lts.Need-add-slice-close (K t) (P t) Post
+add-slice-close t c =
+    let pre′ = c .before .before .before .before .before .before .before .before .before .before .before .before .before .before .before .before .pre in
+    omega (arith, pre′ .1 .1)
+
+pub slice-close-requires-2 : (t : ℕ) → lts.Need-slice-close-requires-2 (K t) (P t) Post
+unfolding rule choose has sight
+slice-close-requires-2 t c κs =
+    let pre′ = c .before .before .before .before .before .before .before .before .before .before .before .before .before .before .before .before .pre in
+    let expr′ = c .before .before .before .before .before .before .before .before .expr in
+    let a′ = c .before .before .before .before .a in
+    let args′ = c .before .before .before .before .before .before .before .before .before .before .before .before .before .before .before .before .args in
+    let p = args′ .parts in
+    let i = args′ .x .start in
+    let j = args′ .x .end in
+    let f = args′ .c .start in
+    let st = pre′ .1 .0 .stands in
+    let if1′ = c .before .before .before .before .before .before .before .before .before .before .before .before .if1 in
+    let if2′ = c .before .before .before .before .before .before .before .before .before .before .if2 in
+    let g = args′ .set in
+    let s = args′ .src .now in
+    let begin = Steps.at g s (args′ .left) (goto (slice-end p i j)) 0 (args′ .c) (args′ .w) (args′ .out .now) in
+    let read = Steps.took (expr′ .ensures) (a′ .given .1) (Steps.known (expression ▸ goto (slice-ended p i j f)) st refl (λ xs t. simp (ne-eqb _ 29 (if1′ .left), ne-eqb _ 24 (if2′ .left))) begin) in
+    let there = read .stands st in
+    (Steps.ready (pre′ .1 .0) (lit≤ tt) read, pre′ .1 .2, pre′ .1 .3, within (pre′ .1 .0) .0, omega (arith, there .within, pre′ .1 .0 .short), lit< tt, lit< tt)
+
+pub same-length-5 : (t : ℕ) → lts.Need-same-length-5 (K t) (P t) Post
+same-length-5 t c =
+    search needs
+
+pub returns-5 : (t : ℕ) → lts.Need-returns-5 (K t) (P t) Post
+unfolding rule choose has sight
+returns-5 t c =
+    let slice-close2′ = c .before .before .slice-close2 in
+    let args′ = c .before .before .before .before .before .before .before .before .before .before .before .before .before .before .before .before .before .before .before .args in
+    let g = args′ .set in
+    let p = args′ .parts in
+    let i = args′ .x .start in
+    let j = args′ .x .end in
+    let f = args′ .c .start in
+    let a′ = c .before .before .before .before .before .before .before .a in
+    let expr′ = c .before .before .before .before .before .before .before .before .before .before .before .expr in
+    let pre′ = c .before .before .before .before .before .before .before .before .before .before .before .before .before .before .before .before .before .before .before .pre in
+    let st = pre′ .1 .0 .stands in
+    let if1′ = c .before .before .before .before .before .before .before .before .before .before .before .before .before .before .before .if1 in
+    let if2′ = c .before .before .before .before .before .before .before .before .before .before .before .before .before .if2 in
+    let s = args′ .src .now in
+    let begin = Steps.at g s (args′ .left) (goto (slice-end p i j)) 0 (args′ .c) (args′ .w) (args′ .out .now) in
+    let read = Steps.took (expr′ .ensures) (a′ .given .1) (Steps.known (expression ▸ goto (slice-ended p i j f)) st refl (λ xs t. simp (ne-eqb _ 29 (if1′ .left), ne-eqb _ 24 (if2′ .left))) begin) in
+    let there = read .stands st in
+    let if3′ = c .before .before .before .before .if3 in
+    record {
+      tells = λ n. Steps.tail-telling (lit≤ tt) (slice-close2′ .ensures .tells g (args′ .left) (n + 1))
+          (Steps.known (sliced (p + 2) (span i j) (span f (a′ .given .0 .0 .at)) (span 0 0)) there refl (λ xs t. simp (ne-eqb _ 29 (if3′ .left)))
+          (Steps.took (expr′ .ensures) (a′ .given .1) (Steps.known (expression ▸ goto (slice-ended p i j f)) st refl (λ xs t. simp (ne-eqb _ 29 (if1′ .left), ne-eqb _ 24 (if2′ .left))) Steps.here)));
+    }

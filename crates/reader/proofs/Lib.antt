@@ -1,0 +1,3 @@
+pub mod ReaderLaws
+pub mod AnswerLaws
+pub mod Demands

@@ -1,0 +1,265 @@
+-- Laws of the reader: the lexemes of a source are what its first cursor sees, a phrase's answer is document 01's verdict, and what is cleared.
+-- Assumes nothing.
+use mathlib.Core.Path.{_≡_, refl, sym, ap, subst, subst⁻¹, _∙_}
+use mathlib.Core.Bool.{Bool, true, false, cond, _&&_}
+use mathlib.Core.List.{List, [], _∷_, _++_, append-nil}
+use mathlib.Core.Logic.{_⊎_, inl, inr}
+use Prim.Native.Nat.{ℕ, _+_, _-_, _≤_, _<_}
+use native.Mathlib.Omega.{arith}
+use denote.Enum.Declared.{tagOf}
+use types.Run.{OneOf, miss}
+use borrow.Author.Tests.{ne-eqb, eqb-true, le-leb, lt-leb}
+use lib.Dec.{T, eqb, leb}
+use lib.ListN.{length, take, drop, replicate, length-drop, drop-of-length-le}
+use lib.Seq.{sets, sets-eq, take-at, take-all, length-sets}
+use Rattle.strings.specs.Utf8.{Utf8, ValidTo}
+use Rattle.strings.proofs.CharacterLaws.{valid-whole}
+use Rattle.lexemes.specs.declared.Lexeme.{Lexeme as Range}
+use Rattle.lexemes.specs.Kinds.{EOF}
+use Rattle.lexemes.specs.Kept.{FirstBad}
+use Rattle.lexemes.specs.Kept as lexemes
+use Rattle.lexemes.proofs.Laws.{lexeme-not-eof}
+use Rattle.lexemes.proofs.KeptLaws.{Rest, next, kept-step, first-bad-once}
+use Rattle.grammar.specs.Trees.{Trees, none, count as size}
+use Rattle.grammar.specs.Image.{image}
+use Rattle.grammar.specs.Lexemes.{Lexeme as Token, start-of, stop-of}
+use Rattle.grammar.specs.Says.{Told}
+use Rattle.grammar.specs.Productions.{Body, end, _▸_, eat, deep, expr, source}
+use Rattle.grammar.specs.Reading.{Outcome, done, broken, Reading as Derived, ended, eaten, uneaten}
+use Rattle.grammar.specs.Answer.{Answer as Handed, Verdict, refused, tree, verdict, Judged, read, answer, output, document-01}
+use Rattle.grammar.specs.Source.{Bad, bad, Kept, kept, Reads01}
+use Rattle.grammar.proofs.Source.{lexing}
+use Rattle.phrases.specs.Lexing.{Left, over, more, Stands}
+use Rattle.phrases.specs.Meets.{power, state, Seg, sorted, Breaks, Takes}
+use Rattle.reader.specs.Reader.{refusal, numbers, written, Clean, Finds, Reads}
+use Rattle.phrases.specs.declared.Cursor.{Cursor}
+use Rattle.phrases.specs.declared.Refusal.{Refusal}
+use Rattle.phrases.specs.declared.Answer.{Answer}
+use Rattle.phrases.specs.declared.Answer.the-variants.{Done, Broken}
+use Rattle.reader.specs.declared.Reading.{Reading}
+use Rattle.reader.specs.declared.Reading.the-variants.{Tree, Setting, Long, Encoding, Lexeme, Wanted, Absent, Expression, Misplaced, Escape, Block, Depth, Room}
+use Rattle.reader.proofs.Reading.{the-type}
+use Rattle.phrases.proofs.LexemeLaws.{sees}
+use Rattle.phrases.proofs.Steps
+
+-- ── The lexemes of a source ───────────────────────────────────────────────────────────────────────
+
+first-rest : {s : List ℕ} {at : ℕ} {l : Range} {ls : List Range} → Rest s at (l ∷ ls) → (l .kind ≡ EOF → ⊥) × lexemes.Kept s (l .end) ls
+first-rest {s} (next f h g d n r) = (lexeme-not-eof s (omega arith) d, r)
+
+-- The kept lexemes from a place on, with what they say, are those that are left there.
+pub left-of : {s : List ℕ} {at : ℕ} {ranges : List Range} {xs : List Token} → lexemes.Kept s at ranges → Told s ranges xs → Left s at xs
+left-of k Told.none = over (record { left = []; is-left = k; is-first = refl })
+left-of k (Told.more t ts) = let r = first-rest (kept-step k) in more (record { left = _; is-left = k; is-first = refl }) (r .0) t (left-of (r .1) ts)
+
+kept-left : {s : List ℕ} {xs : List Token} → Kept s xs → Left s 0 xs
+kept-left (kept b k t) = left-of k t
+
+-- Where the first bad lexeme is the end, there are kept ones.
+pub none-bad : {s : List ℕ} {l : Range} → Utf8 s → FirstBad s l → l .kind ≡ EOF → (xs : List Token) × Kept s xs
+none-bad {s} {l} u b e = by (lexing .lexed s u)
+  where
+    by : ((k : ℕ) × (a : ℕ) × (z : ℕ) × Bad s k a z) ⊎ ((xs : List Token) × Kept s xs) → (xs : List Token) × Kept s xs
+    by (inl (k, a, z, bad n x)) = absurd (n (sym (ap (λ (y : Range). y .kind) (first-bad-once b x)) ∙ e))
+    by (inr k) = k
+
+-- All bytes are valid.
+pub valid-all : {s : List ℕ} {n : ℕ} → ValidTo s n → length s ≤ n → Utf8 s
+valid-all v h = valid-whole v (omega (arith, v .within))
+
+-- What the lexemes of a source are read as is what is found out about it.
+judged-by : {g : ℕ} {s : List ℕ} {v : Verdict} → Clean g s
+    → ((xs : List Token) → Left s 0 xs → (o : Outcome) × Derived power g source none 200 0 xs o × (verdict o ≡ v)) → Judged Bad Kept document-01 g s v
+judged-by {g} {s} c f =
+    let o = f (c .lexemes .0) (kept-left (c .lexemes .1)) in
+    subst (λ (v : Verdict). Judged Bad Kept document-01 g s v) (o .2) (read (c .known) (c .short) (c .valid) (c .lexemes .1) (o .1))
+
+-- ── What an expression's answer says of the whole source ──────────────────────────────────────────
+
+module _ {g : ℕ} {s out : List ℕ} {c : Cursor} {a : Answer} {out′ : List ℕ} (clean : Clean g s) (at : (c .at ≡ 0) × Stands s c)
+    (t : Takes g s (deep (expr 0)) 1 0 200 c 0 out a out′) where
+  from-start : {xs : List Token} → Left s 0 xs → Left s (c .at) xs
+  from-start {xs} l = subst⁻¹ (λ (p : ℕ). Left s p xs) (at .0) l
+
+  to-start : {xs : List Token} {o : Outcome} → Derived power g source none 200 (c .at) xs o → Derived power g source none 200 0 xs o
+  to-start {xs} {o} r = subst (λ (p : ℕ). Derived power g source none 200 p xs o) (at .0) r
+
+  -- broken off
+  module _ {r : Refusal} (q : a ≡ Broken r) where
+    broke : Breaks g s 200 (state source 0 c 0 out) r
+    broke = Steps.refused (t .takes (eat EOF ▸ end) 0) q
+
+    pub refusal-sorted : sorted (r .number) (r .detail) ≡ true
+    refusal-sorted = broke .sort
+
+    pub refusal-judged : Judged Bad Kept document-01 g s (refused (r .number) (r .place .start) (r .place .end) (r .detail))
+    unfolding size verdict
+    refusal-judged =
+        judged-by clean (λ xs l.
+        let b = broke .breaks none xs refl (from-start l) in
+        let y = sees (broke .stands) refl (b .kept) in (
+          _,
+          to-start (b .reading),
+          ap (λ (n : ℕ). refused (r .number) n (stop-of (r .place .at) (b .left)) (r .detail)) (y .start)
+              ∙ ap (λ (n : ℕ). refused (r .number) (r .place .start) n (r .detail)) (y .stop),
+        ))
+
+  -- done, up to a cursor
+  module _ {c₁ : Cursor} {w k : ℕ} (q : a ≡ Done c₁ w k) where
+    pub whole : Seg g s 200 (state source 0 c 0 out) 0 0 (state (eat EOF ▸ end) 1 c₁ w out′)
+    whole = Steps.led (t .takes (eat EOF ▸ end) 0) q
+
+    -- with a lexeme there
+    pub more-judged : ¬ (c₁ .kind ≡ EOF) → Judged Bad Kept document-01 g s (refused 5 (c₁ .start) (c₁ .end) EOF)
+    unfolding size verdict
+    more-judged n =
+        judged-by clean (λ xs l.
+        let b = whole .run none xs refl (from-start l) in
+        let y = sees (whole .stands (at .1)) refl (b .kept) in (
+          _,
+          to-start (b .back _ (uneaten (λ e. n (sym (y .kind) ∙ e)))),
+          ap (λ (n : ℕ). refused 5 n (stop-of (c₁ .at) (b .left)) EOF) (y .start) ∙ ap (λ (n : ℕ). refused 5 (c₁ .start) n EOF) (y .stop),
+        ))
+
+    -- with none
+    pub tree-judged : c₁ .kind ≡ EOF → Judged Bad Kept document-01 g s (tree (whole .trees none))
+    unfolding size verdict
+    tree-judged e =
+        judged-by clean (λ xs l.
+        let b = whole .run none xs refl (from-start l) in
+        let y = sees (whole .stands (at .1)) refl (b .kept) in
+        (_, to-start (b .back _ (eaten (y .kind ∙ e) ended)), refl))
+
+    image-is : image (whole .trees none) ≡ whole .bytes
+    unfolding image
+    image-is = whole .imaged none
+
+    pub tree-long : w ≡ length (image (whole .trees none))
+    tree-long = let z : w ≡ 0 + length (whole .bytes) = whole .wrote in omega (arith, z, ap length image-is)
+
+    pub tree-stored : out′ ≡ sets out 0 (image (whole .trees none))
+    tree-stored = whole .stored ∙ ap (λ (l : List ℕ). sets out 0 l) (sym image-is)
+
+-- ── What is found ─────────────────────────────────────────────────────────────────────────────────
+
+-- a refusal has no image
+either : (b : Bool) → _≡_ {A = ℕ} (cond b 0 0) 0
+either true = refl
+either false = refl
+
+no-size : {n a e x : ℕ} (r : Reading) → numbers r ≡ refusal n a e x → written r ≡ 0
+unfolding written
+no-size {n} r q = ap (λ (y : Handed). cond (eqb (y .number) 0) (y .size) 0) q ∙ either (eqb n 0)
+
+same-long : (out out′ bs : List ℕ) → out′ ≡ sets out 0 bs → length out′ ≡ length out
+same-long out out′ bs e = ap length e ∙ length-sets out 0 bs
+
+minus-none : (n : ℕ) → n - 0 ≡ n
+minus-none n = omega arith
+
+module _ {g : ℕ} {s out out′ : List ℕ} where
+  -- a refusal
+  pub finds-refusal : {n a e x : ℕ} {r : Reading} → Judged Bad Kept document-01 g s (refused n a e x) → numbers r ≡ refusal n a e x → Finds g s out r out′
+  unfolding answer output
+  finds-refusal {n} {r = r} j q =
+      let z = no-size r q in
+      record {
+        found = _;
+        judged = j;
+        told = q;
+        room = omega (arith, z);
+        left = ap (λ (n : ℕ). replicate n 0) (sym (minus-none (length out))) ∙ ap (λ (n : ℕ). take n out′ ++ replicate (length out - n) 0) (sym z);
+      }
+
+  module _ {ts : Trees} {w : ℕ} (j : Judged Bad Kept document-01 g s (tree ts)) (q : w ≡ length (image ts)) (e : out′ ≡ sets out 0 (image ts)) where
+    -- a tree without room
+    pub finds-long : length out′ < w → Finds g s out (Room w) out′
+    unfolding answer output numbers written
+    finds-long h =
+        let z = lt-leb (length (image ts)) (length out) (omega (arith, q, h, same-long out out′ (image ts) e)) in
+        record {
+          found = _;
+          judged = j;
+          told = ap (λ (n : ℕ). numbers (Room n)) q ∙ ap (λ (b : Bool). record { number = cond b 0 12; start = 0; stop = 0; detail = 0; size = length (image ts) }) (sym z);
+          room = omega arith;
+          left = ap (λ (b : Bool). cond b (image ts ++ replicate (length out - length (image ts)) 0) (replicate (length out) 0)) z ∙ ap (λ (n : ℕ). replicate n 0) (sym (minus-none (length out)));
+        }
+
+    -- a tree, stored
+    pub finds-tree : w ≤ length out′ → Finds g s out (Tree w) out′
+    unfolding answer output numbers written
+    finds-tree h =
+        let z = le-leb (length (image ts)) (length out) (omega (arith, q, h, same-long out out′ (image ts) e)) in
+        let p : out′ ≡ image ts ++ drop (0 + length (image ts)) out = e ∙ sets-eq (image ts) out 0 (omega (arith, q, h, same-long out out′ (image ts) e)) in
+        record {
+          found = _;
+          judged = j;
+          told = ap (λ (n : ℕ). numbers (Tree n)) q ∙ ap (λ (b : Bool). record { number = cond b 0 12; start = 0; stop = 0; detail = 0; size = length (image ts) }) (sym z);
+          room = omega (arith, h, same-long out out′ (image ts) e);
+          left =
+              ap (λ (b : Bool). cond b (image ts ++ replicate (length out - length (image ts)) 0) (replicate (length out) 0)) z
+              ∙ ap (λ (n : ℕ). image ts ++ replicate (length out - n) 0) (sym q)
+              ∙ ap (λ (l : List ℕ). l ++ replicate (length out - w) 0) (sym (ap (take w) p ∙ take-at (image ts) (drop (0 + length (image ts)) out) w (sym q)));
+        }
+
+  -- and what is beyond it cleared
+  pub reads-cleared : {r : Reading} {n : ℕ} {last : List ℕ} → Finds g s out r out′ → n ≡ written r → length out′ ≡ length out
+      → last ≡ replicate (length (take (length out′ - n) (drop n out′))) 0 → Reads g s out r (take n out′ ++ (last ++ drop (length out′ - n) (drop n out′)))
+  reads-cleared {r} {n} {last} f q k e =
+      record {
+        found = f .found;
+        judged = f .judged;
+        answered = f .told;
+        written =
+            ap (λ (l : List ℕ). take n out′ ++ (last ++ l)) (drop-of-length-le (drop n out′) {i = length out′ - n} (omega (arith, length-drop n out′)))
+            ∙ ap (λ (l : List ℕ). take n out′ ++ l) (append-nil last ∙ e ∙ ap (λ (m : ℕ). replicate m 0) long)
+            ∙ ap (λ (m : ℕ). take m out′ ++ replicate (length out - m) 0) q
+            ∙ sym (f .left);
+      }
+    where
+      long : length (take (length out′ - n) (drop n out′)) ≡ length out - n
+      long = ap length (take-all (length out′ - n) (drop n out′) (omega (arith, length-drop n out′))) ∙ length-drop n out′ ∙ ap (λ (m : ℕ). m - n) k
+
+-- Only a tree has an image.
+pub no-image : (r : Reading) → OneOf (1 ∷ 2 ∷ 3 ∷ 4 ∷ 5 ∷ 6 ∷ 7 ∷ 8 ∷ 9 ∷ 10 ∷ 11 ∷ 12 ∷ []) (tagOf the-type r) → 0 ≡ written r
+unfolding written numbers
+no-image (Tree n) m = absurd (miss (1 ∷ 2 ∷ 3 ∷ 4 ∷ 5 ∷ 6 ∷ 7 ∷ 8 ∷ 9 ∷ 10 ∷ 11 ∷ 12 ∷ []) 0 tt m)
+no-image Setting m = refl
+no-image Long m = refl
+no-image (Encoding n) m = refl
+no-image (Lexeme a e k) m = refl
+no-image (Wanted a e k) m = refl
+no-image (Absent a e x) m = refl
+no-image (Expression a e) m = refl
+no-image (Misplaced a e x) m = refl
+no-image (Escape a e) m = refl
+no-image (Block a e) m = refl
+no-image (Depth a e) m = refl
+no-image (Room n) m = refl
+
+-- ── Refusals by their numbers ─────────────────────────────────────────────────────────────────────
+
+both : (a b : Bool) → (a && b) ≡ true → (a ≡ true) × (b ≡ true)
+both true b e = (refl, e)
+both false b e = absurd (let z : _≡_ {A = Bool} false true = e in let y : T false = subst⁻¹ T z tt in y)
+
+module _ {n x : ℕ} (h : sorted n x ≡ true) where
+  -- 7, 9 and 10 have no detail
+  pub no-detail-7 : n ≡ 7 → x ≡ 0
+  unfolding sorted
+  no-detail-7 e = eqb-true x 0 (subst (λ (m : ℕ). sorted m x ≡ true) e h)
+
+  pub no-detail-9 : n ≡ 9 → x ≡ 0
+  unfolding sorted
+  no-detail-9 e = eqb-true x 0 (subst (λ (m : ℕ). sorted m x ≡ true) e h)
+
+  pub no-detail-10 : n ≡ 10 → x ≡ 0
+  unfolding sorted
+  no-detail-10 e = eqb-true x 0 (subst (λ (m : ℕ). sorted m x ≡ true) e h)
+
+  -- what is none of 5 to 10 is 11, and has none either
+  pub last-number : ¬ (n ≡ 5) → ¬ (n ≡ 6) → ¬ (n ≡ 7) → ¬ (n ≡ 8) → ¬ (n ≡ 9) → ¬ (n ≡ 10) → (n ≡ 11) × (x ≡ 0)
+  unfolding sorted
+  last-number a b c d e f =
+      let z = both (eqb n 11) (eqb x 0) (rw (ne-eqb n 5 a, ne-eqb n 6 b, ne-eqb n 7 c, ne-eqb n 8 d, ne-eqb n 9 e, ne-eqb n 10 f) at h) in
+      (eqb-true n 11 (z .0), eqb-true x 0 (z .1))

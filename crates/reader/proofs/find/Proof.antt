@@ -1,0 +1,72 @@
+-- `reader::find` meets its contract.
+-- Assumes nothing.
+use mathlib.Core.Path.{refl}
+use borrow.Author.Needs.{needs}
+use Rattle.grammar.specs.Answer.{bad-setting, too-long, not-utf8, bad-lexeme}
+use Rattle.grammar.specs.Source.{bad}
+use Rattle.reader.specs.Reader.{numbers}
+use Rattle.reader.proofs.ReaderLaws.{finds-refusal, valid-all, none-bad}
+use Rattle.reader.proofs.find.Statement.{statement}
+use Rattle.reader.proofs.find.Tie as tie
+
+returns : tie.Need-returns
+unfolding numbers
+returns c = finds-refusal (bad-setting (c .if1 .taken)) refl
+
+returns-2 : tie.Need-returns-2
+unfolding numbers
+returns-2 c = finds-refusal (too-long (c .before .if1 .left) (c .if2 .taken)) refl
+
+valid-to-requires : tie.Need-valid-to-requires
+valid-to-requires c κs = search needs
+
+returns-3 : tie.Need-returns-3
+unfolding numbers
+returns-3 c =
+    let if1′ = c .before .before .before .if1 in
+    let if2′ = c .before .before .if2 in
+    let valid-to′ = c .before .valid-to in
+    finds-refusal (not-utf8 (if1′ .left) (if2′ .left) (valid-to′ .ensures) (c .if3 .taken)) refl
+
+first-bad-requires : tie.Need-first-bad-requires
+first-bad-requires c κs = search needs
+
+returns-4 : tie.Need-returns-4
+unfolding numbers
+returns-4 c =
+    let if1′ = c .before .before .before .before .before .before .if1 in
+    let if2′ = c .before .before .before .before .before .if2 in
+    let valid-to′ = c .before .before .before .before .valid-to in
+    let if3′ = c .before .before .before .if3 in
+    let first-bad′ = c .before .before .first-bad in
+    finds-refusal (bad-lexeme (if1′ .left) (if2′ .left) (valid-all (valid-to′ .ensures) (if3′ .left)) (bad (c .if4 .taken) (first-bad′ .ensures))) refl
+
+parse-requires : tie.Need-parse-requires
+parse-requires c κs =
+    let if1′ = c .before .before .before .before .before .before .before .if1 in
+    let if2′ = c .before .before .before .before .before .before .if2 in
+    let valid-to′ = c .before .before .before .before .before .valid-to in
+    let if3′ = c .before .before .before .before .if3 in
+    let first-bad′ = c .before .before .before .first-bad in
+    let u = valid-all (valid-to′ .ensures) (if3′ .left) in
+    record { known = if1′ .left; short = if2′ .left; valid = u; lexemes = none-bad u (first-bad′ .ensures) (c .before .if4 .left) }
+
+same-length : tie.Need-same-length
+same-length c = search needs
+
+returns-5 : tie.Need-returns-5
+returns-5 c = search needs
+
+pub find-spec : {M : Type 1} → statement M
+find-spec =
+    tie.close
+    (tie.spec
+    returns
+    returns-2
+    valid-to-requires
+    returns-3
+    first-bad-requires
+    returns-4
+    parse-requires
+    same-length
+    returns-5)

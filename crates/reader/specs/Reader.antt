@@ -1,0 +1,68 @@
+-- What the reader promises: its answers as document 01 numbers them.
+-- Assumes nothing.
+use mathlib.Core.Path.{_≡_}
+use mathlib.Core.Bool.{cond}
+use mathlib.Core.List.{List, _++_}
+use Prim.Native.Nat.{ℕ, _-_, _≤_}
+use lib.Dec.{eqb}
+use lib.ListN.{length, take, replicate}
+use Rattle.strings.specs.Utf8.{Utf8}
+use Rattle.grammar.specs.Lexemes.{Lexeme as Token}
+use Rattle.grammar.specs.Answer.{Answer, Verdict, Judged, answer, output, document-01}
+use Rattle.grammar.specs.Source.{Bad, Kept, Reads01}
+use Rattle.reader.specs.declared.Fields.{Fields}
+use Rattle.reader.specs.declared.Reading.{Reading}
+use Rattle.reader.specs.declared.Reading.the-variants.{Tree, Setting, Long, Encoding, Lexeme, Wanted, Absent, Expression, Misplaced, Escape, Block, Depth, Room}
+
+-- ── Document 01's numbers for each case of the answer ─────────────────────────────────────────────
+
+-- A refusal: number, place, detail.
+abbrev pub refusal : ℕ → ℕ → ℕ → ℕ → Answer
+refusal n a e x = record { number = n; start = a; stop = e; detail = x; size = 0 }
+
+-- 01's number, start, end, detail and length.
+unfoldable pub numbers : Reading → Answer
+numbers (Tree n) = record { number = 0; start = 0; stop = 0; detail = 0; size = n }
+numbers Setting = refusal 1 0 0 0
+numbers Long = refusal 2 0 0 0
+numbers (Encoding n) = refusal 3 n n 0
+numbers (Lexeme a e k) = refusal 4 a e k
+numbers (Wanted a e k) = refusal 5 a e k
+numbers (Absent a e x) = refusal 6 a e x
+numbers (Expression a e) = refusal 7 a e 0
+numbers (Misplaced a e x) = refusal 8 a e x
+numbers (Escape a e) = refusal 9 a e 0
+numbers (Block a e) = refusal 10 a e 0
+numbers (Depth a e) = refusal 11 a e 0
+numbers (Room n) = record { number = 12; start = 0; stop = 0; detail = 0; size = n }
+
+-- The same five, as the code hands them back.
+abbrev pub answered : Fields → Answer
+answered f = record { number = f .number; start = f .start; stop = f .end; detail = f .detail; size = f .length }
+
+-- ── The reader's contract ─────────────────────────────────────────────────────────────────────────
+
+-- Of a setting, a source and an output as it came in: the answer and the output as it is left.
+abbrev pub Reads : ℕ → List ℕ → List ℕ → Reading → List ℕ → Type 0
+Reads setting source out reading out′ = Reads01 setting source (length out) (numbers reading) out′
+
+-- ── On the way there ──────────────────────────────────────────────────────────────────────────────
+
+-- How many bytes of the output are the image's.
+unfoldable pub written : Reading → ℕ
+written r = cond (eqb (numbers r .number) 0) (numbers r .size) 0
+
+-- None of 1 to 4 is to be answered: the source has lexemes, and none is bad.
+pub record Clean (setting : ℕ) (source : List ℕ) : Type 0 where
+  pub known : setting ≤ 7
+  pub short : length source ≤ 65000
+  pub valid : Utf8 source
+  pub lexemes : (xs : List Token) × Kept source xs
+
+-- The answer is found, and beyond the image the output has yet to be cleared.
+pub record Finds (setting : ℕ) (source out : List ℕ) (reading : Reading) (out′ : List ℕ) : Type 0 where
+  pub found : Verdict
+  pub judged : Judged Bad Kept document-01 setting source found
+  pub told : numbers reading ≡ answer (length out) found
+  pub room : written reading ≤ length out
+  pub left : output (length out) found ≡ take (written reading) out′ ++ replicate (length out - written reading) 0

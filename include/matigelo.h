@@ -1,0 +1,55 @@
+/* The reader of Jsonnet sources, for C. Build the library by `rt staticlib matigelo` (target/staticlib/libmatigelo.a, x86-64 Linux) and link it
+   with the program. It calls nothing, keeps nothing between calls, and can be called from several threads at once. */
+#ifndef MATIGELO_H
+#define MATIGELO_H
+
+#include <stddef.h>
+#include <stdint.h>
+
+#ifdef __cplusplus
+extern "C" {
+#endif
+
+/* Sums of these are settings. */
+#define MATIGELO_EXP_DESTRUCT 1u
+#define MATIGELO_EXP_OBJECT_ITERATION 2u
+#define MATIGELO_EXP_NULL_COAELSE 4u
+
+/* What an answer says; of the other fields those that a number does not use are 0.
+
+   number                                          start and end; detail; length
+    0  a tree, its image is in the output          length of the image
+    1  a setting above 7
+    2  a source above 65,000 bytes
+    3  not UTF-8                                   start = end = bytes valid so far
+    4  a bad lexeme                                the first one; its kind
+    5  another lexeme is wanted                    the one that stands there; the kind that is wanted
+    6  a field name or a pattern is wanted         the one that stands there; 1 field name, 2 pattern
+    7  no expression begins so                     the one that stands there
+    8  misplaced                                   current; 1 positional after named, 2 to 4 faults of an object comprehension
+    9  a bad escape                                the literal
+   10  a block without a text                      the literal
+   11  deeper than 200                             the one that stands there
+   12  a tree, but its image has no room           length that is needed
+
+   start and end are bytes of the source, counted from 0. */
+typedef struct {
+    uint64_t number;
+    uint64_t start;
+    uint64_t end;
+    uint64_t detail;
+    uint64_t length;
+} matigelo_answer;
+
+/* Reads source_length bytes from source under setting. The image goes to output, which has output_length bytes; what is beyond it is cleared,
+   and all is where the number is not 0.
+   No pointer may be NULL, also where a length is 0; output and answer must overlap neither each other nor the source; the source must not
+   change during the call; a length is at most PTRDIFF_MAX. Nothing else is asked: every setting and all bytes have an answer. An image has
+   at most 16 bytes for each byte of its source. */
+void matigelo_read(uint64_t setting, const uint8_t *source, size_t source_length, uint8_t *output, size_t output_length, matigelo_answer *answer);
+
+#ifdef __cplusplus
+}
+#endif
+
+#endif
