@@ -11,3 +11,19 @@ pub fn answer(setting: u64, source: &[u8], output: &mut [u8]) -> Fields {
     let reading = reader::read(setting, source, output);
     reader::numbers(reading)
 }
+
+// The first bytes of an output, as many as it has.
+fn front(output: &[u8], n: usize) -> &[u8] {
+    if output.len() < n {
+        return output;
+    }
+    &output[..n]
+}
+
+// The image that an answer has left in the output: nothing after a refusal.
+pub fn image(f: Fields, output: &[u8]) -> &[u8] {
+    if f.number != 0 {
+        return front(output, 0);
+    }
+    front(output, f.length as usize)
+}

@@ -3,28 +3,29 @@ ghost use Prim.Native.Nat.{_≤_};
 ghost use Rattle.io.specs.Counts.{Counts};
 use crate::Fields;
 use crate::text::put;
+use crate::text::put_field;
 use crate::text::put_hex_line;
 use crate::text::put_number;
-use crate::tree::front;
-use crate::tree::put_field;
 
-// The most bytes that a question may ask for, and how many of a source are kept: enough to see that it is too long.
+// The longest output that a question may ask for.
 pub const OUTPUT: usize = 1_048_576;
 
+// How many bytes of a source are kept: enough for the reader to see that it is too long.
 pub const SOURCE: usize = 65_100;
+
 // Room for the longest answer: two digits for each byte of the image, and five numbers before them.
 pub const TEXT: usize = 2_097_280;
 
-// The field that a question has come to: a number, a number, bytes or the sign for none, and behind that sign nothing.
-const SETTING: u8 = 0;
+// The stage that a question has come to, in the order of its fields.
+const SETTING: u8 = 0; // in the setting
 
-const ROOM: u8 = 1;
+const ROOM: u8 = 1; // in the output's length
 
-const BYTES: u8 = 2;
+const BYTES: u8 = 2; // in the source's hex, which may be the sign for none
 
-const NONE: u8 = 3;
+const NONE: u8 = 3; // behind that sign, where nothing may follow
 
-const BAD: u8 = 4;
+const BAD: u8 = 4; // behind what no question has
 
 // The largest number of 64 bits is ten times the one and the other over.
 const TENTH: u64 = 1_844_674_407_370_955_161;
@@ -202,9 +203,8 @@ fn is_clear(output: &[u8], from: usize) -> bool {
 fn told(f: Fields, output: &[u8], text: &mut [u8]) -> usize
     ensures { λ r. ⌜ Counts r (now (text .exit)) ⌝ }
 {
-    let image = if f.number == 0 { f.length } else { 0 };
-    let written = front(output, image as usize);
-    if !is_clear(output, written.len()) {
+    let image = crate::image(f, output);
+    if !is_clear(output, image.len()) {
         return put(text, 0, b"dirty\n");
     }
     let mut n = put_number(text, 0, f.number);
@@ -216,7 +216,7 @@ fn told(f: Fields, output: &[u8], text: &mut [u8]) -> usize
         return put(text, n, b" -\n");
     }
     n = put(text, n, b" ");
-    put_hex_line(text, n, written)
+    put_hex_line(text, n, image)
 }
 
 fn answer_into(setting: u64, source: &[u8], output: &mut [u8], text: &mut [u8]) -> usize
@@ -227,7 +227,7 @@ fn answer_into(setting: u64, source: &[u8], output: &mut [u8], text: &mut [u8]) 
     told(f, output, text)
 }
 
-// The answer's line for a question; `bad` for a line that asks nothing.
+// The answer's line for a question; `bad` for a line that asks nothing, and for one that the buffers are too short for.
 pub fn answer(q: Question, source: &[u8], output: &mut [u8], text: &mut [u8]) -> usize
     ensures { λ r. ⌜ Counts r (now (text .exit)) ⌝ }
 {

@@ -29,6 +29,14 @@ pub fn put_number(text: &mut [u8], at: usize, n: u64) -> usize
     put(text, at, &digits[..k])
 }
 
+// A number after a space.
+pub fn put_field(text: &mut [u8], at: usize, n: u64) -> usize
+    ensures { λ r. ⌜ Counts r (now (text .exit)) ⌝ }
+{
+    let next = put(text, at, b" ");
+    put_number(text, next, n)
+}
+
 fn hex_digit(n: u8) -> u8 {
     match n {
         0..=9 => n + 0x30,

@@ -3,32 +3,18 @@ ghost use Rattle.io.specs.Counts.{Counts};
 use crate::Fields;
 use crate::input::take;
 use crate::text::put;
+use crate::text::put_field;
 use crate::text::put_hex_line;
-use crate::text::put_number;
 use libc::STDOUT_FILENO;
 
 // One byte more than a source may have, so that a longer one is seen as longer.
 const SOURCE: usize = 65_001;
 
+// What document 01 lends it.
 const OUTPUT: usize = 65_536;
+
 // Two digits for each byte of the image, and the line before them.
 const TEXT: usize = 131_104;
-
-// The first bytes of an output, as many as it has.
-pub fn front(output: &[u8], n: usize) -> &[u8] {
-    if output.len() < n {
-        return output;
-    }
-    &output[..n]
-}
-
-// A number after a space.
-pub fn put_field(text: &mut [u8], at: usize, n: u64) -> usize
-    ensures { λ r. ⌜ Counts r (now (text .exit)) ⌝ }
-{
-    let next = put(text, at, b" ");
-    put_number(text, next, n)
-}
 
 fn refused(f: Fields, text: &mut [u8]) -> usize
     ensures { λ r. ⌜ Counts r (now (text .exit)) ⌝ }
@@ -51,7 +37,7 @@ fn told(f: Fields, output: &[u8], text: &mut [u8]) -> usize
     let mut n = put(text, 0, b"ok");
     n = put_field(text, n, f.length);
     n = put(text, n, b"\n");
-    put_hex_line(text, n, front(output, f.length as usize))
+    put_hex_line(text, n, crate::image(f, output))
 }
 
 // Reads all of a file and tells the answer on standard output; nothing is told of a file that cannot be read to its end.

@@ -1,2 +1,2 @@
 { level: 1,
-  note: "Durchfluß �" }
+  note: "Durchfluß �" }

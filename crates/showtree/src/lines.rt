@@ -7,7 +7,7 @@ use crate::say::say;
 use crate::say::say_count;
 use crate::say::say_text;
 
-// ` at LINE:COLUMN`, of the span at a place in the payload.
+// ` at LINE:COLUMN`, where the span begins that stands at a place of the payload.
 fn say_at(p: &[u8], at: usize, source: &[u8]) {
     say(b" at ");
     say_place(source, number(p, at));
@@ -207,7 +207,7 @@ fn say_bind(p: &[u8]) {
 // What a pattern does with the rest.
 fn say_rest(what: u8, name: &[u8]) {
     match what {
-        0 => say(b""),
+        0 => {}
         1 => say(b", the rest dropped"),
         _ => say_named(b", the rest kept as", name),
     }
@@ -251,7 +251,7 @@ fn say_pattern(tag: u8, p: &[u8], source: &[u8]) {
 
 fn say_visibility(visibility: u8) {
     match visibility {
-        0 => say(b""),
+        0 => {}
         1 => say(b", hidden"),
         _ => say(b", forced visible"),
     }

@@ -10,17 +10,19 @@ mod tree; // the records in a person's order
 use desk::input::take;
 use libc::STDERR_FILENO;
 
-// One byte more than a source may have; more than the image of any source, and more than its records.
+// One byte more than a source may have, so that a longer one is seen as longer.
 const SOURCE: usize = 65_001;
 
+// The largest image known, of `a` and 32,499 times `.b`, has 422,495 bytes. A larger one would be told as such, and not cut.
 const OUTPUT: usize = 524_288;
 
+// A tree has no more records than its source has lexemes. One that had would be told as such.
 const RECORDS: usize = 65_536;
 
-// What has been asked: a setting, or one of these.
-const AWAITED: u64 = 8; // `-s` stood there, and the setting comes
+// What the arguments so far ask for is a setting, or one of these.
+const AWAITED: u64 = 8; // `-s` stood there, and its setting comes
 
-const STOPPED: u64 = 9;
+const STOPPED: u64 = 9; // it did not come
 
 fn show(
     name: &[u8],
@@ -36,7 +38,7 @@ fn show(
         refusals::tell(name, f, source);
         return;
     }
-    let image = desk::tree::front(output, f.length as usize);
+    let image = desk::image(f, output);
     tree::show(image, source, starts, firsts, stack);
 }
 
@@ -64,6 +66,7 @@ fn show_file(
     show(name, setting, &source[..n], output, starts, firsts, stack);
 }
 
+// The setting that follows `-s`.
 fn setting_of(word: &[u8]) -> u64 {
     if word.len() == 1 {
         let b = word[0];

@@ -7,7 +7,7 @@ use crate::say::character_end;
 use crate::say::characters;
 use crate::say::is_inside;
 use crate::say::say;
-use crate::say::say_character;
+use crate::say::say_characters;
 use crate::say::say_number;
 use crate::say::say_text;
 use crate::say::say_times;
@@ -170,13 +170,6 @@ fn shown_to(source: &[u8], at: usize) -> usize
     i
 }
 
-fn say_characters(text: &[u8]) {
-    let mut i = 0;
-    while i < text.len() {
-        i = say_character(text, i);
-    }
-}
-
 // Whether a part of a line that begins here leaves some of it out.
 fn is_cut_before(source: &[u8], from: usize) -> bool {
     if from == 0 {
@@ -235,6 +228,7 @@ fn say_line(source: &[u8], start: usize, end: usize) {
     say(b"\n");
 }
 
+// A detail, which is a kind or below 5.
 fn small(n: u64) -> u8 {
     if n > 255 {
         return 0;
@@ -263,12 +257,12 @@ fn tell_place(f: Fields, source: &[u8]) {
 
 // A refusal of a file under its name.
 pub fn tell(name: &[u8], f: Fields, source: &[u8]) {
-    say_text(b"", name);
+    say_characters(name);
     say(b":");
     let number = f.number;
     match number {
         1 => say(b" the setting is above 7.\n"),
-        2 => say(b" the file is longer than 65000 bytes, the most that is read.\n"),
+        2 => say(b" the file is longer than 65,000 bytes, the most that is read.\n"),
         12 => {
             say(b" the tree takes ");
             say_number(f.length as usize);

@@ -107,8 +107,8 @@ fn is_late_control(text: &[u8]) -> bool {
     text[0] == 0xC2 && text[1] < 0xA0
 }
 
-// One character, none of which moves the cursor; its end is handed back.
-pub fn say_character(text: &[u8], at: usize) -> usize
+// One character, shown so that none moves the cursor; its end is handed back.
+fn say_character(text: &[u8], at: usize) -> usize
     requires { ⌜ at < length (now text) ⌝ }
     ensures { λ r. ⌜ (at < r) × (r ≤ length (now (text .entry))) ⌝ }
 {
@@ -125,6 +125,14 @@ pub fn say_character(text: &[u8], at: usize) -> usize
     }
     say(character);
     end
+}
+
+// A text whole.
+pub fn say_characters(text: &[u8]) {
+    let mut i = 0;
+    while i < text.len() {
+        i = say_character(text, i);
+    }
 }
 
 // A text's first characters; whether that was all of it.

@@ -1,10 +1,10 @@
--- `showtree::refusals::say_characters` is safe and ends.
+-- `showtree::say::say_characters` is safe and ends.
 -- Assumes nothing.
 use lib.ListN.{length}
 use borrow.Author.Needs.{needs}
 use Prim.Native.Nat.{_-_}
-use Rattle.showtree.proofs.refusals.say_characters.Statement.{statement}
-use Rattle.showtree.proofs.refusals.say_characters.Tie as tie
+use Rattle.showtree.proofs.say.say_characters.Statement.{statement}
+use Rattle.showtree.proofs.say.say_characters.Tie as tie
 
 abbrev Inv-loop : tie.InvT-loop
 Inv-loop text i₀ i = Unit {0}

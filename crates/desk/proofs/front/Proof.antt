@@ -1,10 +1,10 @@
--- `desk::tree::front` is safe and ends.
+-- `desk::front` is safe and ends.
 -- Assumes nothing.
 use lib.ListN.{length-take}
 use native.Mathlib.Omega.{arith}
 use borrow.Author.Needs.{needs}
-use Rattle.desk.proofs.tree.front.Statement.{statement}
-use Rattle.desk.proofs.tree.front.Tie as tie
+use Rattle.desk.proofs.front.Statement.{statement}
+use Rattle.desk.proofs.front.Tie as tie
 
 returns : tie.Need-returns
 returns c = search needs
