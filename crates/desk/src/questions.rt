@@ -219,7 +219,8 @@ fn told(f: Fields, output: &[u8], text: &mut [u8]) -> usize
     put_hex_line(text, n, image)
 }
 
-fn answer_into(setting: u64, source: &[u8], output: &mut [u8], text: &mut [u8]) -> usize
+// The answer's line for a source.
+pub fn answer_into(setting: u64, source: &[u8], output: &mut [u8], text: &mut [u8]) -> usize
     ensures { λ r. ⌜ Counts r (now (text .exit)) ⌝ }
 {
     smear(output);
