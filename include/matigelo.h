@@ -1,5 +1,5 @@
-/* The reader of Jsonnet sources, for C. Build the library by `rt staticlib matigelo` (target/staticlib/libmatigelo.a, x86-64 Linux) and link it
-   with the program. It calls nothing, keeps nothing between calls, and can be called from several threads at once. */
+/* The reader of Jsonnet sources, for C. `rt staticlib matigelo` writes target/staticlib/libmatigelo.a, for x86-64 Linux, to link with the
+   program. It allocates nothing and keeps nothing between calls, so several threads may call it at once. */
 #ifndef MATIGELO_H
 #define MATIGELO_H
 

@@ -3,6 +3,7 @@
 // lines `KIND:START:END ...`, a line feed after each; the source with no lexeme is the line `-`.
 ghost use Prim.Native.Nat.{_+_, _≤_, _<_};
 use libc::STDOUT_FILENO;
+use sums::fed;
 
 const SIZE: usize = 46;
 
@@ -34,19 +35,6 @@ fn width_of(c: usize) -> usize
         45 => 4,
         _ => 1,
     }
-}
-
-// h * (2^40 + 435), as far as 64 bits go.
-fn times_prime(h: u64) -> u64 {
-    let a = std::num::wrapping_add_u64(h << 40, h << 8);
-    let b = std::num::wrapping_add_u64(h << 7, h << 5);
-    let c = std::num::wrapping_add_u64(h << 4, h << 1);
-    let d = std::num::wrapping_add_u64(a, b);
-    std::num::wrapping_add_u64(std::num::wrapping_add_u64(c, d), h)
-}
-
-fn fed(h: u64, b: u8) -> u64 {
-    times_prime(h ^ (b as u64))
 }
 
 // A number below a hundred, in decimal.
@@ -114,41 +102,16 @@ fn fed_source(h: u64, length: usize, n: usize) -> u64 {
     fed_part(h, bytes, end)
 }
 
-fn hex_digit(n: u64) -> u8
-    requires { ⌜ n < 16 ⌝ }
-{
-    if n < 10 {
-        return 48 + n as u8;
-    }
-    87 + n as u8
-}
-
-fn print_hex(n: u64) {
-    let mut i: u64 = 60;
-    loop {
-        io::write_all(STDOUT_FILENO, &[hex_digit((n >> i) % 16)]);
-        if i == 0 {
-            return;
-        }
-        i -= 4;
-    }
-}
-
 // How many sources there are of a length, and their sum.
 fn print_all(length: usize, count: usize) {
-    let mut sum: u64 = 0xCBF2_9CE4_8422_2325;
+    let mut sum = sums::START;
     let mut n = 0;
     while n < count {
         sum = fed_source(sum, length, n);
         n += 1;
     }
-    io::write_all(STDOUT_FILENO, b"lexemes ");
-    io::print_decimal(STDOUT_FILENO, length as u64);
-    io::write_all(STDOUT_FILENO, b" ");
-    io::print_decimal(STDOUT_FILENO, count as u64);
-    io::write_all(STDOUT_FILENO, b" ");
-    print_hex(sum);
-    io::write_all(STDOUT_FILENO, b"\n");
+    io::write_all(STDOUT_FILENO, b"lexemes");
+    sums::report(length, count, sum);
 }
 
 fn main() {

@@ -6,15 +6,14 @@ use mathlib.Core.List.{List, _++_}
 use mathlib.Core.Logic.{_⊎_, inl, inr}
 use Prim.Native.Nat.{ℕ, _-_, _≤_, _<_}
 use native.Mathlib.Omega.{arith}
-use borrow.Author.Tests.{leb-false, le-leb, lt-leb}
+use borrow.Author.Tests.{leb-true, leb-false, le-leb, lt-leb}
 use lib.Dec.{eqb, leb}
 use lib.ListN.{length, replicate}
 use Rattle.grammar.specs.Trees.{Trees}
 use Rattle.grammar.specs.Image.{image}
-use Rattle.grammar.specs.Lexemes.{Lexeme as Token}
 use Rattle.grammar.specs.Reading.{Outcome, done, broken, Reads as Derives}
 use Rattle.grammar.specs.Answer.{Answer, Verdict, refused, tree, verdict, Judged, bad-setting, too-long, not-utf8, bad-lexeme, read, answer, output, document-01}
-use Rattle.grammar.specs.Source.{Bad, Kept}
+use Rattle.grammar.specs.Source.{Bad, Kept, Reads01}
 use Rattle.grammar.proofs.Numbers.{refusal as five-to-eleven}
 use Rattle.grammar.proofs.Whole.{Parsed}
 use Rattle.grammar.proofs.Source.{lexing}
@@ -81,47 +80,69 @@ unfolding answer
 no-tree room n a e x h (inl i) = omega arith
 no-tree room n a e x h (inr i) = omega arith
 
-pub accepted-derived : (room : ℕ) {setting : ℕ} {source : List ℕ} {v : Verdict} → Judged Bad Kept document-01 setting source v → Accepted (answer room v)
+judged-derived : (room : ℕ) {setting : ℕ} {source : List ℕ} {v : Verdict} → Judged Bad Kept document-01 setting source v → Accepted (answer room v)
     → (ts : Trees) × (v ≡ tree ts) × Derived setting source ts
 unfolding verdict
-accepted-derived room (bad-setting a) h = absurd (no-tree _ _ _ _ _ (omega arith, omega arith) h)
-accepted-derived room (too-long a b) h = absurd (no-tree _ _ _ _ _ (omega arith, omega arith) h)
-accepted-derived room (not-utf8 a b c d) h = absurd (no-tree _ _ _ _ _ (omega arith, omega arith) h)
-accepted-derived room (bad-lexeme a b c d) h = absurd (no-tree _ _ _ _ _ (omega arith, omega arith) h)
-accepted-derived room {setting} {source} (read {xs} {o} a b c d e) h = by o e h
+judged-derived room (bad-setting a) h = absurd (no-tree _ _ _ _ _ (omega arith, omega arith) h)
+judged-derived room (too-long a b) h = absurd (no-tree _ _ _ _ _ (omega arith, omega arith) h)
+judged-derived room (not-utf8 a b c d) h = absurd (no-tree _ _ _ _ _ (omega arith, omega arith) h)
+judged-derived room (bad-lexeme a b c d) h = absurd (no-tree _ _ _ _ _ (omega arith, omega arith) h)
+judged-derived room {setting} {source} (read {xs} {o} a b c d e) h = by o e h
   where
     by : (o : Outcome) → Derives 20 setting 200 xs o → Accepted (answer room (verdict o)) → (ts : Trees) × (verdict o ≡ tree ts) × Derived setting source ts
     by (done ts p ys) e h = (ts, refl, record { kept = xs; place = p; left = ys; setting = a; short = b; utf8 = c; lexemes = d; reads = e })
     by (broken n p ys x) e h = let z = five-to-eleven 20 setting e in absurd (no-tree _ _ _ _ _ (omega arith, omega arith) h)
 
--- ── What they leave in the output ─────────────────────────────────────────────────────────────────
+-- An answer and an output with one of these numbers are those of a derived tree.
+pub accepted-derived : {setting : ℕ} {source : List ℕ} {room : ℕ} {a : Answer} {out : List ℕ} → Reads01 setting source room a out → Accepted a
+    → (ts : Trees) × Derived setting source ts × (a ≡ answer room (tree ts)) × (out ≡ output room (tree ts))
+accepted-derived {room = room} x h =
+    let p = judged-derived room (x .judged) (subst Accepted (x .answered) h) in
+    (p .0, p .2, x .answered ∙ ap (answer room) (p .1), x .written ∙ ap (output room) (p .1))
 
-has-room : (b : Bool) → _≡_ {A = ℕ} (cond b 0 12) 0 → b ≡ true
+-- ── A tree's answer and output, with room and without ─────────────────────────────────────────────
+
+has-room : (b : Bool) → _≡_ {A = ℕ} 0 (cond b 0 12) → b ≡ true
 has-room true e = refl
 has-room false e = absurd (omega (arith, e))
 
-no-room : (b : Bool) → _≡_ {A = ℕ} (cond b 0 12) 12 → b ≡ false
+no-room : (b : Bool) → _≡_ {A = ℕ} 12 (cond b 0 12) → b ≡ false
 no-room true e = absurd (omega (arith, e))
 no-room false e = refl
 
 module _ (room : ℕ) (ts : Trees) where
-  pub tree-output : answer room (tree ts) .number ≡ 0 → output room (tree ts) ≡ image ts ++ replicate (room - length (image ts)) 0
-  unfolding answer output
-  tree-output e = ap (λ (b : Bool). cond b (image ts ++ replicate (room - length (image ts)) 0) (replicate room 0)) (has-room (leb (length (image ts)) room) e)
+  by-room : Bool → Answer
+  by-room b = record { number = cond b 0 12; start = 0; stop = 0; detail = 0; size = length (image ts) }
 
-  pub room-lacks : answer room (tree ts) .number ≡ 12 → room < length (image ts)
-  unfolding answer
-  room-lacks e = leb-false (length (image ts)) room (no-room (leb (length (image ts)) room) e)
+  out-by-room : Bool → List ℕ
+  out-by-room b = cond b (image ts ++ replicate (room - length (image ts)) 0) (replicate room 0)
 
-  -- what a derived tree is answered by
   pub fits-answer : length (image ts) ≤ room → answer room (tree ts) ≡ numbers (Tree (length (image ts)))
-  unfolding answer numbers
-  fits-answer h = ap (λ (b : Bool). record { number = cond b 0 12; start = 0; stop = 0; detail = 0; size = length (image ts) }) (le-leb (length (image ts)) room h)
+  unfolding answer numbers by-room
+  fits-answer h = ap by-room (le-leb (length (image ts)) room h)
+
+  pub fits-output : length (image ts) ≤ room → output room (tree ts) ≡ image ts ++ replicate (room - length (image ts)) 0
+  unfolding output out-by-room
+  fits-output h = ap out-by-room (le-leb (length (image ts)) room h)
 
   pub lacks-answer : room < length (image ts) → answer room (tree ts) ≡ numbers (Room (length (image ts)))
-  unfolding answer numbers
-  lacks-answer h = ap (λ (b : Bool). record { number = cond b 0 12; start = 0; stop = 0; detail = 0; size = length (image ts) }) (lt-leb (length (image ts)) room h)
+  unfolding answer numbers by-room
+  lacks-answer h = ap by-room (lt-leb (length (image ts)) room h)
 
+  pub lacks-output : room < length (image ts) → output room (tree ts) ≡ replicate room 0
+  unfolding output out-by-room
+  lacks-output h = ap out-by-room (lt-leb (length (image ts)) room h)
+
+  -- and back
+  pub tree-answer : (n : ℕ) → numbers (Tree n) ≡ answer room (tree ts) → (n ≡ length (image ts)) × (length (image ts) ≤ room)
+  unfolding numbers answer
+  tree-answer n e = (ap (λ (a : Answer). a .size) e, leb-true (length (image ts)) room (has-room (leb (length (image ts)) room) (ap (λ (a : Answer). a .number) e)))
+
+  pub room-answer : (n : ℕ) → numbers (Room n) ≡ answer room (tree ts) → (n ≡ length (image ts)) × (room < length (image ts))
+  unfolding numbers answer
+  room-answer n e = (ap (λ (a : Answer). a .size) e, leb-false (length (image ts)) room (no-room (leb (length (image ts)) room) (ap (λ (a : Answer). a .number) e)))
+
+-- What any number but 0 leaves.
 pub refusal-output : (room : ℕ) (v : Verdict) → ¬ (answer room v .number ≡ 0) → output room v ≡ replicate room 0
 unfolding answer output
 refusal-output room (refused n a e x) h = refl

@@ -1,6 +1,6 @@
--- THE DEMANDS ON THE READER, as theorems about what `read` promises: `Reads setting source out reading out′` (specs/Reader.antt) says of a
--- setting, a source and an output as it was lent, which answer `read` gives and what it leaves in the output.
--- That `read` asks nothing of its caller, that each call of it stays in bounds and ends, and that its answer and output are such is `total`.
+-- THE DEMANDS ON THE READER, as theorems about `read`. What it promises is `Reads setting source out reading out′` (specs/Reader.antt): of a
+-- setting, a source and an output as it was lent, which answer it gives and what it leaves in the output, as document 01 has them (`Reads01`,
+-- crates/grammar/specs/Source.antt). `Derived` says that the rules (crates/grammar/specs/Productions.antt) derive a tree of the source.
 -- Assumes nothing.
 use mathlib.Core.Path.{_≡_, refl, sym, ap, subst, _∙_}
 use mathlib.Core.List.{List, _++_}
@@ -10,14 +10,14 @@ use lib.ListN.{length, replicate}
 use Rattle.grammar.specs.Trees.{Trees}
 use Rattle.grammar.specs.Image.{image}
 use Rattle.grammar.specs.Settings.{_⊑_}
-use Rattle.grammar.specs.Answer.{Answer, Verdict, refused, tree, Judged, answer, output, document-01}
+use Rattle.grammar.specs.Answer.{Answer, Verdict, refused, Judged, answer, output, document-01}
 use Rattle.grammar.specs.Source.{Bad, Kept, Reads01}
 use Rattle.grammar.proofs.Whole.{Fifth, one-tree}
 use Rattle.grammar.proofs.Source.{lexing, reads-once, larger-setting, smaller-setting}
 use Rattle.reader.specs.Reader.{refusal, numbers, Reads}
 use Rattle.reader.specs.declared.Reading.{Reading}
 use Rattle.reader.specs.declared.Reading.the-variants.{Tree, Room}
-use Rattle.reader.proofs.AnswerLaws.{same-case, Accepted, Derived, derived-judged, accepted-derived, tree-output, room-lacks, fits-answer, lacks-answer, refusal-output}
+use Rattle.reader.proofs.AnswerLaws.{same-case, Accepted, Derived, derived-judged, accepted-derived, tree-answer, room-answer, fits-answer, fits-output, lacks-answer, refusal-output}
 use contract.Lifetimes.{Lfts}
 use borrow.Fn.Kinds.{Dens}
 use Rattle.reader.proofs.read.Kinds.{ps}
@@ -25,8 +25,9 @@ use Rattle.reader.proofs.read.Reads as reads
 use Rattle.reader.proofs.read.Statement.{statement}
 use Rattle.reader.proofs.read.Met.{met}
 
--- ── Demand 1: total ───────────────────────────────────────────────────────────────────────────────
+-- ── Demand 1: total, and nothing is left in the output but an image ────────────────────────────────
 
+-- Each call of `read` stays in bounds and ends, and what it promises is so.
 pub total : {M : Type 1} → statement M
 total = met
 
@@ -34,7 +35,7 @@ total = met
 pub asks-nothing : (κs : Lfts 2) (a : Dens κs ps) → reads.Asked κs a
 asks-nothing κs a = tt
 
--- An answer and an output that meet the contract.
+-- One call: an answer and an output as promised.
 module _ (setting : ℕ) (source out : List ℕ) (reading : Reading) (out′ : List ℕ) (x : Reads setting source out reading out′) where
   -- Whatever the rules find out about a source, `read` answers, and leaves in the output.
   pub answers-found : {v : Verdict} → Judged Bad Kept document-01 setting source v → (numbers reading ≡ answer (length out) v) × (out′ ≡ output (length out) v)
@@ -46,36 +47,23 @@ module _ (setting : ℕ) (source out : List ℕ) (reading : Reading) (out′ : L
 
   -- ── Demand 2: a tree exactly for what the rules derive, the only one, and the refusal otherwise ───
 
-  -- An answer with number 0 or 12 has its length from a tree that the rules derive.
-  pub accepted-is-derived : Accepted (numbers reading) → (ts : Trees) × Derived setting source ts × (x .found ≡ tree ts) × (numbers reading .size ≡ length (image ts))
-  unfolding answer
-  accepted-is-derived acc =
-      let p = accepted-derived (length out) (x .judged) (subst Accepted (x .answered) acc) in
-      (p .0, p .2, p .1, ap (λ (a : Answer). a .size) (x .answered ∙ ap (answer (length out)) (p .1)))
-
-  -- A tree that is answered is derived, and its image is what stands in the output, with zeros after it.
+  -- A tree that is answered is derived, and the output has its image, with zeros after it.
   pub tree-is-derived : (n : ℕ) → reading ≡ Tree n → (ts : Trees) × Derived setting source ts × (n ≡ length (image ts)) × (out′ ≡ image ts ++ replicate (length out - length (image ts)) 0)
   unfolding numbers
   tree-is-derived n q =
-      let zero : numbers reading .number ≡ 0 = ap (λ (r : Reading). numbers r .number) q in
-      let p = accepted-is-derived (inl zero) in
-      let same : numbers reading ≡ answer (length out) (tree (p .0)) = x .answered ∙ ap (answer (length out)) (p .2) in (
-        p .0,
-        p .1,
-        sym (ap (λ (r : Reading). numbers r .size) q) ∙ p .3,
-        x .written ∙ ap (output (length out)) (p .2) ∙ tree-output (length out) (p .0) (sym (ap (λ (a : Answer). a .number) same) ∙ zero),
-      )
+      let p = accepted-derived x (inl (ap (λ (r : Reading). numbers r .number) q)) in
+      let e = tree-answer (length out) (p .0) n (sym (ap numbers q) ∙ p .2) in
+      (p .0, p .1, e .0, p .3 ∙ fits-output (length out) (p .0) (e .1))
 
-  -- So is one that has no room.
+  -- A tree that is refused for room is derived, and there is no room for it.
   pub room-is-derived : (n : ℕ) → reading ≡ Room n → (ts : Trees) × Derived setting source ts × (n ≡ length (image ts)) × (length out < length (image ts))
   unfolding numbers
   room-is-derived n q =
-      let twelve : numbers reading .number ≡ 12 = ap (λ (r : Reading). numbers r .number) q in
-      let p = accepted-is-derived (inr twelve) in
-      let same : numbers reading ≡ answer (length out) (tree (p .0)) = x .answered ∙ ap (answer (length out)) (p .2) in
-      (p .0, p .1, sym (ap (λ (r : Reading). numbers r .size) q) ∙ p .3, room-lacks (length out) (p .0) (sym (ap (λ (a : Answer). a .number) same) ∙ twelve))
+      let p = accepted-derived x (inr (ap (λ (r : Reading). numbers r .number) q)) in
+      let e = room-answer (length out) (p .0) n (sym (ap numbers q) ∙ p .2) in
+      (p .0, p .1, e .0, e .1)
 
-  -- A tree that is derived is answered, and refused only for room.
+  -- A tree that is derived is answered, and is refused only for room.
   pub derived-is-tree : (ts : Trees) → Derived setting source ts → length (image ts) ≤ length out → reading ≡ Tree (length (image ts))
   derived-is-tree ts d h = same-case _ _ (answers-found (derived-judged d) .0 ∙ fits-answer (length out) ts h)
 
@@ -98,6 +86,7 @@ one-derived d d′ = one-tree lexing document-01 (derived-judged d) (derived-jud
 
 -- ── Demand 3: a larger setting ────────────────────────────────────────────────────────────────────
 
+-- Two calls on one source and outputs of one length, the second with every switch of the first.
 module _ (s s′ : ℕ) (le : s ⊑ s′) (source out : List ℕ) (r r′ : Reading) (o o′ : List ℕ) (x : Reads s source out r o) (x′ : Reads s′ source out r′ o′) where
   -- It changes no tree and no refusal for room.
   pub larger : s′ ≤ 7 → Accepted (numbers r) → (r′ ≡ r) × (o′ ≡ o)

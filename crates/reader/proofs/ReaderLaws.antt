@@ -1,15 +1,15 @@
 -- Laws of the reader: the lexemes of a source are what its first cursor sees, a phrase's answer is document 01's verdict, and what is cleared.
 -- Assumes nothing.
 use mathlib.Core.Path.{_≡_, refl, sym, ap, subst, subst⁻¹, _∙_}
-use mathlib.Core.Bool.{Bool, true, false, cond, _&&_}
+use mathlib.Core.Bool.{Bool, true, false, cond, _&&_, _||_}
 use mathlib.Core.List.{List, [], _∷_, _++_, append-nil}
 use mathlib.Core.Logic.{_⊎_, inl, inr}
 use Prim.Native.Nat.{ℕ, _+_, _-_, _≤_, _<_}
 use native.Mathlib.Omega.{arith}
 use denote.Enum.Declared.{tagOf}
 use types.Run.{OneOf, miss}
-use borrow.Author.Tests.{ne-eqb, eqb-true, le-leb, lt-leb}
-use lib.Dec.{T, eqb, leb}
+use borrow.Author.Tests.{ne-eqb, eqb-true}
+use lib.Dec.{T, eqb}
 use lib.ListN.{length, take, drop, replicate, length-drop, drop-of-length-le}
 use lib.Seq.{sets, sets-eq, take-at, take-all, length-sets}
 use Rattle.strings.specs.Utf8.{Utf8, ValidTo}
@@ -20,18 +20,18 @@ use Rattle.lexemes.specs.Kept.{FirstBad}
 use Rattle.lexemes.specs.Kept as lexemes
 use Rattle.lexemes.proofs.Laws.{lexeme-not-eof}
 use Rattle.lexemes.proofs.KeptLaws.{Rest, next, kept-step, first-bad-once}
-use Rattle.grammar.specs.Trees.{Trees, none, count as size}
+use Rattle.grammar.specs.Trees.{none, count as size}
 use Rattle.grammar.specs.Image.{image}
-use Rattle.grammar.specs.Lexemes.{Lexeme as Token, start-of, stop-of}
+use Rattle.grammar.specs.Lexemes.{Lexeme as Token, stop-of}
 use Rattle.grammar.specs.Says.{Told}
-use Rattle.grammar.specs.Productions.{Body, end, _▸_, eat, deep, expr, source}
-use Rattle.grammar.specs.Reading.{Outcome, done, broken, Reading as Derived, ended, eaten, uneaten}
+use Rattle.grammar.specs.Productions.{end, _▸_, eat, deep, expr, source}
+use Rattle.grammar.specs.Reading.{Outcome, Reading as Derived, ended, eaten, uneaten}
 use Rattle.grammar.specs.Answer.{Answer as Handed, Verdict, refused, tree, verdict, Judged, read, answer, output, document-01}
-use Rattle.grammar.specs.Source.{Bad, bad, Kept, kept, Reads01}
+use Rattle.grammar.specs.Source.{Bad, bad, Kept, kept}
 use Rattle.grammar.proofs.Source.{lexing}
 use Rattle.phrases.specs.Lexing.{Left, over, more, Stands}
 use Rattle.phrases.specs.Meets.{power, state, Seg, sorted, Breaks, Takes}
-use Rattle.reader.specs.Reader.{refusal, numbers, written, Clean, Finds, Reads}
+use Rattle.reader.specs.Reader.{refusal, numbers, written, Clean, Parsed, Parses, Finds, Reads}
 use Rattle.phrases.specs.declared.Cursor.{Cursor}
 use Rattle.phrases.specs.declared.Refusal.{Refusal}
 use Rattle.phrases.specs.declared.Answer.{Answer}
@@ -40,6 +40,7 @@ use Rattle.reader.specs.declared.Reading.{Reading}
 use Rattle.reader.specs.declared.Reading.the-variants.{Tree, Setting, Long, Encoding, Lexeme, Wanted, Absent, Expression, Misplaced, Escape, Block, Depth, Room}
 use Rattle.reader.proofs.Reading.{the-type}
 use Rattle.phrases.proofs.LexemeLaws.{sees}
+use Rattle.reader.proofs.AnswerLaws.{fits-answer, fits-output, lacks-answer, lacks-output}
 use Rattle.phrases.proofs.Steps
 
 -- ── The lexemes of a source ───────────────────────────────────────────────────────────────────────
@@ -89,10 +90,7 @@ module _ {g : ℕ} {s out : List ℕ} {c : Cursor} {a : Answer} {out′ : List �
     broke : Breaks g s 200 (state source 0 c 0 out) r
     broke = Steps.refused (t .takes (eat EOF ▸ end) 0) q
 
-    pub refusal-sorted : sorted (r .number) (r .detail) ≡ true
-    refusal-sorted = broke .sort
-
-    pub refusal-judged : Judged Bad Kept document-01 g s (refused (r .number) (r .place .start) (r .place .end) (r .detail))
+    refusal-judged : Judged Bad Kept document-01 g s (refused (r .number) (r .place .start) (r .place .end) (r .detail))
     unfolding size verdict
     refusal-judged =
         judged-by clean (λ xs l.
@@ -104,13 +102,17 @@ module _ {g : ℕ} {s out : List ℕ} {c : Cursor} {a : Answer} {out′ : List �
               ∙ ap (λ (n : ℕ). refused (r .number) (r .place .start) n (r .detail)) (y .stop),
         ))
 
+    pub parses-broken : Parses g s out a out′
+    unfolding Parsed
+    parses-broken = record { parsed = subst⁻¹ (λ (y : Answer). Parsed g s out y out′) q (refusal-judged, broke .sort) }
+
   -- done, up to a cursor
   module _ {c₁ : Cursor} {w k : ℕ} (q : a ≡ Done c₁ w k) where
-    pub whole : Seg g s 200 (state source 0 c 0 out) 0 0 (state (eat EOF ▸ end) 1 c₁ w out′)
+    whole : Seg g s 200 (state source 0 c 0 out) 0 0 (state (eat EOF ▸ end) 1 c₁ w out′)
     whole = Steps.led (t .takes (eat EOF ▸ end) 0) q
 
     -- with a lexeme there
-    pub more-judged : ¬ (c₁ .kind ≡ EOF) → Judged Bad Kept document-01 g s (refused 5 (c₁ .start) (c₁ .end) EOF)
+    more-judged : ¬ (c₁ .kind ≡ EOF) → Judged Bad Kept document-01 g s (refused 5 (c₁ .start) (c₁ .end) EOF)
     unfolding size verdict
     more-judged n =
         judged-by clean (λ xs l.
@@ -122,7 +124,7 @@ module _ {g : ℕ} {s out : List ℕ} {c : Cursor} {a : Answer} {out′ : List �
         ))
 
     -- with none
-    pub tree-judged : c₁ .kind ≡ EOF → Judged Bad Kept document-01 g s (tree (whole .trees none))
+    tree-judged : c₁ .kind ≡ EOF → Judged Bad Kept document-01 g s (tree (whole .trees none))
     unfolding size verdict
     tree-judged e =
         judged-by clean (λ xs l.
@@ -134,11 +136,19 @@ module _ {g : ℕ} {s out : List ℕ} {c : Cursor} {a : Answer} {out′ : List �
     unfolding image
     image-is = whole .imaged none
 
-    pub tree-long : w ≡ length (image (whole .trees none))
+    tree-long : w ≡ length (image (whole .trees none))
     tree-long = let z : w ≡ 0 + length (whole .bytes) = whole .wrote in omega (arith, z, ap length image-is)
 
-    pub tree-stored : out′ ≡ sets out 0 (image (whole .trees none))
+    tree-stored : out′ ≡ sets out 0 (image (whole .trees none))
     tree-stored = whole .stored ∙ ap (λ (l : List ℕ). sets out 0 l) (sym image-is)
+
+    pub parses-more : {b : Answer} → ¬ (c₁ .kind ≡ EOF) → b ≡ Broken (record { number = 5; place = c₁; detail = EOF }) → Parses g s out b out′
+    unfolding Parsed sorted
+    parses-more n e = record { parsed = subst⁻¹ (λ (y : Answer). Parsed g s out y out′) e (more-judged n, refl) }
+
+    pub parses-tree : c₁ .kind ≡ EOF → Parses g s out (Done c₁ w k) out′
+    unfolding Parsed
+    parses-tree e = record { parsed = (whole .trees none, tree-judged e, tree-long, tree-stored) }
 
 -- ── What is found ─────────────────────────────────────────────────────────────────────────────────
 
@@ -171,33 +181,56 @@ module _ {g : ℕ} {s out out′ : List ℕ} where
         left = ap (λ (n : ℕ). replicate n 0) (sym (minus-none (length out))) ∙ ap (λ (n : ℕ). take n out′ ++ replicate (length out - n) 0) (sym z);
       }
 
-  module _ {ts : Trees} {w : ℕ} (j : Judged Bad Kept document-01 g s (tree ts)) (q : w ≡ length (image ts)) (e : out′ ≡ sets out 0 (image ts)) where
-    -- a tree without room
-    pub finds-long : length out′ < w → Finds g s out (Room w) out′
-    unfolding answer output numbers written
-    finds-long h =
-        let z = lt-leb (length (image ts)) (length out) (omega (arith, q, h, same-long out out′ (image ts) e)) in
+  -- what the phrases refuse, and what they have a tree of
+  module _ {a : Answer} (p : Parses g s out a out′) where
+    refused-by : {r : Refusal} → a ≡ Broken r → Parsed g s out (Broken r) out′
+    refused-by q = subst (λ (y : Answer). Parsed g s out y out′) q (p .parsed)
+
+    pub broken-sorted : {r : Refusal} → a ≡ Broken r → sorted (r .number) (r .detail) ≡ true
+    unfolding Parsed
+    broken-sorted q = refused-by q .1
+
+    pub finds-broken : {r : Refusal} {y : Reading} → a ≡ Broken r → numbers y ≡ refusal (r .number) (r .place .start) (r .place .end) (r .detail) → Finds g s out y out′
+    unfolding Parsed
+    finds-broken q e = finds-refusal (refused-by q .0) e
+
+    done-by : {c : Cursor} {w k : ℕ} → a ≡ Done c w k → Parsed g s out (Done c w k) out′
+    done-by q = subst (λ (y : Answer). Parsed g s out y out′) q (p .parsed)
+
+    -- without room
+    pub finds-long : {c : Cursor} {w k : ℕ} → a ≡ Done c w k → length out′ < w → Finds g s out (Room w) out′
+    unfolding numbers written Parsed
+    finds-long d h =
+        let x = done-by d in
+        let ts = x .0 in
+        let q = x .2 in
+        let e = x .3 in
+        let z : length out < length (image ts) = omega (arith, q, h, same-long out out′ (image ts) e) in
         record {
           found = _;
-          judged = j;
-          told = ap (λ (n : ℕ). numbers (Room n)) q ∙ ap (λ (b : Bool). record { number = cond b 0 12; start = 0; stop = 0; detail = 0; size = length (image ts) }) (sym z);
+          judged = x .1;
+          told = ap (λ (n : ℕ). numbers (Room n)) q ∙ sym (lacks-answer (length out) ts z);
           room = omega arith;
-          left = ap (λ (b : Bool). cond b (image ts ++ replicate (length out - length (image ts)) 0) (replicate (length out) 0)) z ∙ ap (λ (n : ℕ). replicate n 0) (sym (minus-none (length out)));
+          left = lacks-output (length out) ts z ∙ ap (λ (n : ℕ). replicate n 0) (sym (minus-none (length out)));
         }
 
-    -- a tree, stored
-    pub finds-tree : w ≤ length out′ → Finds g s out (Tree w) out′
-    unfolding answer output numbers written
-    finds-tree h =
-        let z = le-leb (length (image ts)) (length out) (omega (arith, q, h, same-long out out′ (image ts) e)) in
-        let p : out′ ≡ image ts ++ drop (0 + length (image ts)) out = e ∙ sets-eq (image ts) out 0 (omega (arith, q, h, same-long out out′ (image ts) e)) in
+    -- with room
+    pub finds-tree : {c : Cursor} {w k : ℕ} → a ≡ Done c w k → w ≤ length out′ → Finds g s out (Tree w) out′
+    unfolding numbers written Parsed
+    finds-tree {w = w} d h =
+        let x = done-by d in
+        let ts = x .0 in
+        let q = x .2 in
+        let e = x .3 in
+        let z : length (image ts) ≤ length out = omega (arith, q, h, same-long out out′ (image ts) e) in
+        let p : out′ ≡ image ts ++ drop (0 + length (image ts)) out = e ∙ sets-eq (image ts) out 0 (omega (arith, z)) in
         record {
           found = _;
-          judged = j;
-          told = ap (λ (n : ℕ). numbers (Tree n)) q ∙ ap (λ (b : Bool). record { number = cond b 0 12; start = 0; stop = 0; detail = 0; size = length (image ts) }) (sym z);
-          room = omega (arith, h, same-long out out′ (image ts) e);
+          judged = x .1;
+          told = ap (λ (n : ℕ). numbers (Tree n)) q ∙ sym (fits-answer (length out) ts z);
+          room = omega (arith, q, z);
           left =
-              ap (λ (b : Bool). cond b (image ts ++ replicate (length out - length (image ts)) 0) (replicate (length out) 0)) z
+              fits-output (length out) ts z
               ∙ ap (λ (n : ℕ). image ts ++ replicate (length out - n) 0) (sym q)
               ∙ ap (λ (l : List ℕ). l ++ replicate (length out - w) 0) (sym (ap (take w) p ∙ take-at (image ts) (drop (0 + length (image ts)) out) w (sym q)));
         }
@@ -241,25 +274,23 @@ no-image (Room n) m = refl
 
 both : (a b : Bool) → (a && b) ≡ true → (a ≡ true) × (b ≡ true)
 both true b e = (refl, e)
-both false b e = absurd (let z : _≡_ {A = Bool} false true = e in let y : T false = subst⁻¹ T z tt in y)
+both false b e = absurd (let z : T false = subst⁻¹ T e tt in z)
 
-module _ {n x : ℕ} (h : sorted n x ≡ true) where
-  -- 7, 9 and 10 have no detail
-  pub no-detail-7 : n ≡ 7 → x ≡ 0
-  unfolding sorted
-  no-detail-7 e = eqb-true x 0 (subst (λ (m : ℕ). sorted m x ≡ true) e h)
+other : (a b : Bool) → a ≡ false → (a || b) ≡ true → b ≡ true
+other true b f e = absurd (let z : T false = subst T f tt in z)
+other false b f e = e
 
-  pub no-detail-9 : n ≡ 9 → x ≡ 0
+module _ {n : ℕ} (x : ℕ) (h : sorted n x ≡ true) where
+  -- numbers but 5, 6 and 8 have no detail
+  pub no-detail : (k : ℕ) → (eqb k 5 || eqb k 6 || eqb k 8) ≡ false → n ≡ k → x ≡ 0
   unfolding sorted
-  no-detail-9 e = eqb-true x 0 (subst (λ (m : ℕ). sorted m x ≡ true) e h)
+  no-detail k f e =
+      eqb-true x 0
+      (both (eqb k 7 || eqb k 9 || eqb k 10 || eqb k 11) (eqb x 0)
+      (other (eqb k 5 || eqb k 6 || eqb k 8) ((eqb k 7 || eqb k 9 || eqb k 10 || eqb k 11) && eqb x 0) f (subst (λ (m : ℕ). sorted m x ≡ true) e h)) .1)
 
-  pub no-detail-10 : n ≡ 10 → x ≡ 0
+  -- what is none of 5 to 10 is 11
+  pub eleven : ¬ (n ≡ 5) → ¬ (n ≡ 6) → ¬ (n ≡ 7) → ¬ (n ≡ 8) → ¬ (n ≡ 9) → ¬ (n ≡ 10) → n ≡ 11
   unfolding sorted
-  no-detail-10 e = eqb-true x 0 (subst (λ (m : ℕ). sorted m x ≡ true) e h)
-
-  -- what is none of 5 to 10 is 11, and has none either
-  pub last-number : ¬ (n ≡ 5) → ¬ (n ≡ 6) → ¬ (n ≡ 7) → ¬ (n ≡ 8) → ¬ (n ≡ 9) → ¬ (n ≡ 10) → (n ≡ 11) × (x ≡ 0)
-  unfolding sorted
-  last-number a b c d e f =
-      let z = both (eqb n 11) (eqb x 0) (rw (ne-eqb n 5 a, ne-eqb n 6 b, ne-eqb n 7 c, ne-eqb n 8 d, ne-eqb n 9 e, ne-eqb n 10 f) at h) in
-      (eqb-true n 11 (z .0), eqb-true x 0 (z .1))
+  eleven a b c d e f =
+      eqb-true n 11 (both (eqb n 11) (eqb x 0) (rw (ne-eqb n 5 a, ne-eqb n 6 b, ne-eqb n 7 c, ne-eqb n 8 d, ne-eqb n 9 e, ne-eqb n 10 f) at h) .0)

@@ -1,15 +1,21 @@
 -- What the reader promises: its answers as document 01 numbers them.
 -- Assumes nothing.
 use mathlib.Core.Path.{_≡_}
-use mathlib.Core.Bool.{cond}
+use mathlib.Core.Bool.{true, cond}
 use mathlib.Core.List.{List, _++_}
 use Prim.Native.Nat.{ℕ, _-_, _≤_}
 use lib.Dec.{eqb}
 use lib.ListN.{length, take, replicate}
+use lib.Seq.{sets}
 use Rattle.strings.specs.Utf8.{Utf8}
+use Rattle.grammar.specs.Trees.{Trees}
+use Rattle.grammar.specs.Image.{image}
 use Rattle.grammar.specs.Lexemes.{Lexeme as Token}
-use Rattle.grammar.specs.Answer.{Answer, Verdict, Judged, answer, output, document-01}
+use Rattle.grammar.specs.Answer.{Answer, Verdict, refused, tree, Judged, answer, output, document-01}
 use Rattle.grammar.specs.Source.{Bad, Kept, Reads01}
+use Rattle.phrases.specs.Meets.{sorted}
+use Rattle.phrases.specs.declared.Answer.{Answer as Phrased}
+use Rattle.phrases.specs.declared.Answer.the-variants.{Done, Broken}
 use Rattle.reader.specs.declared.Fields.{Fields}
 use Rattle.reader.specs.declared.Reading.{Reading}
 use Rattle.reader.specs.declared.Reading.the-variants.{Tree, Setting, Long, Encoding, Lexeme, Wanted, Absent, Expression, Misplaced, Escape, Block, Depth, Room}
@@ -58,6 +64,16 @@ pub record Clean (setting : ℕ) (source : List ℕ) : Type 0 where
   pub short : length source ≤ 65000
   pub valid : Utf8 source
   pub lexemes : (xs : List Token) × Kept source xs
+
+-- What the phrases answer then: of a tree its image's length, with the image stored as far as there is room; or the refusal.
+unfoldable pub Parsed : ℕ → List ℕ → List ℕ → Phrased → List ℕ → Type 0
+Parsed setting source out (Done c w k) out′ =
+    (ts : Trees) × Judged Bad Kept document-01 setting source (tree ts) × (w ≡ length (image ts)) × (out′ ≡ sets out 0 (image ts))
+Parsed setting source out (Broken r) out′ =
+    Judged Bad Kept document-01 setting source (refused (r .number) (r .place .start) (r .place .end) (r .detail)) × (sorted (r .number) (r .detail) ≡ true)
+
+pub record Parses (setting : ℕ) (source out : List ℕ) (a : Phrased) (out′ : List ℕ) : Type 0 where
+  pub parsed : Parsed setting source out a out′
 
 -- The answer is found, and beyond the image the output has yet to be cleared.
 pub record Finds (setting : ℕ) (source out : List ℕ) (reading : Reading) (out′ : List ℕ) : Type 0 where

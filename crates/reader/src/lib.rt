@@ -2,12 +2,13 @@
 ghost use mathlib.Core.Path.{_≡_};
 ghost use mathlib.Core.Bool.{true};
 ghost use Rattle.phrases.specs.Meets.{sorted};
-ghost use Rattle.reader.specs.Reader.{numbers as numbers01, refusal as refusal01, written as written01, answered, Clean, Finds, Reads};
+ghost use Rattle.reader.specs.Reader.{numbers as numbers01, refusal as refusal01, written as written01, answered, Clean, Parses, Finds, Reads};
 use lexemes::kept;
 use lexemes::kinds::Kind;
 use phrases::Answer;
 use phrases::Refusal;
 use phrases::parser::cursor_at;
+use phrases::parser::error;
 
 // What becomes of a source, each case with its place and what else 01 tells of it.
 pub enum Reading {
@@ -51,24 +52,19 @@ fn refused(r: Refusal) -> Reading
     }
 }
 
-// parse: an expression and then no lexeme more. The image stands in the output, as far as it has room.
-fn parse(setting: u64, source: &[u8], output: &mut [u8]) -> Reading
+// parse: an expression, and then no lexeme more. The image stands in the output, as far as it has room.
+fn parse(setting: u64, source: &[u8], output: &mut [u8]) -> Answer
     requires { ⌜ Clean setting (now source) ⌝ }
-    ensures { λ r. ⌜ Finds setting (now (source .entry)) (now (output .entry)) r (now (output .exit)) ⌝ }
+    ensures { λ a. ⌜ Parses setting (now (source .entry)) (now (output .entry)) a (now (output .exit)) ⌝ }
 {
     let a = phrases::expr(source, output, cursor_at(source, 0), 0, DEPTH, setting, 0);
-    match a {
-        Answer::Broken(r) => refused(r),
-        Answer::Done(c, w, _) => {
-            if c.kind != Kind::EOF {
-                return Reading::Wanted(c.start, c.end, Kind::EOF);
-            }
-            if output.len() < w {
-                return Reading::Room(w);
-            }
-            Reading::Tree(w)
-        }
+    let Answer::Done(c, _, _) = a else {
+        return a;
+    };
+    if c.kind != Kind::EOF {
+        return error(c, 5, Kind::EOF);
     }
+    a
 }
 
 // The answer, in 01's order. Beyond the image the output may hold anything yet.
@@ -89,7 +85,16 @@ fn find(setting: u64, source: &[u8], output: &mut [u8]) -> Reading
     if bad.kind != Kind::EOF {
         return Reading::Lexeme(bad.start, bad.end, bad.kind);
     }
-    parse(setting, source, output)
+    let a = parse(setting, source, output);
+    match a {
+        Answer::Broken(r) => refused(r),
+        Answer::Done(_, w, _) => {
+            if output.len() < w {
+                return Reading::Room(w);
+            }
+            Reading::Tree(w)
+        }
+    }
 }
 
 // How many bytes of the output are the image's.

@@ -6,10 +6,10 @@ use Rattle.all_lexemes.proofs.print_all.Statement.{statement}
 use Rattle.all_lexemes.proofs.print_all.Tie as tie
 
 abbrev Inv-loop : tie.InvT-loop
-Inv-loop length count sum₀ n₀ t5 t6 t7 t8 sum n = Unit {0}
+Inv-loop length count sum₀ n₀ t5 sum n = Unit {0}
 
 abbrev μ-loop : tie.MeasureT-loop
-μ-loop length count sum₀ n₀ t5 t6 t7 t8 sum n = count - n
+μ-loop length count sum₀ n₀ t5 sum n = count - n
 
 loop-holds : tie.Need-loop-holds Inv-loop μ-loop
 loop-holds c = search needs
@@ -32,56 +32,11 @@ slice-aggregate-write-all c = search needs
 write-all-requires : tie.Need-write-all-requires Inv-loop μ-loop
 write-all-requires c κs = search needs
 
-print-decimal-requires : tie.Need-print-decimal-requires Inv-loop μ-loop
-print-decimal-requires c κs = search needs
-
-slice-aggregate-write-all-2 : tie.Need-slice-aggregate-write-all-2 Inv-loop μ-loop
-slice-aggregate-write-all-2 c = search needs
-
-write-all-requires-2 : tie.Need-write-all-requires-2 Inv-loop μ-loop
-write-all-requires-2 c κs = search needs
-
-print-decimal-requires-2 : tie.Need-print-decimal-requires-2 Inv-loop μ-loop
-print-decimal-requires-2 c κs = search needs
-
-slice-aggregate-write-all-3 : tie.Need-slice-aggregate-write-all-3 Inv-loop μ-loop
-slice-aggregate-write-all-3 c = search needs
-
-write-all-requires-3 : tie.Need-write-all-requires-3 Inv-loop μ-loop
-write-all-requires-3 c κs = search needs
-
-print-hex-requires : tie.Need-print-hex-requires Inv-loop μ-loop
-print-hex-requires c κs = search needs
-
-slice-aggregate-write-all-4 : tie.Need-slice-aggregate-write-all-4 Inv-loop μ-loop
-slice-aggregate-write-all-4 c = search needs
-
-write-all-requires-4 : tie.Need-write-all-requires-4 Inv-loop μ-loop
-write-all-requires-4 c κs = search needs
+report-requires : tie.Need-report-requires Inv-loop μ-loop
+report-requires c κs = search needs
 
 returns : tie.Need-returns Inv-loop μ-loop
 returns c = search needs
 
 pub print-all-spec : {M : Type 1} → statement M
-print-all-spec =
-    tie.close
-    (tie.spec
-    Inv-loop
-    μ-loop
-    loop-holds
-    fed-source-requires
-    add-n
-    loop-less
-    loop-again
-    slice-aggregate-write-all
-    write-all-requires
-    print-decimal-requires
-    slice-aggregate-write-all-2
-    write-all-requires-2
-    print-decimal-requires-2
-    slice-aggregate-write-all-3
-    write-all-requires-3
-    print-hex-requires
-    slice-aggregate-write-all-4
-    write-all-requires-4
-    returns)
+print-all-spec = tie.close (tie.spec Inv-loop μ-loop loop-holds fed-source-requires add-n loop-less loop-again slice-aggregate-write-all write-all-requires report-requires returns)

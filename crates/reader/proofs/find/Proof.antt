@@ -5,7 +5,7 @@ use borrow.Author.Needs.{needs}
 use Rattle.grammar.specs.Answer.{bad-setting, too-long, not-utf8, bad-lexeme}
 use Rattle.grammar.specs.Source.{bad}
 use Rattle.reader.specs.Reader.{numbers}
-use Rattle.reader.proofs.ReaderLaws.{finds-refusal, valid-all, none-bad}
+use Rattle.reader.proofs.ReaderLaws.{valid-all, none-bad, finds-refusal, broken-sorted, finds-broken, finds-long, finds-tree}
 use Rattle.reader.proofs.find.Statement.{statement}
 use Rattle.reader.proofs.find.Tie as tie
 
@@ -51,11 +51,32 @@ parse-requires c κs =
     let u = valid-all (valid-to′ .ensures) (if3′ .left) in
     record { known = if1′ .left; short = if2′ .left; valid = u; lexemes = none-bad u (first-bad′ .ensures) (c .before .if4 .left) }
 
+enum-known-a : tie.Need-enum-known-a
+enum-known-a c = search needs
+
+refused-requires : tie.Need-refused-requires
+refused-requires c κs = broken-sorted (c .before .before .before .before .before .parse .ensures) (c .before .a .given .1)
+
+enum-known-a-2 : tie.Need-enum-known-a-2
+enum-known-a-2 c = search needs
+
 same-length : tie.Need-same-length
 same-length c = search needs
 
 returns-5 : tie.Need-returns-5
-returns-5 c = search needs
+returns-5 c = finds-long (c .before .before .before .before .before .before .parse .ensures) (c .before .before .a2 .given .1) (c .if5 .taken)
+
+same-length-2 : tie.Need-same-length-2
+same-length-2 c = search needs
+
+returns-6 : tie.Need-returns-6
+returns-6 c = finds-broken (c .before .before .before .before .before .before .parse .ensures) (c .before .before .a .given .1) (c .refused .ensures)
+
+same-length-3 : tie.Need-same-length-3
+same-length-3 c = search needs
+
+returns-7 : tie.Need-returns-7
+returns-7 c = finds-tree (c .before .before .before .before .before .before .parse .ensures) (c .before .before .a2 .given .1) (c .if5 .left)
 
 pub find-spec : {M : Type 1} → statement M
 find-spec =
@@ -68,5 +89,12 @@ find-spec =
     first-bad-requires
     returns-4
     parse-requires
+    enum-known-a
+    refused-requires
+    enum-known-a-2
     same-length
-    returns-5)
+    returns-5
+    same-length-2
+    returns-6
+    same-length-3
+    returns-7)

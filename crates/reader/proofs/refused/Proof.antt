@@ -1,9 +1,9 @@
 -- `reader::refused` meets its contract.
 -- Assumes nothing.
-use mathlib.Core.Path.{sym, ap, _∙_}
+use mathlib.Core.Path.{refl, sym, ap, _∙_}
 use Prim.Native.Nat.{ℕ}
 use Rattle.reader.specs.Reader.{refusal, numbers}
-use Rattle.reader.proofs.ReaderLaws.{no-detail-7, no-detail-9, no-detail-10, last-number}
+use Rattle.reader.proofs.ReaderLaws.{no-detail, eleven}
 use Rattle.reader.proofs.refused.Statement.{statement}
 use Rattle.reader.proofs.refused.Tie as tie
 
@@ -23,7 +23,7 @@ returns-3 : tie.Need-returns-3
 unfolding numbers
 returns-3 c =
     let r′ = c .before .before .args .r in
-    let z = no-detail-7 (c .before .before .pre) (c .match .keys3) in
+    let z = no-detail (r′ .detail) (c .before .before .pre) 7 refl (c .match .keys3) in
     sym (ap (λ (n : ℕ). refusal n (r′ .place .start) (r′ .place .end) (r′ .detail)) (c .match .keys3) ∙ ap (λ (x : ℕ). refusal 7 (r′ .place .start) (r′ .place .end) x) z)
 
 returns-4 : tie.Need-returns-4
@@ -36,22 +36,22 @@ returns-5 : tie.Need-returns-5
 unfolding numbers
 returns-5 c =
     let r′ = c .before .before .args .r in
-    let z = no-detail-9 (c .before .before .pre) (c .match .keys5) in
+    let z = no-detail (r′ .detail) (c .before .before .pre) 9 refl (c .match .keys5) in
     sym (ap (λ (n : ℕ). refusal n (r′ .place .start) (r′ .place .end) (r′ .detail)) (c .match .keys5) ∙ ap (λ (x : ℕ). refusal 9 (r′ .place .start) (r′ .place .end) x) z)
 
 returns-6 : tie.Need-returns-6
 unfolding numbers
 returns-6 c =
     let r′ = c .before .before .args .r in
-    let z = no-detail-10 (c .before .before .pre) (c .match .keys6) in
+    let z = no-detail (r′ .detail) (c .before .before .pre) 10 refl (c .match .keys6) in
     sym (ap (λ (n : ℕ). refusal n (r′ .place .start) (r′ .place .end) (r′ .detail)) (c .match .keys6) ∙ ap (λ (x : ℕ). refusal 10 (r′ .place .start) (r′ .place .end) x) z)
 
 returns-7 : tie.Need-returns-7
 unfolding numbers
 returns-7 c =
     let r′ = c .before .before .args .r in
-    let z = last-number (c .before .before .pre) (c .match .rest .0 .0 .0 .0 .0 .1) (c .match .rest .0 .0 .0 .0 .1) (c .match .rest .0 .0 .0 .1) (c .match .rest .0 .0 .1) (c .match .rest .0 .1) (c .match .rest .1) in
-    sym (ap (λ (n : ℕ). refusal n (r′ .place .start) (r′ .place .end) (r′ .detail)) (z .0) ∙ ap (λ (x : ℕ). refusal 11 (r′ .place .start) (r′ .place .end) x) (z .1))
+    let z = eleven (r′ .detail) (c .before .before .pre) (c .match .rest .0 .0 .0 .0 .0 .1) (c .match .rest .0 .0 .0 .0 .1) (c .match .rest .0 .0 .0 .1) (c .match .rest .0 .0 .1) (c .match .rest .0 .1) (c .match .rest .1) in
+    sym (ap (λ (n : ℕ). refusal n (r′ .place .start) (r′ .place .end) (r′ .detail)) z ∙ ap (λ (x : ℕ). refusal 11 (r′ .place .start) (r′ .place .end) x) (no-detail (r′ .detail) (c .before .before .pre) 11 refl z))
 
 pub refused-spec : {M : Type 1} → statement M
 refused-spec =

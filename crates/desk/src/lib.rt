@@ -1,0 +1,29 @@
+// What the desk's programs share.
+pub mod input; // a file taken whole
+pub mod questions; // the judge's lines: a question, and the answer to it
+pub mod text; // text put together in a lent buffer
+pub mod tree; // what `readtree` does
+
+pub use reader::Fields;
+
+// The whole answer to a source, in document 01's numbers.
+pub fn answer(setting: u64, source: &[u8], output: &mut [u8]) -> Fields {
+    let reading = reader::read(setting, source, output);
+    reader::numbers(reading)
+}
+
+// The first bytes of an output, as many as it has.
+fn front(output: &[u8], n: usize) -> &[u8] {
+    if output.len() < n {
+        return output;
+    }
+    &output[..n]
+}
+
+// The image that an answer has left in the output: nothing after a refusal.
+pub fn image(f: Fields, output: &[u8]) -> &[u8] {
+    if f.number != 0 {
+        return front(output, 0);
+    }
+    front(output, f.length as usize)
+}

@@ -1,0 +1,1 @@
+melt(rate=0.8, mass)

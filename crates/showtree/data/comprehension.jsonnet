@@ -1,0 +1,1 @@
+{ [bay]: 1, assert true for bay in bays }

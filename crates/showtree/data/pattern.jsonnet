@@ -1,0 +1,1 @@
+local [first, 2] = bays; first
