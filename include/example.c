@@ -1,7 +1,7 @@
 /* Reads one source and prints its image in hex, or why there is none.
        rt staticlib matigelo
-       cc -Iinclude include/example.c target/staticlib/libmatigelo.a -o /tmp/example
-       printf -- '-a*b' | /tmp/example
+       cc -Iinclude include/example.c target/staticlib/libmatigelo.a -o example
+       printf -- '-a*b' | ./example
    prints what readtree prints. An argument is the setting, 0 without one. */
 #include <inttypes.h>
 #include <stdio.h>

@@ -10,12 +10,12 @@ use borrow.Author.Tests.{le-ltb}
 use lib.Dec.{T, eqb, eqb→eq, leb, le→leb, leb→le}
 use lib.ListN.{length, getD}
 use Rattle.regex.specs.Regex.{END, Rule}
-use Rattle.regex.proofs.Bools.{and, refutes, and-left, and-right, every, Each, each, all, all-at, implies, implied}
+use Rattle.regex.proofs.Bools.{and, refutes, refuted, and-left, and-right, every, Each, each, all, all-at, implies, implied}
 use Rattle.regex.proofs.Tables.{steps, gives}
 use Rattle.lexemes.specs.Letters.{WHITE, OTHER, letter, next}
 use Rattle.lexemes.specs.Scan.{classOf, asciiClass, classTable, Ran, Best}
 use Rattle.lexemes.proofs.Letters.{letter-ascii, next-ascii, by-byte, inside}
-use Rattle.lexemes.proofs.Moves.{Sees, go, stop}
+use Rattle.lexemes.proofs.Moves.{Sees, notIn, Rest, at-rest, go, stop}
 
 right : ℕ → Bool
 right b = eqb (getD classTable b 0) (48 + classOf b)
@@ -123,3 +123,13 @@ pub class-digit : (b : ℕ) → 2 ≤ classOf b → classOf b ≤ 3 → (48 ≤ 
 class-digit b h g =
     let t = implied 128 (between 2 3) (λ b. leb 48 b && leb b 57) digits-only b (class-small b (omega arith)) (is-between 2 3 b h g) in
     (leb→le 48 b (and-left (leb 48 b) (leb b 57) t), leb→le b 57 (and-right (leb 48 b) (leb b 57) t))
+
+-- A blank, by its byte.
+blanks-only : T (implies 256 (notIn (13 ∷ 10 ∷ 9 ∷ 32 ∷ [])) (λ b. not (eqb (classOf b) 4)))
+unfolding implies classOf asciiClass
+blanks-only = tt
+
+pub no-blank : (b : ℕ) → b < 256 → Rest (13 ∷ 10 ∷ 9 ∷ 32 ∷ []) b → classOf b ≡ 4 → ⊥
+no-blank b h r e =
+    refuted (eqb (classOf b) 4) (implied 256 (notIn (13 ∷ 10 ∷ 9 ∷ 32 ∷ [])) (λ b. not (eqb (classOf b) 4)) blanks-only b h (at-rest (13 ∷ 10 ∷ 9 ∷ 32 ∷ []) b r))
+    (subst (λ (x : ℕ). T (eqb x 4)) (sym e) tt)

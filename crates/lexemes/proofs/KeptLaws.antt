@@ -2,7 +2,7 @@
 -- ones from a place are none, or one and the kept ones from its end.
 -- Assumes nothing.
 use mathlib.Core.Path.{_≡_, refl, sym, _∙_, ap, subst}
-use mathlib.Core.Bool.{Bool, true, false, not, cond}
+use mathlib.Core.Bool.{Bool, true, false, not, cond, _&&_}
 use mathlib.Core.List.{List, [], _∷_, _++_, append-assoc}
 use mathlib.Core.Logic.{_⊎_, inl, inr, ⊎-elim}
 use Prim.Native.Nat.{ℕ, zero, suc, _+_, _-_, _≤_, _<_}
@@ -11,13 +11,18 @@ use native.Mathlib.Decide.{decLt, ℕ-discrete}
 use lib.Dec.{T, eqb, leb, ltb, le→leb, lt→ltb, eqb→eq}
 use lib.ListN.{length, getD, take, drop, drop-of-length-le, take-append-drop}
 use lib.Seq.{drop-drop}
-use Rattle.regex.proofs.Bools.{and, all, all-at, implies, implied}
+use Rattle.regex.proofs.Bools.{and, and-left, and-right, all, all-at, implies, implied, refuted}
 use Rattle.lexemes.specs.declared.Lexeme.{Lexeme}
 use Rattle.lexemes.specs.declared.kept.Cursor.{Cursor}
-use Rattle.lexemes.specs.Kinds.{EOF}
-use Rattle.lexemes.specs.Lexeme.{LexemeAt, lexeme}
+use Rattle.lexemes.specs.Kinds.{EOF, IDENT, STRING-BLOCK, WHITESPACE}
+use Rattle.lexemes.specs.Lexeme.{LexemeAt, rule, lexeme}
+use Rattle.lexemes.specs.Scan.{classOf, Ran, Alone}
+use Rattle.lexemes.specs.Words.{wordKind, KeywordAt}
 use Rattle.lexemes.specs.Kept.{Lexemes, none, some, dropped, bad, keep, Kept, first, NextKept, firstBad, FirstBad, Stands, oneOf}
 use Rattle.lexemes.specs.Texts.{textOf}
+use Rattle.lexemes.proofs.Operations.{alone-scanned, alone-low}
+use Rattle.lexemes.proofs.Keywords.{word-scanned, some-word}
+use Rattle.lexemes.proofs.Firsts.{blank-scanned}
 use Rattle.lexemes.proofs.Laws.{lexeme-once, lexeme-bounds, lexeme-always, lexeme-not-eof}
 
 module _ {s : List ℕ} where
@@ -207,3 +212,65 @@ module _ {s : List ℕ} where
     pub good-end : length s ≤ i → FirstBad s (lexeme EOF (length s) (length s))
     unfolding firstBad
     good-end h = m .on (none h) refl
+
+-- What the code sees at once: blanks, words, and operators of one byte.
+abbrev fine : ℕ → Bool
+fine k = not (dropped k) && not (bad k)
+
+all-fine : T (all fine 37)
+unfolding all dropped bad
+all-fine = tt
+
+is-false : (b : Bool) → T (not b) → b ≡ false
+is-false true t = absurd t
+is-false false t = refl
+
+fine-kind : {b c k : ℕ} → Alone b c k → T (fine k)
+fine-kind {k = k} a = all-at fine 37 all-fine k (alone-low a)
+
+pub alone-kept : {b c k : ℕ} → Alone b c k → dropped k ≡ false
+alone-kept {k = k} a = is-false (dropped k) (and-left (not (dropped k)) (not (bad k)) (fine-kind a))
+
+pub alone-good : {b c k : ℕ} → Alone b c k → bad k ≡ false
+alone-good {k = k} a = is-false (bad k) (and-right (not (dropped k)) (not (bad k)) (fine-kind a))
+
+all-good : T (all (λ w. not (bad (getD wordKind w 0))) 18)
+unfolding all bad wordKind
+all-good = tt
+
+no-block : T (all (λ w. not (eqb (getD wordKind w 0) STRING-BLOCK)) 18)
+unfolding all wordKind
+no-block = tt
+
+ident-good : bad IDENT ≡ false
+unfolding bad
+ident-good = refl
+
+module _ {s : List ℕ} {at : ℕ} (h : at < length s) where
+  pub blank-lexeme : {e : ℕ} → classOf (getD s at 0) ≡ 4 → Ran s (at + 1) 4 4 e → LexemeAt s at (lexeme WHITESPACE at e)
+  blank-lexeme c r = rule h (blank-scanned s at c r) (λ e. omega arith) refl
+
+  pub alone-lexeme : {k : ℕ} → Alone (getD s at 0) (getD s (at + 1) 0) k → LexemeAt s at (lexeme k at (at + 1))
+  alone-lexeme a = rule h (alone-scanned s at a) (λ e. omega (arith, alone-low a)) refl
+
+  -- A word of whatever kind: none is bad.
+  pub word-lexeme : {e : ℕ} → classOf (getD s at 0) ≡ 1 → Ran s (at + 1) 1 3 e → (k : ℕ) × LexemeAt s at (lexeme k at e) × (bad k ≡ false)
+  word-lexeme {e} c r = let w = some-word s at e in (w .0, rule h (word-scanned s at e c r (w .1)) (other (w .1)) refl, good (w .1))
+    where
+      other : {k : ℕ} → KeywordAt s at e k → k ≡ STRING-BLOCK → ⊥
+      other {k} (inl w) q =
+          refuted (eqb k STRING-BLOCK) (subst (λ (x : ℕ). T (not (eqb x STRING-BLOCK))) (sym (w .2)) (all-at (λ w. not (eqb (getD wordKind w 0) STRING-BLOCK)) 18 no-block (w .0) (w .1)))
+          (subst (λ (x : ℕ). T (eqb x STRING-BLOCK)) (sym q) tt)
+      other (inr w) q = omega (arith, w .0)
+
+      good : {k : ℕ} → KeywordAt s at e k → bad k ≡ false
+      good {k} (inl w) = is-false (bad k) (subst (λ (x : ℕ). T (not (bad x))) (sym (w .2)) (all-at (λ w. not (bad (getD wordKind w 0))) 18 all-good (w .0) (w .1)))
+      good (inr w) = ap bad (w .0) ∙ ident-good
+
+pub blank-dropped : dropped WHITESPACE ≡ true
+unfolding dropped
+blank-dropped = refl
+
+pub blank-good : bad WHITESPACE ≡ false
+unfolding bad
+blank-good = refl

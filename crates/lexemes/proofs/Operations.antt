@@ -1,12 +1,13 @@
 -- Operators: what is left of the rules after one, two or three bytes, by tests that antt computes.
 -- Assumes nothing.
-use mathlib.Core.Path.{_≡_, refl, sym, _∙_, subst}
-use mathlib.Core.Bool.{Bool, true, false, not, _&&_}
+use mathlib.Core.Path.{_≡_, refl, sym, _∙_, ap, subst}
+use mathlib.Core.Bool.{Bool, true, false, not, cond, _&&_}
 use mathlib.Core.List.{List, [], _∷_}
+use mathlib.Core.Logic.{inl, inr}
 use Prim.Native.Nat.{ℕ, _+_, _≤_, _<_}
 use native.Mathlib.Omega.{arith}
-use native.Mathlib.Decide.{decLt}
-use lib.Dec.{T, eqb, eqb→eq, eqb-refl}
+use native.Mathlib.Decide.{decLt, ℕ-discrete}
+use lib.Dec.{T, eqb, eqb→eq, eqb-refl, ltb, ltb→lt}
 use lib.ListN.{length, getD}
 use borrow.Author.Tests.{ne-eqb}
 use Rattle.regex.specs.Regex.{END, Rule}
@@ -17,7 +18,7 @@ use Rattle.lexemes.specs.Kinds.{OR, DOT, DOTDOTDOT, STRING-BLOCK}
 use Rattle.lexemes.specs.Letters.{WHITE, OTHER, letter, next, text}
 use Rattle.lexemes.specs.Rules.{rules}
 use Rattle.lexemes.specs.Lexeme.{Ruled, longest}
-use Rattle.lexemes.specs.Scan.{Best, classOf, asciiClass, single, pair}
+use Rattle.lexemes.specs.Scan.{Best, classOf, asciiClass, single, pair, Alone, Lone}
 use Rattle.lexemes.proofs.Letters.{by-byte}
 use Rattle.lexemes.proofs.Moves.{Sees, plain, notIn, NotAll, not-all, Rest, at-rest, byte, none, go, stop, stop-before, never}
 use Rattle.lexemes.proofs.Classes.{between, is-between, class-small}
@@ -247,3 +248,31 @@ module _ (s : List ℕ) (at : ℕ) (h : classOf (getD s at 0) ≡ 10) (n : getD 
   three-bytes z g =
       let b = pair-or (getD s at 0) (getD s (at + 1) 0) (small s at h n) (second-low (λ q. omega (arith, q, z))) (sym e ∙ z) in
       bars-scanned s at (b .0) (b .1) g
+
+-- An operator of one byte, seen by the byte after it.
+pub flat : (x y : Bool) → _≡_ {A = ℕ} (cond x 0 (cond y 0 0)) 0
+flat true y = refl
+flat false true = refl
+flat false false = refl
+
+pub alone : (b c : ℕ) {x k : ℕ} → x ≡ b → classOf b ≡ 10 → k ≡ single b → pair b c ≡ 0 → (b ≡ 46 → c ≡ 46 → ⊥) → Lone x c k
+alone b c {k = k} e h q n d = inr (subst (λ (y : ℕ). Alone y c k) (sym e) record { class = h; kind = q; no-pair = n; no-dots = d })
+
+pub alone-by : {b c d k : ℕ} → Lone b c k → c ≡ d → (k ≡ 0 → ⊥) → Alone b d k
+alone-by (inl z) e n = absurd (n z)
+alone-by {b} {k = k} (inr a) e n = subst (λ (x : ℕ). Alone b x k) e a
+
+pub alone-scanned : (s : List ℕ) (at : ℕ) {k : ℕ} → Alone (getD s at 0) (getD s (at + 1) 0) k → Ruled s at k (at + 1)
+unfolding single
+alone-scanned s at {k} a = by (ℕ-discrete (getD s at 0) 46)
+  where
+    by : Dec (getD s at 0 ≡ 46) → Ruled s at k (at + 1)
+    by (yes e) = subst (λ (x : ℕ). Ruled s at x (at + 1)) (sym (a .kind ∙ ap single e)) (dot-scanned s at e (a .no-dots e))
+    by (no n) = subst (λ (x : ℕ). Ruled s at x (at + 1)) (sym (a .kind)) (single-scanned s at (a .class) n (a .no-pair))
+
+all-low : T (all (λ b. ltb (single b) 37) 128)
+unfolding all single
+all-low = tt
+
+pub alone-low : {b c k : ℕ} → Alone b c k → k < 37
+alone-low {b} a = omega (arith, a .kind, ltb→lt (single b) 37 (all-at (λ b. ltb (single b) 37) 128 all-low b (class-small b (omega (arith, a .class)))))

@@ -111,6 +111,17 @@ pair b c =
     (cond (eqb b (code "?")) NULL-COAELSE (cond (eqb b (code "&")) AND (cond (eqb b (code "<")) LHS (cond (eqb b (code ">")) RHS 0)))))
     0)
 
+-- k is the kind of the operator of one byte b, which is the whole lexeme where the byte after it is c.
+pub record Alone (b c k : ℕ) : Type 0 where
+  pub class : classOf b ≡ 10
+  pub kind : k ≡ single b
+  pub no-pair : pair b c ≡ 0
+  pub no-dots : b ≡ code "." → c ≡ code "." → ⊥
+
+-- Such a kind, or 0, which says nothing.
+abbrev pub Lone : ℕ → ℕ → ℕ → Type 0
+Lone b c k = (k ≡ 0) ⊎ Alone b c k
+
 -- A quote, and the kind of the string in it; the next kind is that of one with no end.
 abbrev pub Quote : ℕ → ℕ → Type 0
 Quote q g = ((q ≡ code "\"") × (g ≡ STRING-DOUBLE)) ⊎ ((q ≡ code "'") × (g ≡ STRING-SINGLE))

@@ -5,7 +5,7 @@ ghost use Prim.Native.Nat.{ℕ, _+_, _≤_, _<_, min};
 ghost use lib.ListN.{length, getD};
 ghost use Rattle.regex.specs.Regex.{within};
 ghost use Rattle.lexemes.specs.Letters.{WHITE, OTHER, letter, next, codePoint, whiteSpace};
-ghost use Rattle.lexemes.specs.Scan.{classOf, classTable, Ran};
+ghost use Rattle.lexemes.specs.Scan.{classOf, classTable, Ran, Says};
 
 // What a byte begins, or goes on with: the classes by name.
 pub struct Class {
@@ -82,6 +82,34 @@ pub fn run(src: &[u8], from: usize, lo: u8, hi: u8, classes: &[u8; 256]) -> usiz
             return i;
         }
         if hi < c {
+            return i;
+        }
+        i += 1;
+    }
+    i
+}
+
+// Whether a byte is a blank, without the table.
+pub fn is_blank(b: u8) -> bool
+    ensures { λ r. ⌜ Says r (classOf b ≡ 4) ⌝ }
+{
+    match b {
+        b' ' => true,
+        b'\t' => true,
+        b'\n' => true,
+        b'\r' => true,
+        _ => false,
+    }
+}
+
+// The end of the run of blanks from `from` on.
+pub fn blanks(src: &[u8], from: usize) -> usize
+    requires { ⌜ from ≤ length (now src) ⌝ }
+    ensures { λ r. ⌜ Ran (now (src .entry)) from 4 4 r ⌝ }
+{
+    let mut i = from;
+    while i < src.len() {
+        if !is_blank(src[i]) {
             return i;
         }
         i += 1;

@@ -1,10 +1,17 @@
 // The kept lexemes of a source one by one, a cursor over them, and the first bad lexeme.
 ghost use mathlib.Core.Path.{_≡_};
-ghost use Prim.Native.Nat.{ℕ};
+ghost use Prim.Native.Nat.{ℕ, _<_};
+ghost use lib.ListN.{length};
+ghost use Rattle.lexemes.specs.Lexeme.{LexemeAt};
 ghost use Rattle.lexemes.specs.Kept.{dropped, bad, NextKept, FirstBad, Stands};
 use super::Lexeme;
+use super::bytes;
 use super::bytes::CLASS;
+use super::bytes::Class;
 use super::kinds::Kind;
+use super::lexer;
+use super::numbers;
+use super::operators;
 use super::scan;
 
 // White space and good comments, which stand together in `SyntaxKind`.
@@ -37,14 +44,37 @@ fn is_bad(kind: u8) -> bool
     }
 }
 
-// The next kept lexeme from a place on; with none left, EOF at the place twice.
+// The lexeme at a place. The table of classes is set up only where it is needed.
+fn lexeme_from(src: &[u8], at: usize) -> Lexeme
+    requires { ⌜ at < length (now src) ⌝ }
+    ensures { λ r. ⌜ LexemeAt (now (src .entry)) at r ⌝ }
+{
+    if numbers::is_digit(src, at) {
+        return scan::lexeme_of(src, at, numbers::number_at(src, at));
+    }
+    lexer::lexeme_at(src, at)
+}
+
+// The next kept lexeme from a place on; with none left, EOF at the place twice. Blanks and operators of one byte are told by their bytes.
 pub fn next_kept(src: &[u8], at: usize) -> Lexeme
     ensures { λ r. ⌜ NextKept (now (src .entry)) at r ⌝ }
 {
-    let classes = CLASS;
     let mut i = at;
     while i < src.len() {
-        let l = scan::lexeme_by(src, i, &classes);
+        let b = src[i];
+        if bytes::is_blank(b) {
+            i = bytes::blanks(src, i + 1);
+            continue;
+        }
+        let lone = operators::lone_kind(b, bytes::peek(src, i + 1));
+        if lone != 0 {
+            return Lexeme {
+                kind: lone,
+                start: i,
+                end: i + 1,
+            };
+        }
+        let l = lexeme_from(src, i);
         if !is_dropped(l.kind) {
             return l;
         }
@@ -57,13 +87,27 @@ pub fn next_kept(src: &[u8], at: usize) -> Lexeme
     }
 }
 
-// The first bad lexeme of a source; EOF at its end where none is bad.
+// The first bad lexeme of a source; EOF at its end where none is bad. Blanks, words and operators of one byte are skipped: none is bad.
 pub fn first_bad(src: &[u8]) -> Lexeme
     ensures { λ r. ⌜ FirstBad (now (src .entry)) r ⌝ }
 {
     let classes = CLASS;
     let mut i = 0;
     while i < src.len() {
+        let b = src[i];
+        let c = bytes::class_of(&classes, b);
+        if c == Class::BLANK {
+            i = bytes::run(src, i + 1, Class::BLANK, Class::BLANK, &classes);
+            continue;
+        }
+        if c == Class::ALPHA {
+            i = bytes::run(src, i + 1, Class::ALPHA, Class::ZERO, &classes);
+            continue;
+        }
+        if operators::lone_kind(b, bytes::peek(src, i + 1)) != 0 {
+            i += 1;
+            continue;
+        }
         let l = scan::lexeme_by(src, i, &classes);
         if is_bad(l.kind) {
             return l;

@@ -9,7 +9,7 @@ use super::Matched;
 use super::bytes;
 use super::kinds::Kind;
 
-fn is_digit(src: &[u8], i: usize) -> bool
+pub fn is_digit(src: &[u8], i: usize) -> bool
     ensures { λ r. ⌜ Says r (IsDigit (getD (now (src .entry)) i 0)) ⌝ }
 {
     let b = bytes::peek(src, i);

@@ -3,7 +3,7 @@ ghost use mathlib.Core.Path.{_≡_};
 ghost use Prim.Native.Nat.{ℕ, _+_, _≤_, _<_};
 ghost use lib.ListN.{length, getD};
 ghost use Rattle.lexemes.specs.Lexeme.{Ruled};
-ghost use Rattle.lexemes.specs.Scan.{classOf, single, pair};
+ghost use Rattle.lexemes.specs.Scan.{classOf, single, pair, Lone};
 use super::Matched;
 use super::bytes;
 use super::kinds::Kind;
@@ -63,6 +63,41 @@ fn pair_kind(b: u8, c: u8) -> u8
         b'&' => Kind::AND,
         b'<' => Kind::LHS,
         b'>' => Kind::RHS,
+        _ => 0,
+    }
+}
+
+// The kind of an operator of one byte b that is seen to be one by the byte c after it; 0 where more has to be seen, or none is.
+pub fn lone_kind(b: u8, c: u8) -> u8
+    ensures { λ r. ⌜ Lone b c r ⌝ }
+{
+    match b {
+        b',' => Kind::COMMA,
+        b':' => Kind::COLON,
+        b'.' => {
+            if c == b'.' {
+                return 0;
+            }
+            Kind::DOT
+        }
+        b'=' => {
+            if c == b'=' {
+                return 0;
+            }
+            Kind::ASSIGN
+        }
+        b'[' => Kind::L_BRACK,
+        b']' => Kind::R_BRACK,
+        b'(' => Kind::L_PAREN,
+        b')' => Kind::R_PAREN,
+        b'{' => Kind::L_BRACE,
+        b'}' => Kind::R_BRACE,
+        b';' => Kind::SEMI,
+        b'$' => Kind::DOLLAR,
+        b'+' => Kind::PLUS,
+        b'-' => Kind::MINUS,
+        b'*' => Kind::MUL,
+        b'%' => Kind::MODULO,
         _ => 0,
     }
 }

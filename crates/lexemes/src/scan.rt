@@ -92,6 +92,23 @@ fn of_block(at: usize, b: Block) -> Lexeme
     }
 }
 
+// The lexeme of what the rules match at a place: a `|||` goes on as a block.
+pub fn lexeme_of(src: &[u8], at: usize, m: Matched) -> Lexeme
+    requires { ⌜ (at < length (now src)) × Ruled (now src) at (m .kind) (m .end) ⌝ }
+    ensures { λ r. ⌜ LexemeAt (now (src .entry)) at r ⌝ }
+{
+    let kind = m.kind;
+    let end = m.end;
+    if kind != Kind::STRING_BLOCK {
+        return Lexeme {
+            kind,
+            start: at,
+            end,
+        };
+    }
+    of_block(at, blocks::block_at(src, end))
+}
+
 // The lexeme at a place of the source; past its end, EOF.
 pub fn lexeme_by(src: &[u8], at: usize, classes: &[u8; 256]) -> Lexeme
     requires { ⌜ now classes ≡ classTable ⌝ }
@@ -104,15 +121,5 @@ pub fn lexeme_by(src: &[u8], at: usize, classes: &[u8; 256]) -> Lexeme
             end: at,
         };
     }
-    let m = matched_at(src, at, classes);
-    let kind = m.kind;
-    let end = m.end;
-    if kind != Kind::STRING_BLOCK {
-        return Lexeme {
-            kind,
-            start: at,
-            end,
-        };
-    }
-    of_block(at, blocks::block_at(src, end))
+    lexeme_of(src, at, matched_at(src, at, classes))
 }

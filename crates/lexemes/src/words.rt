@@ -11,100 +11,95 @@ use super::bytes;
 use super::bytes::Class;
 use super::kinds::Kind;
 
-// The keywords in the order of their kinds, one after the other; where each starts; its kind; the next that has the same first letter.
+// The keywords in the order of their kinds, one after the other. The text is handed down, since a constant is set up anew wherever it is named.
 const BYTES: [u8; 95] =
     *b"tailstrictlocalimportstrimportbinimportifthenelsefunctionerrorinnulltruefalseselfsuperforassert";
 
-const FROM: [usize; 19] = [
-    0,
-    10,
-    15,
-    24,
-    33,
-    39,
-    41,
-    45,
-    49,
-    57,
-    62,
-    64,
-    68,
-    72,
-    77,
-    81,
-    86,
-    89,
-    95,
-];
-
-const KIND: [u8; 18] = [
-    Kind::TAILSTRICT_KW,
-    Kind::LOCAL_KW,
-    Kind::IMPORTSTR_KW,
-    Kind::IMPORTBIN_KW,
-    Kind::IMPORT_KW,
-    Kind::IF_KW,
-    Kind::THEN_KW,
-    Kind::ELSE_KW,
-    Kind::FUNCTION_KW,
-    Kind::ERROR_KW,
-    Kind::IN_KW,
-    Kind::NULL_KW,
-    Kind::TRUE_KW,
-    Kind::FALSE_KW,
-    Kind::SELF_KW,
-    Kind::SUPER_KW,
-    Kind::FOR_KW,
-    Kind::ASSERT_KW,
-];
-
-const NEXT: [usize; 18] = [
-    6,
-    18,
-    3,
-    4,
-    5,
-    10,
-    12,
-    9,
-    13,
-    18,
-    18,
-    18,
-    18,
-    16,
-    15,
-    18,
-    18,
-    18,
-];
-
-fn word_byte(i: usize) -> u8
-    requires { ⌜ i < 95 ⌝ }
+fn word_byte(text: &[u8; 95], i: usize) -> u8
+    requires { ⌜ (i < 95) × (now text ≡ wordBytes) ⌝ }
     ensures { λ r. ⌜ r ≡ getD wordBytes i 0 ⌝ }
 {
-    BYTES[i]
+    text[i]
 }
 
+// Where the keyword w starts; its kind; the next that has the same first letter. Matches, which are compiled to tables that stand ready.
 fn word_from(w: usize) -> usize
     requires { ⌜ w < 19 ⌝ }
     ensures { λ r. ⌜ r ≡ getD wordFrom w 0 ⌝ }
 {
-    FROM[w]
+    match w {
+        0 => 0,
+        1 => 10,
+        2 => 15,
+        3 => 24,
+        4 => 33,
+        5 => 39,
+        6 => 41,
+        7 => 45,
+        8 => 49,
+        9 => 57,
+        10 => 62,
+        11 => 64,
+        12 => 68,
+        13 => 72,
+        14 => 77,
+        15 => 81,
+        16 => 86,
+        17 => 89,
+        _ => 95,
+    }
 }
 
 fn word_kind(w: usize) -> u8
     requires { ⌜ w < 18 ⌝ }
     ensures { λ r. ⌜ r ≡ getD wordKind w 0 ⌝ }
 {
-    KIND[w]
+    match w {
+        0 => Kind::TAILSTRICT_KW,
+        1 => Kind::LOCAL_KW,
+        2 => Kind::IMPORTSTR_KW,
+        3 => Kind::IMPORTBIN_KW,
+        4 => Kind::IMPORT_KW,
+        5 => Kind::IF_KW,
+        6 => Kind::THEN_KW,
+        7 => Kind::ELSE_KW,
+        8 => Kind::FUNCTION_KW,
+        9 => Kind::ERROR_KW,
+        10 => Kind::IN_KW,
+        11 => Kind::NULL_KW,
+        12 => Kind::TRUE_KW,
+        13 => Kind::FALSE_KW,
+        14 => Kind::SELF_KW,
+        15 => Kind::SUPER_KW,
+        16 => Kind::FOR_KW,
+        _ => Kind::ASSERT_KW,
+    }
 }
 
 fn word_next(w: usize) -> usize
     requires { ⌜ w < 18 ⌝ }
     ensures { λ r. ⌜ r ≡ getD wordNext w 0 ⌝ }
 {
-    NEXT[w]
+    match w {
+        0 => 6,
+        1 => 18,
+        2 => 3,
+        3 => 4,
+        4 => 5,
+        5 => 10,
+        6 => 12,
+        7 => 9,
+        8 => 13,
+        9 => 18,
+        10 => 18,
+        11 => 18,
+        12 => 18,
+        13 => 16,
+        14 => 15,
+        15 => 18,
+        16 => 18,
+        _ => 18,
+    }
 }
 
 // The first keyword that begins with b; 18 where none does.
@@ -134,10 +129,11 @@ fn is_word(src: &[u8], at: usize, end: usize, w: usize) -> bool
     if end - at != n {
         return false;
     }
+    let text = BYTES;
     let mut k = 0;
     while k < n {
         let b = src[at + k];
-        if b != word_byte(from + k) {
+        if b != word_byte(&text, from + k) {
             return false;
         }
         k += 1;

@@ -6,8 +6,9 @@ use native.Mathlib.Omega.{arith}
 use lib.ListN.{length}
 use borrow.Author.Needs.{needs}
 use Rattle.lexemes.specs.Scan.{classTable}
+use Rattle.lexemes.proofs.Operations.{alone-by}
 use Rattle.lexemes.proofs.Laws.{lexeme-bounds}
-use Rattle.lexemes.proofs.KeptLaws.{Good, good-start, good-on, good-bad, good-end}
+use Rattle.lexemes.proofs.KeptLaws.{Good, good-start, good-on, good-bad, good-end, blank-lexeme, blank-good, word-lexeme, alone-lexeme, alone-good}
 use Rattle.lexemes.proofs.kept.first_bad.Statement.{statement}
 use Rattle.lexemes.proofs.kept.first_bad.Tie as tie
 
@@ -21,9 +22,96 @@ loop-holds : tie.Need-loop-holds Inv-loop μ-loop
 unfolding classTable
 loop-holds c = (refl, good-start)
 
+shared-slice-read-b : tie.Need-shared-slice-read-b Inv-loop μ-loop
+shared-slice-read-b c = search needs
+
+class-of-requires : tie.Need-class-of-requires Inv-loop μ-loop
+class-of-requires c κs =
+    let loop = c .before .before .before .loop in
+    loop .inv .0
+
+add-run : tie.Need-add-run Inv-loop μ-loop
+add-run c = search needs
+
+run-requires : tie.Need-run-requires Inv-loop μ-loop
+run-requires c κs =
+    let loop-test = c .before .before .before .before .before .loop-test in
+    let loop = c .before .before .before .before .before .before .loop in
+    (omega (arith, loop-test .taken), omega arith, loop .inv .0)
+
+loop-less : tie.Need-loop-less Inv-loop μ-loop
+loop-less c =
+    let run = c .run in
+    let loop-test = c .before .before .before .before .before .before .loop-test in
+    omega (arith, loop-test .taken, run .ensures .start)
+
+-- Blanks are not bad.
+loop-again : tie.Need-loop-again Inv-loop μ-loop
+loop-again c =
+    let run = c .run in
+    let if1 = c .before .before .if1 in
+    let class-of = c .before .before .before .class-of in
+    let loop-test = c .before .before .before .before .before .before .loop-test in
+    let loop = c .before .before .before .before .before .before .before .loop in
+    (loop .inv .0, good-on (loop .inv .1) (loop-test .taken) (blank-lexeme (loop-test .taken) (sym (class-of .ensures) ∙ if1 .taken) (run .ensures)) blank-good)
+
+add-run-2 : tie.Need-add-run-2 Inv-loop μ-loop
+add-run-2 c = search needs
+
+run-requires-2 : tie.Need-run-requires-2 Inv-loop μ-loop
+run-requires-2 c κs =
+    let loop-test = c .before .before .before .before .before .before .loop-test in
+    let loop = c .before .before .before .before .before .before .before .loop in
+    (omega (arith, loop-test .taken), omega arith, loop .inv .0)
+
+loop-less-2 : tie.Need-loop-less-2 Inv-loop μ-loop
+loop-less-2 c =
+    let run2 = c .run2 in
+    let loop-test = c .before .before .before .before .before .before .before .loop-test in
+    omega (arith, loop-test .taken, run2 .ensures .start)
+
+-- A word is not bad, whatever its kind.
+loop-again-2 : tie.Need-loop-again-2 Inv-loop μ-loop
+loop-again-2 c =
+    let run2 = c .run2 in
+    let if2 = c .before .before .if2 in
+    let class-of = c .before .before .before .before .class-of in
+    let loop-test = c .before .before .before .before .before .before .before .loop-test in
+    let loop = c .before .before .before .before .before .before .before .before .loop in
+    let word = word-lexeme (loop-test .taken) (sym (class-of .ensures) ∙ if2 .taken) (run2 .ensures) in
+    (loop .inv .0, good-on (loop .inv .1) (loop-test .taken) (word .1) (word .2))
+
+add-peek : tie.Need-add-peek Inv-loop μ-loop
+add-peek c = search needs
+
+peek-requires : tie.Need-peek-requires Inv-loop μ-loop
+peek-requires c κs = search needs
+
+lone-kind-requires : tie.Need-lone-kind-requires Inv-loop μ-loop
+lone-kind-requires c κs = search needs
+
+add-i : tie.Need-add-i Inv-loop μ-loop
+add-i c = search needs
+
+loop-less-3 : tie.Need-loop-less-3 Inv-loop μ-loop
+loop-less-3 c =
+    let loop-test = c .before .before .before .before .before .before .before .before .loop-test in
+    omega (arith, loop-test .taken)
+
+-- Neither is an operator of one byte.
+loop-again-3 : tie.Need-loop-again-3 Inv-loop μ-loop
+loop-again-3 c =
+    let if3 = c .if3 in
+    let lone-kind = c .before .lone-kind in
+    let peek = c .before .before .peek in
+    let loop-test = c .before .before .before .before .before .before .before .before .loop-test in
+    let loop = c .before .before .before .before .before .before .before .before .before .loop in
+    let alone = alone-by (lone-kind .ensures) (peek .ensures) (if3 .taken) in
+    (loop .inv .0, good-on (loop .inv .1) (loop-test .taken) (alone-lexeme (loop-test .taken) alone) (alone-good alone))
+
 lexeme-by-requires : tie.Need-lexeme-by-requires Inv-loop μ-loop
 lexeme-by-requires c κs =
-    let loop = c .before .before .loop in
+    let loop = c .before .before .before .before .before .before .before .before .before .before .loop in
     loop .inv .0
 
 is-bad-requires : tie.Need-is-bad-requires Inv-loop μ-loop
@@ -31,34 +119,34 @@ is-bad-requires c κs = search needs
 
 returns : tie.Need-returns Inv-loop μ-loop
 returns c =
-    let loop = c .before .before .before .before .before .loop in
-    let loop-test = c .before .before .before .before .loop-test in
-    let lexeme-by = c .before .before .lexeme-by in
+    let if4 = c .if4 in
     let is-bad = c .before .is-bad in
-    let if1 = c .if1 in
-    good-bad (loop .inv .1) (loop-test .taken) (lexeme-by .ensures) (sym (is-bad .ensures) ∙ if1 .taken)
+    let lexeme-by = c .before .before .lexeme-by in
+    let loop-test = c .before .before .before .before .before .before .before .before .before .before .before .before .loop-test in
+    let loop = c .before .before .before .before .before .before .before .before .before .before .before .before .before .loop in
+    good-bad (loop .inv .1) (loop-test .taken) (lexeme-by .ensures) (sym (is-bad .ensures) ∙ if4 .taken)
 
-loop-less : tie.Need-loop-less Inv-loop μ-loop
-loop-less c =
-    let args = c .before .before .before .before .before .before .before .args in
+loop-less-4 : tie.Need-loop-less-4 Inv-loop μ-loop
+loop-less-4 c =
+    let lexeme-by = c .before .before .lexeme-by in
+    let loop-test = c .before .before .before .before .before .before .before .before .before .before .before .before .loop-test in
+    let args = c .before .before .before .before .before .before .before .before .before .before .before .before .before .before .before .args in
     let s = args .src .now in
-    let loop-test = c .before .before .before .before .loop-test in
-    let lexeme-by = c .before .before .lexeme-by in
-    omega (arith, lexeme-bounds s (loop-test .taken) (lexeme-by .ensures) .1)
+    omega (arith, loop-test .taken, lexeme-bounds s (loop-test .taken) (lexeme-by .ensures) .1)
 
-loop-again : tie.Need-loop-again Inv-loop μ-loop
-loop-again c =
-    let loop = c .before .before .before .before .before .loop in
-    let loop-test = c .before .before .before .before .loop-test in
-    let lexeme-by = c .before .before .lexeme-by in
+loop-again-4 : tie.Need-loop-again-4 Inv-loop μ-loop
+loop-again-4 c =
+    let if4 = c .if4 in
     let is-bad = c .before .is-bad in
-    let if1 = c .if1 in
-    (loop .inv .0, good-on (loop .inv .1) (loop-test .taken) (lexeme-by .ensures) (sym (is-bad .ensures) ∙ if1 .left))
+    let lexeme-by = c .before .before .lexeme-by in
+    let loop-test = c .before .before .before .before .before .before .before .before .before .before .before .before .loop-test in
+    let loop = c .before .before .before .before .before .before .before .before .before .before .before .before .before .loop in
+    (loop .inv .0, good-on (loop .inv .1) (loop-test .taken) (lexeme-by .ensures) (sym (is-bad .ensures) ∙ if4 .left))
 
 returns-2 : tie.Need-returns-2 Inv-loop μ-loop
 returns-2 c =
-    let loop = c .before .loop in
     let loop-test = c .loop-test in
+    let loop = c .before .loop in
     good-end (loop .inv .1) (loop-test .left)
 
 pub first-bad-spec : {M : Type 1} → statement M
@@ -68,9 +156,25 @@ first-bad-spec =
     Inv-loop
     μ-loop
     loop-holds
+    shared-slice-read-b
+    class-of-requires
+    add-run
+    run-requires
+    loop-less
+    loop-again
+    add-run-2
+    run-requires-2
+    loop-less-2
+    loop-again-2
+    add-peek
+    peek-requires
+    lone-kind-requires
+    add-i
+    loop-less-3
+    loop-again-3
     lexeme-by-requires
     is-bad-requires
     returns
-    loop-less
-    loop-again
+    loop-less-4
+    loop-again-4
     returns-2)

@@ -1,6 +1,6 @@
 -- `lexemes::words::is_word` meets its contract. The loop's invariant: the bytes so far are those of the word.
 -- Assumes nothing.
-use mathlib.Core.Path.{_≡_, sym, _∙_, ap}
+use mathlib.Core.Path.{_≡_, refl, sym, _∙_, ap}
 use Prim.Native.Nat.{ℕ, _+_, _-_, _≤_, _<_}
 use native.Mathlib.Omega.{arith}
 use lib.ListN.{length, getD}
@@ -12,15 +12,16 @@ use Rattle.lexemes.proofs.words.is_word.Statement.{statement}
 use Rattle.lexemes.proofs.words.is_word.Tie as tie
 
 abbrev Inv-loop : tie.InvT-loop
-Inv-loop src at end w from n k₀ k =
-    (end ≡ at + wordLength w)
+Inv-loop src at end w from n text k₀ k =
+    (text ≡ wordBytes)
+    × (end ≡ at + wordLength w)
     × (from ≡ getD wordFrom w 0)
     × (n ≡ wordLength w)
     × (k ≤ n)
     × ((j : ℕ) → 0 ≤ j → j < k → getD src (at + j) 0 ≡ getD wordBytes (getD wordFrom w 0 + j) 0)
 
 abbrev μ-loop : tie.MeasureT-loop
-μ-loop src at end w from n k₀ k = n - k
+μ-loop src at end w from n text k₀ k = n - k
 
 word-from-requires : tie.Need-word-from-requires Inv-loop μ-loop
 word-from-requires c κs = search needs
@@ -53,9 +54,11 @@ returns c =
     other-length s (args .w) (args .at) (args .end) (pre .2) (λ e. if1 .taken (omega (arith, word-from .ensures, word-from2 .ensures)))
 
 loop-holds : tie.Need-loop-holds Inv-loop μ-loop
+unfolding wordBytes
 loop-holds c =
     let word-from = c .before .before .word-from in
     let word-from2 = c .before .word-from2 in (
+      refl,
       omega (arith, word-from .ensures, word-from2 .ensures),
       word-from .ensures,
       omega (arith, word-from .ensures, word-from2 .ensures),
@@ -71,26 +74,27 @@ shared-slice-read-b c = search needs
 
 add-word-byte : tie.Need-add-word-byte Inv-loop μ-loop
 add-word-byte c =
-    let args = c .before .before .before .before .before .before .before .args in
-    let pre = c .before .before .before .before .before .before .before .pre in
+    let args = c .before .before .before .before .before .before .before .before .args in
+    let pre = c .before .before .before .before .before .before .before .before .pre in
     omega (arith, from-up (args .w) (pre .2) .1)
 
 word-byte-requires : tie.Need-word-byte-requires Inv-loop μ-loop
 word-byte-requires c κs =
-    let args = c .before .before .before .before .before .before .before .args in
-    let pre = c .before .before .before .before .before .before .before .pre in
-    omega (arith, from-up (args .w) (pre .2) .1)
+    let args = c .before .before .before .before .before .before .before .before .args in
+    let pre = c .before .before .before .before .before .before .before .before .pre in
+    let loop = c .before .before .before .loop in
+    (omega (arith, from-up (args .w) (pre .2) .1), loop .inv .0)
 
 returns-2 : tie.Need-returns-2 Inv-loop μ-loop
 returns-2 c =
-    let args = c .before .before .before .before .before .before .before .before .before .args in
+    let args = c .before .before .before .before .before .before .before .before .before .before .args in
     let s = args .src .now in
-    let pre = c .before .before .before .before .before .before .before .before .before .pre in
-    let loop = c .before .before .before .before .loop in
+    let pre = c .before .before .before .before .before .before .before .before .before .before .pre in
+    let loop = c .before .before .before .before .before .loop in
     let if2 = c .if2 in
     let word-byte = c .before .word-byte in
     other-byte s (args .w) (args .at) (args .end) (pre .2) (loop .k) (omega arith)
-    (λ e. if2 .taken (e ∙ ap (λ (x : ℕ). getD wordBytes (x + loop .k) 0) (sym (loop .inv .1)) ∙ sym (word-byte .ensures)))
+    (λ e. if2 .taken (e ∙ ap (λ (x : ℕ). getD wordBytes (x + loop .k) 0) (sym (loop .inv .2)) ∙ sym (word-byte .ensures)))
 
 add-k : tie.Need-add-k Inv-loop μ-loop
 add-k c = search needs
@@ -100,17 +104,18 @@ loop-less c = search needs
 
 loop-again : tie.Need-loop-again Inv-loop μ-loop
 loop-again c =
-    let args = c .before .before .before .before .before .before .before .before .before .args in
-    let loop = c .before .before .before .before .loop in
+    let args = c .before .before .before .before .before .before .before .before .before .before .args in
+    let loop = c .before .before .before .before .before .loop in
     let s = args .src .now in
     let if2 = c .if2 in
     let word-byte = c .before .word-byte in (
       loop .inv .0,
       loop .inv .1,
       loop .inv .2,
+      loop .inv .3,
       omega arith,
-      up-to (λ (j : ℕ). getD s (args .at + j) 0 ≡ getD wordBytes (getD wordFrom (args .w) 0 + j) 0) 0 (loop .k) (loop .inv .4)
-          (if2 .left ∙ word-byte .ensures ∙ ap (λ (x : ℕ). getD wordBytes (x + loop .k) 0) (loop .inv .1)),
+      up-to (λ (j : ℕ). getD s (args .at + j) 0 ≡ getD wordBytes (getD wordFrom (args .w) 0 + j) 0) 0 (loop .k) (loop .inv .5)
+          (if2 .left ∙ word-byte .ensures ∙ ap (λ (x : ℕ). getD wordBytes (x + loop .k) 0) (loop .inv .2)),
     )
 
 returns-3 : tie.Need-returns-3 Inv-loop μ-loop
@@ -119,7 +124,7 @@ returns-3 c =
     let s = args .src .now in
     let pre = c .before .before .before .before .before .before .pre in
     let loop = c .before .loop in
-    is-spelled s (args .w) (args .at) (args .end) (pre .2) (loop .inv .0) (λ j g l. loop .inv .4 j g (omega arith))
+    is-spelled s (args .w) (args .at) (args .end) (pre .2) (loop .inv .1) (λ j g l. loop .inv .5 j g (omega arith))
 
 pub is-word-spec : {M : Type 1} → statement M
 is-word-spec =
