@@ -38,6 +38,7 @@ mod Spec
 mod Specs
 mod Step
 mod Value
+use borrow.Author.Needs.{needs}
 use Rattle.phrases.proofs.+arg+args+array+assert+basic+bind+body+chain+claim+comp+cond+each+ends+expr+field+func+index+init+inside+item+link+load+local+member+name+obj+param+params+pat+rest+rhs+safe+sign+slice+spec+specs+step+value.{statement}
 use Rattle.phrases.proofs.+arg+args+array+assert+basic+bind+body+chain+claim+comp+cond+each+ends+expr+field+func+index+init+inside+item+link+load+local+member+name+obj+param+params+pat+rest+rhs+safe+sign+slice+spec+specs+step+value.Tie.{close}
 use Rattle.phrases.proofs.arg.Reads as arg
@@ -205,7 +206,7 @@ pub +arg+args+array+assert+basic+bind+body+chain+claim+comp+cond+each+ends+expr+
     (λ t. chain-lts.spec (chain-claims t) (chain-at t) chain.Post Chain.Inv-loop Chain.μ-loop (Chain.basic-requires t) (Chain.enum-known-a t) (Chain.enum-told t) (Chain.same-length t) (Chain.returns t) (Chain.loop-holds t) (Chain.suffix-at-requires t) (Chain.same-length-2 t) (Chain.returns-2 t) (Chain.link-requires t) (Chain.enum-known-b t) (Chain.enum-told-2 t) (Chain.same-length-3 t) (Chain.returns-3 t) (Chain.loop-less t) (Chain.loop-again t))
     (λ t. claim-lts.spec (claim-claims t) (claim-at t) claim.Post (Claim.assert-requires t) (Claim.enum-known-a t) (Claim.enum-told t) (Claim.same-length t) (Claim.returns t) (Claim.eat-requires t) (Claim.enum-known-b t) (Claim.enum-told-2 t) (Claim.same-length-2 t) (Claim.returns-2 t) (Claim.expr-requires t) (Claim.enum-known-d t) (Claim.enum-told-3 t) (Claim.same-length-3 t) (Claim.returns-3 t) (Claim.put-none-requires t) (Claim.same-length-4 t) (Claim.returns-4 t))
     (λ t. comp-lts.spec (comp-claims t) (comp-at t) comp.Post (Comp.specs-requires t) (Comp.enum-known-a t) (Comp.enum-told t) (Comp.same-length t) (Comp.returns t) (Comp.cast-error t) (Comp.error-requires t) (Comp.same-length-2 t) (Comp.returns-2 t) (Comp.put-counts-requires t) (Comp.same-length-3 t) (Comp.returns-3 t))
-    (λ t. cond-lts.spec (cond-claims t) (cond-at t) cond.Post (Cond.eat-any-requires t) (Cond.expr-requires t) (Cond.enum-known-a t) (Cond.enum-told t) (Cond.same-length t) (Cond.returns t) (Cond.eat-requires t) (Cond.enum-known-b t) (Cond.enum-told-2 t) (Cond.same-length-2 t) (Cond.returns-2 t) (Cond.expr-requires-2 t) (Cond.enum-known-d t) (Cond.enum-told-3 t) (Cond.same-length-3 t) (Cond.returns-3 t) (Cond.put-marked-requires t) (Cond.same-length-4 t) (Cond.returns-4 t) (Cond.eat-any-requires-2 t) (Cond.expr-requires-3 t) (Cond.enum-known-e t) (Cond.enum-told-4 t) (Cond.same-length-5 t) (Cond.returns-5 t) (Cond.put-marked-requires-2 t) (Cond.same-length-6 t) (Cond.returns-6 t))
+    (λ t. cond-lts.spec (cond-claims t) (cond-at t) cond.Post (Cond.eat-any-requires t) (Cond.expr-requires t) (λ c. search needs) (λ c. search needs) (λ c. search needs) (Cond.returns t) (Cond.eat-requires t) (λ c. search needs) (λ c. search needs) (λ c. search needs) (Cond.returns-2 t) (Cond.expr-requires-2 t) (λ c. search needs) (λ c. search needs) (λ c. search needs) (Cond.returns-3 t) (Cond.put-marked-requires t) (Cond.same-length-4 t) (Cond.returns-4 t) (Cond.eat-any-requires-2 t) (Cond.expr-requires-3 t) (λ c. search needs) (λ c. search needs) (Cond.same-length-5 t) (Cond.returns-5 t) (Cond.put-marked-requires-2 t) (Cond.same-length-6 t) (Cond.returns-6 t))
     (λ t. each-lts.spec (each-claims t) (each-at t) each.Post (Each.error-requires t) (Each.returns t) (Each.eat-any-requires t) (Each.eat-any-requires-2 t) (Each.eat-any-requires-3 t) (Each.eat-any-requires-4 t) (Each.visibility-requires t) (Each.pat-requires t) (Each.enum-known-a t) (Each.enum-told t) (Each.same-length t) (Each.returns-2 t) (Each.eat-requires t) (Each.enum-known-b t) (Each.enum-told-2 t) (Each.same-length-2 t) (Each.returns-3 t) (Each.expr-requires t) (Each.enum-known-d t) (Each.enum-told-3 t) (Each.same-length-3 t) (Each.returns-4 t) (Each.sub-put-iteration t) (Each.part-put-iteration-start t) (Each.part-put-iteration-end t) (Each.put-iteration-requires t) (Each.same-length-4 t) (Each.returns-5 t))
     (λ t. ends-lts.spec (ends-claims t) (ends-at t) ends.Post Ends.Inv-loop Ends.μ-loop (Ends.loop-holds t) (Ends.array-pattern-close-requires t) (Ends.same-length t) (Ends.returns t) (Ends.eat-any-requires t) (Ends.array-pattern-close-requires-2 t) (Ends.same-length-2 t) (Ends.returns-2 t) (Ends.pat-requires t) (Ends.enum-known-a t) (Ends.enum-told t) (Ends.same-length-3 t) (Ends.returns-3 t) (Ends.add-m t) (Ends.loop-less t) (Ends.loop-again t))
     (λ t. expr-lts.spec (expr-claims t) (expr-at t) expr.Post Expr.Inv-loop Expr.μ-loop (Expr.error-requires t) (Expr.returns t) (Expr.sub-sign t) (Expr.sign-requires t) (Expr.enum-known-a t) (Expr.enum-told t) (Expr.same-length t) (Expr.returns-2 t) (Expr.loop-holds t) (Expr.infix-requires t) (Expr.enum-known-b t) (Expr.enum-told-2 t) (Expr.same-length-2 t) (Expr.returns-3 t) (Expr.same-length-3 t) (Expr.returns-4 t) (Expr.eat-any-requires t) (Expr.sub-expr t) (Expr.expr-requires t) (Expr.enum-known-d t) (Expr.enum-told-3 t) (Expr.same-length-4 t) (Expr.returns-5 t) (Expr.put-flag-requires t) (Expr.loop-less t) (Expr.loop-again t))
@@ -222,7 +223,7 @@ pub +arg+args+array+assert+basic+bind+body+chain+claim+comp+cond+each+ends+expr+
     (λ t. name-lts.spec (name-claims t) (name-at t) name.Post (Name.fixed-name-requires t) (Name.same-length t) (Name.returns t) (Name.eat-any-requires t) (Name.expr-requires t) (Name.enum-known-a t) (Name.enum-told t) (Name.same-length-2 t) (Name.returns-2 t) (Name.eat-requires t) (Name.enum-known-b t) (Name.enum-told-2 t) (Name.same-length-3 t) (Name.returns-3 t) (Name.same-length-4 t) (Name.returns-4 t))
     (λ t. obj-lts.spec (obj-claims t) (obj-at t) obj.Post Obj.Inv-loop Obj.μ-loop (Obj.loop-holds t) (Obj.object-pattern-close-requires t) (Obj.same-length t) (Obj.returns t) (Obj.eat-any-requires t) (Obj.object-rest-requires t) (Obj.same-length-2 t) (Obj.returns-2 t) (Obj.item-requires t) (Obj.enum-known-a t) (Obj.enum-told t) (Obj.same-length-3 t) (Obj.returns-3 t) (Obj.add-n t) (Obj.object-pattern-close-requires-2 t) (Obj.same-length-4 t) (Obj.returns-4 t) (Obj.eat-any-requires-2 t) (Obj.loop-less t) (Obj.loop-again t))
     (λ t. param-lts.spec (param-claims t) (param-at t) param.Post (Param.pat-requires t) (Param.enum-known-a t) (Param.enum-told t) (Param.same-length t) (Param.returns t) (Param.put-flag-requires t) (Param.same-length-2 t) (Param.returns-2 t) (Param.eat-any-requires t) (Param.expr-requires t) (Param.enum-known-b t) (Param.enum-told-2 t) (Param.same-length-3 t) (Param.returns-3 t) (Param.put-flag-requires-2 t) (Param.same-length-4 t) (Param.returns-4 t))
-    (λ t. params-lts.spec (params-claims t) (params-at t) params.Post Params.Inv-loop Params.μ-loop (Params.loop-holds t) (Params.same-length t) (Params.returns t) (Params.param-requires t) (Params.enum-known-a t) (Params.enum-told t) (Params.same-length-2 t) (Params.returns-2 t) (Params.add-n t) (Params.same-length-3 t) (Params.returns-3 t) (Params.eat-any-requires t) (Params.loop-less t) (Params.loop-again t))
+    (λ t. params-lts.spec (params-claims t) (params-at t) params.Post Params.Inv-loop Params.μ-loop (Params.loop-holds t) (λ c. search needs) (Params.returns t) (Params.param-requires t) (λ c. search needs) (λ c. search needs) (λ c. search needs) (Params.returns-2 t) (Params.add-n t) (λ c. search needs) (Params.returns-3 t) (Params.eat-any-requires t) (Params.loop-less t) (Params.loop-again t))
     (λ t. pat-lts.spec (pat-claims t) (pat-at t) pat.Post Pat.Inv-loop Pat.μ-loop (Pat.pattern-atom-requires t) (Pat.same-length t) (Pat.returns t) (Pat.error-requires t) (Pat.returns-2 t) (Pat.error-requires-2 t) (Pat.returns-3 t) (Pat.eat-any-requires t) (Pat.sub-obj t) (Pat.obj-requires t) (Pat.same-length-2 t) (Pat.returns-4 t) (Pat.loop-holds t) (Pat.array-pattern-close-requires t) (Pat.same-length-3 t) (Pat.returns-5 t) (Pat.eat-any-requires-2 t) (Pat.sub-rest t) (Pat.rest-requires t) (Pat.same-length-4 t) (Pat.returns-6 t) (Pat.sub-pat t) (Pat.pat-requires t) (Pat.enum-known-a t) (Pat.enum-told t) (Pat.same-length-5 t) (Pat.returns-7 t) (Pat.add-n t) (Pat.array-pattern-close-requires-2 t) (Pat.same-length-6 t) (Pat.returns-8 t) (Pat.eat-any-requires-3 t) (Pat.loop-less t) (Pat.loop-again t))
     (λ t. rest-lts.spec (rest-claims t) (rest-at t) rest.Post (Rest.eat-any-requires t) (Rest.ends-requires t) (Rest.same-length t) (Rest.returns t) (Rest.ends-requires-2 t) (Rest.same-length-2 t) (Rest.returns-2 t))
     (λ t. rhs-lts.spec (rhs-claims t) (rhs-at t) rhs.Post (Rhs.eat-requires t) (Rhs.enum-known-a t) (Rhs.enum-told t) (Rhs.returns t) (Rhs.expr-requires t) (Rhs.enum-known-b t) (Rhs.enum-told-2 t) (Rhs.same-length t) (Rhs.returns-2 t) (Rhs.put-bind-requires t) (Rhs.same-length-2 t) (Rhs.returns-3 t))

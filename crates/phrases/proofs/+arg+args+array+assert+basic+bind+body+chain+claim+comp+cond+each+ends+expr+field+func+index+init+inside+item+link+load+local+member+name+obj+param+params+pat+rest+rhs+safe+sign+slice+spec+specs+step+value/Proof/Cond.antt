@@ -1,401 +1,142 @@
--- The answers of `cond`.
-use borrow.Author.Needs.{needs}
+-- The answers of `cond`: the stretch from its start to each place of its code, and from these what each call asks and each return owes.
 use native.Mathlib.Omega.{arith}
 use lib.Dec.{lit<, lit≤}
-use lib.ListN.{length}
-use mathlib.Core.Path.{_≡_, refl, sym, ap, subst, _∙_}
-use mathlib.Core.Logic.{⊎-elim}
-use mathlib.Core.List.{[], _∷_}
-use Prim.Native.Nat.{ℕ, _+_, _*_, _-_, _≤_, _<_}
+use mathlib.Core.Path.{refl}
+use mathlib.Core.List.{List, [], _∷_}
+use Prim.Native.Nat.{ℕ}
 use Rattle.phrases.proofs.Steps
 use Rattle.phrases.proofs.cond.Reads.{Post}
 use Rattle.phrases.proofs.+arg+args+array+assert+basic+bind+body+chain+claim+comp+cond+each+ends+expr+field+func+index+init+inside+item+link+load+local+member+name+obj+param+params+pat+rest+rhs+safe+sign+slice+spec+specs+step+value.Lts-cond as lts
 use Rattle.phrases.proofs.+arg+args+array+assert+basic+bind+body+chain+claim+comp+cond+each+ends+expr+field+func+index+init+inside+item+link+load+local+member+name+obj+param+params+pat+rest+rhs+safe+sign+slice+spec+specs+step+value.Proof.Frame.{cond-claims as K, cond-at as P}
 use Rattle.grammar.specs.Image.{entry, payload}
 use Rattle.grammar.specs.Trees.{byte, span}
-use Rattle.grammar.specs.Productions.{goto, end, eat, close, _▸_, expression, basic, else-part}
+use Rattle.grammar.specs.Productions.{Body, goto, end, eat, close, _▸_, expression, basic, else-part}
+use Rattle.phrases.specs.Meets.{state, Seg}
+use Rattle.phrases.specs.declared.Cursor.{Cursor}
 use Rattle.phrases.proofs.LeafLaws.{within}
 use Rattle.phrases.proofs.KeywordLaws.{ifs-on, else-on, no-else}
 
-pub eat-any-requires : (t : ℕ) → lts.Need-eat-any-requires (K t) (P t) Post
-eat-any-requires t c κs =
-    let pre′ = c .before .before .before .pre in
-    let st = pre′ .1 .0 .stands in
-    st
+module _ (t : ℕ) where
+  -- a stretch from the start, of which e bytes are taken, to a body with n trees
+  abbrev So : lts.Start (K t) (P t) Post → ℕ → Body → ℕ → Cursor → ℕ → List ℕ → Type 0
+  So a e b n c w o = Seg (a .args .set) (a .args .src .now) (a .args .left) (state (goto basic) 0 (a .args .c) (a .args .w) (a .args .out .now)) e 0 (state b n c w o)
 
-pub expr-requires : (t : ℕ) → lts.Need-expr-requires (K t) (P t) Post
-expr-requires t c κs =
-    let pre′ = c .before .before .before .before .pre in
-    let st = pre′ .1 .0 .stands in
-    let eat-any′ = c .eat-any in
-    let args′ = c .before .before .before .before .args in
-    let from = args′ .c .start in
-    let to = args′ .c .end in
-    let g = args′ .set in
-    let s = args′ .src .now in
-    let begin = Steps.known (eat 71 ▸ expression ▸ eat 72 ▸ expression ▸ goto (else-part from to)) st (pre′ .1 .1) (λ xs t. ifs-on g (args′ .c) xs 0 t) (Steps.at g s (args′ .left) (goto basic) 0 (args′ .c) (args′ .w) (args′ .out .now)) in
-    let opened = Steps.taken (lit< tt) st (eat-any′ .ensures) (pre′ .1 .1) begin in
-    (omega (arith, pre′ .0), Steps.ready (pre′ .1 .0) (lit≤ tt) opened)
+  -- what comes after the second expression
+  abbrev tail : lts.Start (K t) (P t) Post → Body
+  tail a = goto (else-part (a .args .c .start) (a .args .c .end))
 
-pub enum-known-a : (t : ℕ) → lts.Need-enum-known-a (K t) (P t) Post
-enum-known-a t c =
-    search needs
+  -- ── `if` e `then` e ─────────────────────────────────────────────────────────────────────────────
 
-pub enum-told : (t : ℕ) → lts.Need-enum-told (K t) (P t) Post
-enum-told t c =
-    search needs
+  abbrev a₀ : lts.After-eat-any (K t) (P t) Post → lts.Start (K t) (P t) Post
+  a₀ c = c .before .before .before .before
 
-pub same-length : (t : ℕ) → lts.Need-same-length (K t) (P t) Post
-same-length t c =
-    search needs
+  opened : (c : lts.After-eat-any (K t) (P t) Post) → So (a₀ c) 1 (expression ▸ eat 72 ▸ expression ▸ tail (a₀ c)) 0 (c .eat-any .result) (a₀ c .args .w) (a₀ c .args .out .now)
+  opened c =
+      let a = a₀ c in
+      let st = a .pre .1 .0 .stands in
+      Steps.taken (lit< tt) st (c .eat-any .ensures) (a .pre .1 .1)
+      (Steps.known (eat 71 ▸ expression ▸ eat 72 ▸ expression ▸ tail a) st (a .pre .1 .1) (λ xs t. ifs-on (a .args .set) (a .args .c) xs 0 t) Steps.here)
 
-pub returns : (t : ℕ) → lts.Need-returns (K t) (P t) Post
-returns t c =
-    let expr′ = c .before .before .before .before .expr in
-    let match′ = c .before .match in
-    let pre′ = c .before .before .before .before .before .before .before .before .before .pre in
-    let st = pre′ .1 .0 .stands in
-    let eat-any′ = c .before .before .before .before .before .eat-any in
-    let args′ = c .before .before .before .before .before .before .before .before .before .args in
-    let from = args′ .c .start in
-    let to = args′ .c .end in
-    let g = args′ .set in
-    let s = args′ .src .now in
-    let begin = Steps.known (eat 71 ▸ expression ▸ eat 72 ▸ expression ▸ goto (else-part from to)) st (pre′ .1 .1) (λ xs t. ifs-on g (args′ .c) xs 0 t) (Steps.at g s (args′ .left) (goto basic) 0 (args′ .c) (args′ .w) (args′ .out .now)) in
-    let opened = Steps.taken (lit< tt) st (eat-any′ .ensures) (pre′ .1 .1) begin in
-    Steps.passed (Steps.takes-broken (expr′ .ensures) (match′ .keys2)) opened
+  abbrev c₁ : lts.After-a (K t) (P t) Post → lts.After-eat-any (K t) (P t) Post
+  c₁ c = c .before .before .before .before .before
 
-pub eat-requires : (t : ℕ) → lts.Need-eat-requires (K t) (P t) Post
-eat-requires t c κs =
-    let expr′ = c .before .before .before .before .before .expr in
-    let a′ = c .before .a in
-    let pre′ = c .before .before .before .before .before .before .before .before .before .before .pre in
-    let st = pre′ .1 .0 .stands in
-    let eat-any′ = c .before .before .before .before .before .before .eat-any in
-    let args′ = c .before .before .before .before .before .before .before .before .before .before .args in
-    let from = args′ .c .start in
-    let to = args′ .c .end in
-    let g = args′ .set in
-    let s = args′ .src .now in
-    let begin = Steps.known (eat 71 ▸ expression ▸ eat 72 ▸ expression ▸ goto (else-part from to)) st (pre′ .1 .1) (λ xs t. ifs-on g (args′ .c) xs 0 t) (Steps.at g s (args′ .left) (goto basic) 0 (args′ .c) (args′ .w) (args′ .out .now)) in
-    let opened = Steps.taken (lit< tt) st (eat-any′ .ensures) (pre′ .1 .1) begin in
-    let judged = Steps.took (expr′ .ensures) (a′ .given .1) opened in
-    let st1 = judged .stands st in
-    (lit< tt, st1)
+  judged : (c : lts.After-a (K t) (P t) Post) → So (a₀ (c₁ c)) 1 (eat 72 ▸ expression ▸ tail (a₀ (c₁ c))) 1 (c .a .given .0 .0) (c .a .given .0 .1 .0) (c .before .before .before .before .expr .last .1 .0)
+  judged c = Steps.took (c .before .before .before .before .expr .ensures) (c .a .given .1) (opened (c₁ c))
 
-pub enum-known-b : (t : ℕ) → lts.Need-enum-known-b (K t) (P t) Post
-enum-known-b t c =
-    search needs
+  abbrev c₂ : lts.After-b (K t) (P t) Post → lts.After-a (K t) (P t) Post
+  c₂ c = c .before .before .before .before
 
-pub enum-told-2 : (t : ℕ) → lts.Need-enum-told-2 (K t) (P t) Post
-enum-told-2 t c =
-    search needs
+  thened : (c : lts.After-b (K t) (P t) Post) → So (a₀ (c₁ (c₂ c))) 2 (expression ▸ tail (a₀ (c₁ (c₂ c)))) 1 (c .b .given .0 .0) (c .b .given .0 .1 .0) (c₂ c .before .before .before .before .expr .last .1 .0)
+  thened c = Steps.ate (c .before .before .eat .ensures) (c .b .given .1) (judged (c₂ c))
 
-pub same-length-2 : (t : ℕ) → lts.Need-same-length-2 (K t) (P t) Post
-same-length-2 t c =
-    search needs
+  abbrev c₃ : lts.After-d (K t) (P t) Post → lts.After-b (K t) (P t) Post
+  c₃ c = c .before .before .before .before .before .before .before
 
-pub returns-2 : (t : ℕ) → lts.Need-returns-2 (K t) (P t) Post
-returns-2 t c =
-    let eat′ = c .before .before .eat in
-    let match2′ = c .before .match2 in
-    let expr′ = c .before .before .before .before .before .before .before .before .expr in
-    let a′ = c .before .before .before .before .a in
-    let pre′ = c .before .before .before .before .before .before .before .before .before .before .before .before .before .pre in
-    let st = pre′ .1 .0 .stands in
-    let eat-any′ = c .before .before .before .before .before .before .before .before .before .eat-any in
-    let args′ = c .before .before .before .before .before .before .before .before .before .before .before .before .before .args in
-    let from = args′ .c .start in
-    let to = args′ .c .end in
-    let g = args′ .set in
-    let s = args′ .src .now in
-    let begin = Steps.known (eat 71 ▸ expression ▸ eat 72 ▸ expression ▸ goto (else-part from to)) st (pre′ .1 .1) (λ xs t. ifs-on g (args′ .c) xs 0 t) (Steps.at g s (args′ .left) (goto basic) 0 (args′ .c) (args′ .w) (args′ .out .now)) in
-    let opened = Steps.taken (lit< tt) st (eat-any′ .ensures) (pre′ .1 .1) begin in
-    let judged = Steps.took (expr′ .ensures) (a′ .given .1) opened in
-    Steps.passed (Steps.eats-broken (eat′ .ensures) (match2′ .keys2)) judged
+  abbrev a₃ : lts.After-d (K t) (P t) Post → lts.Start (K t) (P t) Post
+  a₃ c = a₀ (c₁ (c₂ (c₃ c)))
 
-pub expr-requires-2 : (t : ℕ) → lts.Need-expr-requires-2 (K t) (P t) Post
-expr-requires-2 t c κs =
-    let pre′ = c .before .before .before .before .before .before .before .before .before .before .before .before .before .before .before .pre in
-    let eat′ = c .before .before .before .before .eat in
-    let b′ = c .before .before .b in
-    let expr′ = c .before .before .before .before .before .before .before .before .before .before .expr in
-    let a′ = c .before .before .before .before .before .before .a in
-    let st = pre′ .1 .0 .stands in
-    let eat-any′ = c .before .before .before .before .before .before .before .before .before .before .before .eat-any in
-    let args′ = c .before .before .before .before .before .before .before .before .before .before .before .before .before .before .before .args in
-    let from = args′ .c .start in
-    let to = args′ .c .end in
-    let g = args′ .set in
-    let s = args′ .src .now in
-    let begin = Steps.known (eat 71 ▸ expression ▸ eat 72 ▸ expression ▸ goto (else-part from to)) st (pre′ .1 .1) (λ xs t. ifs-on g (args′ .c) xs 0 t) (Steps.at g s (args′ .left) (goto basic) 0 (args′ .c) (args′ .w) (args′ .out .now)) in
-    let opened = Steps.taken (lit< tt) st (eat-any′ .ensures) (pre′ .1 .1) begin in
-    let judged = Steps.took (expr′ .ensures) (a′ .given .1) opened in
-    let then1 = Steps.ate (eat′ .ensures) (b′ .given .1) judged in
-    (omega (arith, pre′ .0), Steps.ready (pre′ .1 .0) (lit≤ tt) then1)
+  chosen : (c : lts.After-d (K t) (P t) Post) → So (a₃ c) 2 (tail (a₃ c)) 2 (c .d .given .0 .0) (c .d .given .0 .1 .0) (c .before .before .before .before .expr2 .last .1 .0)
+  chosen c = Steps.took (c .before .before .before .before .expr2 .ensures) (c .d .given .1) (thened (c₃ c))
 
-pub enum-known-d : (t : ℕ) → lts.Need-enum-known-d (K t) (P t) Post
-enum-known-d t c =
-    search needs
+  -- ── `else` e ────────────────────────────────────────────────────────────────────────────────────
 
-pub enum-told-3 : (t : ℕ) → lts.Need-enum-told-3 (K t) (P t) Post
-enum-told-3 t c =
-    search needs
+  abbrev c₄ : lts.After-eat-any2 (K t) (P t) Post → lts.After-d (K t) (P t) Post
+  c₄ c = c .before .before .before .before .before
 
-pub same-length-3 : (t : ℕ) → lts.Need-same-length-3 (K t) (P t) Post
-same-length-3 t c =
-    search needs
+  past : (c : lts.After-eat-any2 (K t) (P t) Post) → So (a₃ (c₄ c)) 3 (expression ▸ close 22 (span (a₃ (c₄ c) .args .c .start) (a₃ (c₄ c) .args .c .end) ∷ byte 1 ∷ []) ▸ end) 2 (c .eat-any2 .result) (c₄ c .d .given .0 .1 .0) (c₄ c .before .before .before .before .expr2 .last .1 .0)
+  past c =
+      let a = a₃ (c₄ c) in
+      let here = chosen (c₄ c) in
+      let st = here .stands (a .pre .1 .0 .stands) in
+      let at-else = c .before .before .if1 .left in
+      Steps.taken (lit< tt) st (c .eat-any2 .ensures) at-else
+      (Steps.known (eat 73 ▸ expression ▸ close 22 (span (a .args .c .start) (a .args .c .end) ∷ byte 1 ∷ []) ▸ end) st at-else (λ xs t. else-on (a .args .set) (c₄ c .d .given .0 .0) xs 2 (a .args .c .start) (a .args .c .end) t) here)
 
-pub returns-3 : (t : ℕ) → lts.Need-returns-3 (K t) (P t) Post
-returns-3 t c =
-    let expr2′ = c .before .before .before .before .expr2 in
-    let match3′ = c .before .match3 in
-    let eat′ = c .before .before .before .before .before .before .before .before .before .eat in
-    let b′ = c .before .before .before .before .before .before .before .b in
-    let expr′ = c .before .before .before .before .before .before .before .before .before .before .before .before .before .before .before .expr in
-    let a′ = c .before .before .before .before .before .before .before .before .before .before .before .a in
-    let pre′ = c .before .before .before .before .before .before .before .before .before .before .before .before .before .before .before .before .before .before .before .before .pre in
-    let st = pre′ .1 .0 .stands in
-    let eat-any′ = c .before .before .before .before .before .before .before .before .before .before .before .before .before .before .before .before .eat-any in
-    let args′ = c .before .before .before .before .before .before .before .before .before .before .before .before .before .before .before .before .before .before .before .before .args in
-    let from = args′ .c .start in
-    let to = args′ .c .end in
-    let g = args′ .set in
-    let s = args′ .src .now in
-    let begin = Steps.known (eat 71 ▸ expression ▸ eat 72 ▸ expression ▸ goto (else-part from to)) st (pre′ .1 .1) (λ xs t. ifs-on g (args′ .c) xs 0 t) (Steps.at g s (args′ .left) (goto basic) 0 (args′ .c) (args′ .w) (args′ .out .now)) in
-    let opened = Steps.taken (lit< tt) st (eat-any′ .ensures) (pre′ .1 .1) begin in
-    let judged = Steps.took (expr′ .ensures) (a′ .given .1) opened in
-    let then1 = Steps.ate (eat′ .ensures) (b′ .given .1) judged in
-    Steps.passed (Steps.takes-broken (expr2′ .ensures) (match3′ .keys2)) then1
+  abbrev c₅ : lts.After-e (K t) (P t) Post → lts.After-eat-any2 (K t) (P t) Post
+  c₅ c = c .before .before .before .before .before
 
-pub put-marked-requires : (t : ℕ) → lts.Need-put-marked-requires (K t) (P t) Post
-put-marked-requires t c κs =
-    let pre′ = c .before .before .before .before .before .before .before .before .before .before .before .before .before .before .before .before .before .before .before .before .before .before .before .before .pre in
-    let expr2′ = c .before .before .before .before .before .before .before .before .expr2 in
-    let d′ = c .before .before .before .before .d in
-    let eat′ = c .before .before .before .before .before .before .before .before .before .before .before .before .before .eat in
-    let b′ = c .before .before .before .before .before .before .before .before .before .before .before .b in
-    let expr′ = c .before .before .before .before .before .before .before .before .before .before .before .before .before .before .before .before .before .before .before .expr in
-    let a′ = c .before .before .before .before .before .before .before .before .before .before .before .before .before .before .before .a in
-    let st = pre′ .1 .0 .stands in
-    let eat-any′ = c .before .before .before .before .before .before .before .before .before .before .before .before .before .before .before .before .before .before .before .before .eat-any in
-    let args′ = c .before .before .before .before .before .before .before .before .before .before .before .before .before .before .before .before .before .before .before .before .before .before .before .before .args in
-    let from = args′ .c .start in
-    let to = args′ .c .end in
-    let g = args′ .set in
-    let s = args′ .src .now in
-    let begin = Steps.known (eat 71 ▸ expression ▸ eat 72 ▸ expression ▸ goto (else-part from to)) st (pre′ .1 .1) (λ xs t. ifs-on g (args′ .c) xs 0 t) (Steps.at g s (args′ .left) (goto basic) 0 (args′ .c) (args′ .w) (args′ .out .now)) in
-    let opened = Steps.taken (lit< tt) st (eat-any′ .ensures) (pre′ .1 .1) begin in
-    let judged = Steps.took (expr′ .ensures) (a′ .given .1) opened in
-    let then1 = Steps.ate (eat′ .ensures) (b′ .given .1) judged in
-    let chosen = Steps.took (expr2′ .ensures) (d′ .given .1) then1 in
-    (Steps.fits (pre′ .1 .0) (lit≤ tt) chosen, within (pre′ .1 .0) .0, within (pre′ .1 .0) .1)
+  value : (c : lts.After-e (K t) (P t) Post) → So (a₃ (c₄ (c₅ c))) 3 (close 22 (span (a₃ (c₄ (c₅ c)) .args .c .start) (a₃ (c₄ (c₅ c)) .args .c .end) ∷ byte 1 ∷ []) ▸ end) 3 (c .e .given .0 .0) (c .e .given .0 .1 .0) (c .before .before .before .before .expr3 .last .1 .0)
+  value c = Steps.took (c .before .before .before .before .expr3 .ensures) (c .e .given .1) (past (c₅ c))
 
-pub same-length-4 : (t : ℕ) → lts.Need-same-length-4 (K t) (P t) Post
-same-length-4 t c =
-    let expr′ = c .before .before .before .before .before .before .before .before .before .before .before .before .before .before .before .before .before .before .before .before .before .before .expr in
-    let expr2′ = c .before .before .before .before .before .before .before .before .before .before .before .expr2 in
-    let put-marked′ = c .before .before .put-marked in
-    omega (arith, expr′ .kept, expr2′ .kept, put-marked′ .kept)
+  -- ── What each call asks ─────────────────────────────────────────────────────────────────────────
 
-pub returns-4 : (t : ℕ) → lts.Need-returns-4 (K t) (P t) Post
-unfolding entry payload
-returns-4 t c =
-    let put-marked′ = c .before .before .put-marked in
-    let args′ = c .before .before .before .before .before .before .before .before .before .before .before .before .before .before .before .before .before .before .before .before .before .before .before .before .before .before .before .args in
-    let from = args′ .c .start in
-    let to = args′ .c .end in
-    let expr2′ = c .before .before .before .before .before .before .before .before .before .before .before .expr2 in
-    let d′ = c .before .before .before .before .before .before .before .d in
-    let eat′ = c .before .before .before .before .before .before .before .before .before .before .before .before .before .before .before .before .eat in
-    let b′ = c .before .before .before .before .before .before .before .before .before .before .before .before .before .before .b in
-    let expr′ = c .before .before .before .before .before .before .before .before .before .before .before .before .before .before .before .before .before .before .before .before .before .before .expr in
-    let a′ = c .before .before .before .before .before .before .before .before .before .before .before .before .before .before .before .before .before .before .a in
-    let pre′ = c .before .before .before .before .before .before .before .before .before .before .before .before .before .before .before .before .before .before .before .before .before .before .before .before .before .before .before .pre in
-    let st = pre′ .1 .0 .stands in
-    let eat-any′ = c .before .before .before .before .before .before .before .before .before .before .before .before .before .before .before .before .before .before .before .before .before .before .before .eat-any in
-    let g = args′ .set in
-    let s = args′ .src .now in
-    let begin = Steps.known (eat 71 ▸ expression ▸ eat 72 ▸ expression ▸ goto (else-part from to)) st (pre′ .1 .1) (λ xs t. ifs-on g (args′ .c) xs 0 t) (Steps.at g s (args′ .left) (goto basic) 0 (args′ .c) (args′ .w) (args′ .out .now)) in
-    let opened = Steps.taken (lit< tt) st (eat-any′ .ensures) (pre′ .1 .1) begin in
-    let judged = Steps.took (expr′ .ensures) (a′ .given .1) opened in
-    let then1 = Steps.ate (eat′ .ensures) (b′ .given .1) judged in
-    let chosen = Steps.took (expr2′ .ensures) (d′ .given .1) then1 in
-    let st3 = chosen .stands st in
-    let c3 = d′ .given .0 .0 in
-    let if1′ = c .before .before .before .before .if1 in
-    let bare = Steps.known (close 22 (span from to ∷ byte 0 ∷ []) ▸ end) st3 refl (λ xs t. no-else g c3 xs 2 from to (c3 .kind) t (if1′ .taken)) chosen in
-    Steps.ends (lit≤ tt) (Steps.closed 8 (lit≤ tt) (put-marked′ .ensures) bare)
+  pub eat-any-requires : lts.Need-eat-any-requires (K t) (P t) Post
+  eat-any-requires c κs = c .before .before .before .pre .1 .0 .stands
 
-pub eat-any-requires-2 : (t : ℕ) → lts.Need-eat-any-requires-2 (K t) (P t) Post
-eat-any-requires-2 t c κs =
-    let expr2′ = c .before .before .before .before .before .before .before .before .expr2 in
-    let d′ = c .before .before .before .before .d in
-    let eat′ = c .before .before .before .before .before .before .before .before .before .before .before .before .before .eat in
-    let b′ = c .before .before .before .before .before .before .before .before .before .before .before .b in
-    let expr′ = c .before .before .before .before .before .before .before .before .before .before .before .before .before .before .before .before .before .before .before .expr in
-    let a′ = c .before .before .before .before .before .before .before .before .before .before .before .before .before .before .before .a in
-    let pre′ = c .before .before .before .before .before .before .before .before .before .before .before .before .before .before .before .before .before .before .before .before .before .before .before .before .pre in
-    let st = pre′ .1 .0 .stands in
-    let eat-any′ = c .before .before .before .before .before .before .before .before .before .before .before .before .before .before .before .before .before .before .before .before .eat-any in
-    let args′ = c .before .before .before .before .before .before .before .before .before .before .before .before .before .before .before .before .before .before .before .before .before .before .before .before .args in
-    let from = args′ .c .start in
-    let to = args′ .c .end in
-    let g = args′ .set in
-    let s = args′ .src .now in
-    let begin = Steps.known (eat 71 ▸ expression ▸ eat 72 ▸ expression ▸ goto (else-part from to)) st (pre′ .1 .1) (λ xs t. ifs-on g (args′ .c) xs 0 t) (Steps.at g s (args′ .left) (goto basic) 0 (args′ .c) (args′ .w) (args′ .out .now)) in
-    let opened = Steps.taken (lit< tt) st (eat-any′ .ensures) (pre′ .1 .1) begin in
-    let judged = Steps.took (expr′ .ensures) (a′ .given .1) opened in
-    let then1 = Steps.ate (eat′ .ensures) (b′ .given .1) judged in
-    let chosen = Steps.took (expr2′ .ensures) (d′ .given .1) then1 in
-    let st3 = chosen .stands st in
-    st3
+  pub expr-requires : lts.Need-expr-requires (K t) (P t) Post
+  expr-requires c κs = let p = a₀ c .pre in (omega (arith, p .0), Steps.ready (p .1 .0) (lit≤ tt) (opened c))
 
-pub expr-requires-3 : (t : ℕ) → lts.Need-expr-requires-3 (K t) (P t) Post
-expr-requires-3 t c κs =
-    let pre′ = c .before .before .before .before .before .before .before .before .before .before .before .before .before .before .before .before .before .before .before .before .before .before .before .before .before .pre in
-    let expr2′ = c .before .before .before .before .before .before .before .before .before .expr2 in
-    let d′ = c .before .before .before .before .before .d in
-    let eat′ = c .before .before .before .before .before .before .before .before .before .before .before .before .before .before .eat in
-    let b′ = c .before .before .before .before .before .before .before .before .before .before .before .before .b in
-    let expr′ = c .before .before .before .before .before .before .before .before .before .before .before .before .before .before .before .before .before .before .before .before .expr in
-    let a′ = c .before .before .before .before .before .before .before .before .before .before .before .before .before .before .before .before .a in
-    let st = pre′ .1 .0 .stands in
-    let eat-any′ = c .before .before .before .before .before .before .before .before .before .before .before .before .before .before .before .before .before .before .before .before .before .eat-any in
-    let args′ = c .before .before .before .before .before .before .before .before .before .before .before .before .before .before .before .before .before .before .before .before .before .before .before .before .before .args in
-    let from = args′ .c .start in
-    let to = args′ .c .end in
-    let g = args′ .set in
-    let s = args′ .src .now in
-    let begin = Steps.known (eat 71 ▸ expression ▸ eat 72 ▸ expression ▸ goto (else-part from to)) st (pre′ .1 .1) (λ xs t. ifs-on g (args′ .c) xs 0 t) (Steps.at g s (args′ .left) (goto basic) 0 (args′ .c) (args′ .w) (args′ .out .now)) in
-    let opened = Steps.taken (lit< tt) st (eat-any′ .ensures) (pre′ .1 .1) begin in
-    let judged = Steps.took (expr′ .ensures) (a′ .given .1) opened in
-    let then1 = Steps.ate (eat′ .ensures) (b′ .given .1) judged in
-    let chosen = Steps.took (expr2′ .ensures) (d′ .given .1) then1 in
-    let st3 = chosen .stands st in
-    let eat-any2′ = c .eat-any2 in
-    let if1′ = c .before .before .if1 in
-    let c3 = d′ .given .0 .0 in
-    let else1 = Steps.known (eat 73 ▸ expression ▸ close 22 (span from to ∷ byte 1 ∷ []) ▸ end) st3 (if1′ .left) (λ xs t. else-on g c3 xs 2 from to t) chosen in
-    let past = Steps.taken (lit< tt) st3 (eat-any2′ .ensures) (if1′ .left) else1 in
-    (omega (arith, pre′ .0), Steps.ready (pre′ .1 .0) (lit≤ tt) past)
+  pub eat-requires : lts.Need-eat-requires (K t) (P t) Post
+  eat-requires c κs = (lit< tt, judged (c .before) .stands (a₀ (c₁ (c .before)) .pre .1 .0 .stands))
 
-pub enum-known-e : (t : ℕ) → lts.Need-enum-known-e (K t) (P t) Post
-enum-known-e t c =
-    search needs
+  pub expr-requires-2 : lts.Need-expr-requires-2 (K t) (P t) Post
+  expr-requires-2 c κs = let b = c .before .before in let p = a₀ (c₁ (c₂ b)) .pre in (omega (arith, p .0), Steps.ready (p .1 .0) (lit≤ tt) (thened b))
 
-pub enum-told-4 : (t : ℕ) → lts.Need-enum-told-4 (K t) (P t) Post
-enum-told-4 t c =
-    search needs
+  pub put-marked-requires : lts.Need-put-marked-requires (K t) (P t) Post
+  put-marked-requires c κs = let d = c .before .before .before .before in let p = a₃ d .pre .1 .0 in (Steps.fits p (lit≤ tt) (chosen d), within p .0, within p .1)
 
-pub same-length-5 : (t : ℕ) → lts.Need-same-length-5 (K t) (P t) Post
-same-length-5 t c =
-    let expr′ = c .before .before .before .before .before .before .before .before .before .before .before .before .before .before .before .before .before .before .before .before .before .before .before .before .before .expr in
-    let expr2′ = c .before .before .before .before .before .before .before .before .before .before .before .before .before .before .expr2 in
-    let expr3′ = c .before .before .before .before .expr3 in
-    omega (arith, expr′ .kept, expr2′ .kept, expr3′ .kept)
+  pub eat-any-requires-2 : lts.Need-eat-any-requires-2 (K t) (P t) Post
+  eat-any-requires-2 c κs = let d = c .before .before .before .before in chosen d .stands (a₃ d .pre .1 .0 .stands)
 
-pub returns-5 : (t : ℕ) → lts.Need-returns-5 (K t) (P t) Post
-returns-5 t c =
-    let expr3′ = c .before .before .before .before .expr3 in
-    let match4′ = c .before .match4 in
-    let expr2′ = c .before .before .before .before .before .before .before .before .before .before .before .before .before .before .expr2 in
-    let d′ = c .before .before .before .before .before .before .before .before .before .before .d in
-    let eat′ = c .before .before .before .before .before .before .before .before .before .before .before .before .before .before .before .before .before .before .before .eat in
-    let b′ = c .before .before .before .before .before .before .before .before .before .before .before .before .before .before .before .before .before .b in
-    let expr′ = c .before .before .before .before .before .before .before .before .before .before .before .before .before .before .before .before .before .before .before .before .before .before .before .before .before .expr in
-    let a′ = c .before .before .before .before .before .before .before .before .before .before .before .before .before .before .before .before .before .before .before .before .before .a in
-    let pre′ = c .before .before .before .before .before .before .before .before .before .before .before .before .before .before .before .before .before .before .before .before .before .before .before .before .before .before .before .before .before .before .pre in
-    let st = pre′ .1 .0 .stands in
-    let eat-any′ = c .before .before .before .before .before .before .before .before .before .before .before .before .before .before .before .before .before .before .before .before .before .before .before .before .before .before .eat-any in
-    let args′ = c .before .before .before .before .before .before .before .before .before .before .before .before .before .before .before .before .before .before .before .before .before .before .before .before .before .before .before .before .before .before .args in
-    let from = args′ .c .start in
-    let to = args′ .c .end in
-    let g = args′ .set in
-    let s = args′ .src .now in
-    let begin = Steps.known (eat 71 ▸ expression ▸ eat 72 ▸ expression ▸ goto (else-part from to)) st (pre′ .1 .1) (λ xs t. ifs-on g (args′ .c) xs 0 t) (Steps.at g s (args′ .left) (goto basic) 0 (args′ .c) (args′ .w) (args′ .out .now)) in
-    let opened = Steps.taken (lit< tt) st (eat-any′ .ensures) (pre′ .1 .1) begin in
-    let judged = Steps.took (expr′ .ensures) (a′ .given .1) opened in
-    let then1 = Steps.ate (eat′ .ensures) (b′ .given .1) judged in
-    let chosen = Steps.took (expr2′ .ensures) (d′ .given .1) then1 in
-    let st3 = chosen .stands st in
-    let eat-any2′ = c .before .before .before .before .before .eat-any2 in
-    let if1′ = c .before .before .before .before .before .before .before .if1 in
-    let c3 = d′ .given .0 .0 in
-    let else1 = Steps.known (eat 73 ▸ expression ▸ close 22 (span from to ∷ byte 1 ∷ []) ▸ end) st3 (if1′ .left) (λ xs t. else-on g c3 xs 2 from to t) chosen in
-    let past = Steps.taken (lit< tt) st3 (eat-any2′ .ensures) (if1′ .left) else1 in
-    Steps.passed (Steps.takes-broken (expr3′ .ensures) (match4′ .keys2)) past
+  pub expr-requires-3 : lts.Need-expr-requires-3 (K t) (P t) Post
+  expr-requires-3 c κs = let p = a₃ (c₄ c) .pre in (omega (arith, p .0), Steps.ready (p .1 .0) (lit≤ tt) (past c))
 
-pub put-marked-requires-2 : (t : ℕ) → lts.Need-put-marked-requires-2 (K t) (P t) Post
-put-marked-requires-2 t c κs =
-    let pre′ = c .before .before .before .before .before .before .before .before .before .before .before .before .before .before .before .before .before .before .before .before .before .before .before .before .before .before .before .before .before .before .before .before .pre in
-    let expr3′ = c .before .before .before .before .before .before .expr3 in
-    let e′ = c .before .before .e in
-    let expr2′ = c .before .before .before .before .before .before .before .before .before .before .before .before .before .before .before .before .expr2 in
-    let d′ = c .before .before .before .before .before .before .before .before .before .before .before .before .d in
-    let eat′ = c .before .before .before .before .before .before .before .before .before .before .before .before .before .before .before .before .before .before .before .before .before .eat in
-    let b′ = c .before .before .before .before .before .before .before .before .before .before .before .before .before .before .before .before .before .before .before .b in
-    let expr′ = c .before .before .before .before .before .before .before .before .before .before .before .before .before .before .before .before .before .before .before .before .before .before .before .before .before .before .before .expr in
-    let a′ = c .before .before .before .before .before .before .before .before .before .before .before .before .before .before .before .before .before .before .before .before .before .before .before .a in
-    let st = pre′ .1 .0 .stands in
-    let eat-any′ = c .before .before .before .before .before .before .before .before .before .before .before .before .before .before .before .before .before .before .before .before .before .before .before .before .before .before .before .before .eat-any in
-    let args′ = c .before .before .before .before .before .before .before .before .before .before .before .before .before .before .before .before .before .before .before .before .before .before .before .before .before .before .before .before .before .before .before .before .args in
-    let from = args′ .c .start in
-    let to = args′ .c .end in
-    let g = args′ .set in
-    let s = args′ .src .now in
-    let begin = Steps.known (eat 71 ▸ expression ▸ eat 72 ▸ expression ▸ goto (else-part from to)) st (pre′ .1 .1) (λ xs t. ifs-on g (args′ .c) xs 0 t) (Steps.at g s (args′ .left) (goto basic) 0 (args′ .c) (args′ .w) (args′ .out .now)) in
-    let opened = Steps.taken (lit< tt) st (eat-any′ .ensures) (pre′ .1 .1) begin in
-    let judged = Steps.took (expr′ .ensures) (a′ .given .1) opened in
-    let then1 = Steps.ate (eat′ .ensures) (b′ .given .1) judged in
-    let chosen = Steps.took (expr2′ .ensures) (d′ .given .1) then1 in
-    let st3 = chosen .stands st in
-    let eat-any2′ = c .before .before .before .before .before .before .before .eat-any2 in
-    let if1′ = c .before .before .before .before .before .before .before .before .before .if1 in
-    let c3 = d′ .given .0 .0 in
-    let else1 = Steps.known (eat 73 ▸ expression ▸ close 22 (span from to ∷ byte 1 ∷ []) ▸ end) st3 (if1′ .left) (λ xs t. else-on g c3 xs 2 from to t) chosen in
-    let past = Steps.taken (lit< tt) st3 (eat-any2′ .ensures) (if1′ .left) else1 in
-    let value = Steps.took (expr3′ .ensures) (e′ .given .1) past in
-    (Steps.fits (pre′ .1 .0) (lit≤ tt) value, within (pre′ .1 .0) .0, within (pre′ .1 .0) .1)
+  pub put-marked-requires-2 : lts.Need-put-marked-requires-2 (K t) (P t) Post
+  put-marked-requires-2 c κs = let e = c .before .before in let p = a₃ (c₄ (c₅ e)) .pre .1 .0 in (Steps.fits p (lit≤ tt) (value e), within p .0, within p .1)
 
-pub same-length-6 : (t : ℕ) → lts.Need-same-length-6 (K t) (P t) Post
-same-length-6 t c =
-    let expr′ = c .before .before .before .before .before .before .before .before .before .before .before .before .before .before .before .before .before .before .before .before .before .before .before .before .before .before .before .before .before .before .expr in
-    let expr2′ = c .before .before .before .before .before .before .before .before .before .before .before .before .before .before .before .before .before .before .before .expr2 in
-    let expr3′ = c .before .before .before .before .before .before .before .before .before .expr3 in
-    let put-marked2′ = c .before .before .put-marked2 in
-    omega (arith, expr′ .kept, expr2′ .kept, expr3′ .kept, put-marked2′ .kept)
+  -- ── What each return owes ───────────────────────────────────────────────────────────────────────
 
-pub returns-6 : (t : ℕ) → lts.Need-returns-6 (K t) (P t) Post
-unfolding entry payload
-returns-6 t c =
-    let put-marked2′ = c .before .before .put-marked2 in
-    let expr3′ = c .before .before .before .before .before .before .before .before .before .expr3 in
-    let e′ = c .before .before .before .before .before .e in
-    let expr2′ = c .before .before .before .before .before .before .before .before .before .before .before .before .before .before .before .before .before .before .before .expr2 in
-    let d′ = c .before .before .before .before .before .before .before .before .before .before .before .before .before .before .before .d in
-    let eat′ = c .before .before .before .before .before .before .before .before .before .before .before .before .before .before .before .before .before .before .before .before .before .before .before .before .eat in
-    let b′ = c .before .before .before .before .before .before .before .before .before .before .before .before .before .before .before .before .before .before .before .before .before .before .b in
-    let expr′ = c .before .before .before .before .before .before .before .before .before .before .before .before .before .before .before .before .before .before .before .before .before .before .before .before .before .before .before .before .before .before .expr in
-    let a′ = c .before .before .before .before .before .before .before .before .before .before .before .before .before .before .before .before .before .before .before .before .before .before .before .before .before .before .a in
-    let pre′ = c .before .before .before .before .before .before .before .before .before .before .before .before .before .before .before .before .before .before .before .before .before .before .before .before .before .before .before .before .before .before .before .before .before .before .before .pre in
-    let st = pre′ .1 .0 .stands in
-    let eat-any′ = c .before .before .before .before .before .before .before .before .before .before .before .before .before .before .before .before .before .before .before .before .before .before .before .before .before .before .before .before .before .before .before .eat-any in
-    let args′ = c .before .before .before .before .before .before .before .before .before .before .before .before .before .before .before .before .before .before .before .before .before .before .before .before .before .before .before .before .before .before .before .before .before .before .before .args in
-    let from = args′ .c .start in
-    let to = args′ .c .end in
-    let g = args′ .set in
-    let s = args′ .src .now in
-    let begin = Steps.known (eat 71 ▸ expression ▸ eat 72 ▸ expression ▸ goto (else-part from to)) st (pre′ .1 .1) (λ xs t. ifs-on g (args′ .c) xs 0 t) (Steps.at g s (args′ .left) (goto basic) 0 (args′ .c) (args′ .w) (args′ .out .now)) in
-    let opened = Steps.taken (lit< tt) st (eat-any′ .ensures) (pre′ .1 .1) begin in
-    let judged = Steps.took (expr′ .ensures) (a′ .given .1) opened in
-    let then1 = Steps.ate (eat′ .ensures) (b′ .given .1) judged in
-    let chosen = Steps.took (expr2′ .ensures) (d′ .given .1) then1 in
-    let st3 = chosen .stands st in
-    let eat-any2′ = c .before .before .before .before .before .before .before .before .before .before .eat-any2 in
-    let if1′ = c .before .before .before .before .before .before .before .before .before .before .before .before .if1 in
-    let c3 = d′ .given .0 .0 in
-    let else1 = Steps.known (eat 73 ▸ expression ▸ close 22 (span from to ∷ byte 1 ∷ []) ▸ end) st3 (if1′ .left) (λ xs t. else-on g c3 xs 2 from to t) chosen in
-    let past = Steps.taken (lit< tt) st3 (eat-any2′ .ensures) (if1′ .left) else1 in
-    let value = Steps.took (expr3′ .ensures) (e′ .given .1) past in
-    Steps.ends (lit≤ tt) (Steps.closed 8 (lit≤ tt) (put-marked2′ .ensures) value)
+  pub returns : lts.Need-returns (K t) (P t) Post
+  returns c = let x = c .before .before .before .before in Steps.passed (Steps.takes-broken (x .expr .ensures) (c .before .match .keys2)) (opened (x .before))
+
+  pub returns-2 : lts.Need-returns-2 (K t) (P t) Post
+  returns-2 c = let x = c .before .before in Steps.passed (Steps.eats-broken (x .eat .ensures) (c .before .match2 .keys2)) (judged (x .before .before))
+
+  pub returns-3 : lts.Need-returns-3 (K t) (P t) Post
+  returns-3 c = let x = c .before .before .before .before in Steps.passed (Steps.takes-broken (x .expr2 .ensures) (c .before .match3 .keys2)) (thened (x .before .before .before))
+
+  pub returns-4 : lts.Need-returns-4 (K t) (P t) Post
+  unfolding entry payload
+  returns-4 c =
+      let x = c .before .before in
+      let d = x .before .before .before .before .before in
+      let a = a₃ d in
+      let c₆ = d .d .given .0 .0 in
+      let bare = Steps.known (close 22 (span (a .args .c .start) (a .args .c .end) ∷ byte 0 ∷ []) ▸ end) (chosen d .stands (a .pre .1 .0 .stands)) refl (λ xs t. no-else (a .args .set) c₆ xs 2 (a .args .c .start) (a .args .c .end) (c₆ .kind) t (x .before .before .if1 .taken)) (chosen d) in
+      Steps.ends (lit≤ tt) (Steps.closed 8 (lit≤ tt) (x .put-marked .ensures) bare)
+
+  pub returns-5 : lts.Need-returns-5 (K t) (P t) Post
+  returns-5 c = let x = c .before .before .before .before in Steps.passed (Steps.takes-broken (x .expr3 .ensures) (c .before .match4 .keys2)) (past (x .before))
+
+  pub returns-6 : lts.Need-returns-6 (K t) (P t) Post
+  unfolding entry payload
+  returns-6 c = let x = c .before .before in Steps.ends (lit≤ tt) (Steps.closed 8 (lit≤ tt) (x .put-marked2 .ensures) (value (x .before .before .before)))
+
+  pub same-length-4 : lts.Need-same-length-4 (K t) (P t) Post
+  same-length-4 c = let x = c .before .before in omega (arith, Steps.same (chosen (x .before .before .before .before .before)), x .put-marked .kept)
+
+  pub same-length-5 : lts.Need-same-length-5 (K t) (P t) Post
+  same-length-5 c = let x = c .before .before .before .before in omega (arith, Steps.same (past (x .before)), x .expr3 .kept)
+
+  pub same-length-6 : lts.Need-same-length-6 (K t) (P t) Post
+  same-length-6 c = let x = c .before .before in omega (arith, Steps.same (value (x .before .before .before)), x .put-marked2 .kept)
