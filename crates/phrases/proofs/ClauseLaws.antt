@@ -81,7 +81,7 @@ not-four {g} {xs = xs} (no-colon m m₁ m₂ e) h y =
 abbrev pub over-pattern : Body
 over-pattern = sub pattern ▸ eat 76 ▸ expression ▸ close 33 [] ▸ end
 
-plain-production : (g p n : ℕ) (xs : List Lexeme) → four g xs ≡ false → production power g for-clause p xs n ≡ over-pattern
+plain-production : (g p n : ℕ) (xs : List Lexeme) → four g xs ≡ false → production (power g) g for-clause p xs n ≡ over-pattern
 unfolding production choose rule view
 plain-production g p n xs e = pick-no (four g xs) (deep header ▸ goto (iteration (said (word-of (rest xs))))) over-pattern e
 
@@ -127,7 +127,7 @@ is-four {g} {xs = xs} h m m₁ m₂ y =
 abbrev pub over-object : List ℕ → Body
 over-object key = deep header ▸ goto (iteration key)
 
-header-production : (g p n : ℕ) (xs : List Lexeme) (key : List ℕ) → four g xs ≡ true → word-of (rest xs) ≡ says key → production power g for-clause p xs n ≡ over-object key
+header-production : (g p n : ℕ) (xs : List Lexeme) (key : List ℕ) → four g xs ≡ true → word-of (rest xs) ≡ says key → production (power g) g for-clause p xs n ≡ over-object key
 unfolding production choose rule view said
 header-production g p n xs key e f = pick-yes (four g xs) (over-object (said (word-of (rest xs)))) over-pattern e ∙ ap (λ (w : Said). over-object (said w)) f
 
@@ -158,17 +158,17 @@ repaid e₁ v₁ h i p =
 
 -- the colons of an object iteration
 colons-three : (g p n : ℕ) (xs : List Lexeme) (key : List ℕ) → eqb (kind-of xs) 29 ≡ true → eqb (kind-of (rest xs)) 29 ≡ true → eqb (kind-of (rest (rest xs))) 29 ≡ true
-    → production power g (iteration key) p xs n ≡ eat 29 ▸ eat 29 ▸ eat 29 ▸ goto (iteration-value 2 key)
+    → production (power g) g (iteration key) p xs n ≡ eat 29 ▸ eat 29 ▸ eat 29 ▸ goto (iteration-value 2 key)
 unfolding production choose rule view has
 colons-three g p n xs key a b e = rw (a, b, e) refl
 
 colons-two : (g p n : ℕ) (xs : List Lexeme) (key : List ℕ) → eqb (kind-of xs) 29 ≡ true → eqb (kind-of (rest xs)) 29 ≡ true → eqb (kind-of (rest (rest xs))) 29 ≡ false
-    → production power g (iteration key) p xs n ≡ eat 29 ▸ eat 29 ▸ goto (iteration-value 1 key)
+    → production (power g) g (iteration key) p xs n ≡ eat 29 ▸ eat 29 ▸ goto (iteration-value 1 key)
 unfolding production choose rule view has
 colons-two g p n xs key a b e = rw (a, b, e) refl
 
 colons-one : (g p n : ℕ) (xs : List Lexeme) (key : List ℕ) → eqb (kind-of xs) 29 ≡ true → eqb (kind-of (rest xs)) 29 ≡ false
-    → production power g (iteration key) p xs n ≡ eat 29 ▸ goto (iteration-value 0 key)
+    → production (power g) g (iteration key) p xs n ≡ eat 29 ▸ goto (iteration-value 0 key)
 unfolding production choose rule view has
 colons-one g p n xs key a b = rw (a, b) refl
 
@@ -244,12 +244,12 @@ too-deep-clause e st (is-header h k m k₁ m₁ k₂ m₂ k₃) q =
 
 -- ── Clauses ───────────────────────────────────────────────────────────────────────────────────────
 
-ungone : {g d : ℕ} {q : Phrase} {ts : Trees} {p : ℕ} {xs : List Lexeme} {o : Outcome} → Reading power g (goto q) ts d p xs o → Reading power g (production power g q p xs (size ts)) ts d p xs o
+ungone : {g d : ℕ} {q : Phrase} {ts : Trees} {p : ℕ} {xs : List Lexeme} {o : Outcome} → Reading (power g) g (goto q) ts d p xs o → Reading (power g) g (production (power g) g q p xs (size ts)) ts d p xs o
 ungone (read-gone r) = r
 
 -- two phrases that are the same here
 same-here : {g : ℕ} {s : List ℕ} {d : ℕ} {from : State} {q q₁ : Phrase} {n e v w : ℕ} {c : Cursor} {o : List ℕ} → Stands s c
-    → ((xs : List Lexeme) → Sees s c xs → production power g q (c .at) xs n ≡ production power g q₁ (c .at) xs n)
+    → ((xs : List Lexeme) → Sees s c xs → production (power g) g q (c .at) xs n ≡ production (power g) g q₁ (c .at) xs n)
     → Seg g s d from e v (state (goto q) n c w o) → Seg g s d from e v (state (goto q₁) n c w o)
 same-here {g} {s} {d} {q = q} {q₁} {n} {c = c} st f p =
     record {
@@ -260,12 +260,12 @@ same-here {g} {s} {d} {q = q} {q₁} {n} {c = c} st f p =
       run = λ ts xs z h.
           let r = p .run ts xs z h in
           let y = sees st refl (r .kept) in
-          let there : Body → Outcome → Type 0 = λ (x : Body) (o : Outcome). Reading power g x (p .trees ts) d (c .at) (r .left) o in
+          let there : Body → Outcome → Type 0 = λ (x : Body) (o : Outcome). Reading (power g) g x (p .trees ts) d (c .at) (r .left) o in
           record {
             left = r .left;
             kept = r .kept;
-            back = λ o x. r .back o (read-gone (subst⁻¹ (λ (m : ℕ). there (production power g q (c .at) (r .left) m) o) (p .counted ts z)
-                (subst⁻¹ (λ (m : Body). there m o) (f (r .left) y) (subst (λ (m : ℕ). there (production power g q₁ (c .at) (r .left) m) o) (p .counted ts z) (ungone x)))));
+            back = λ o x. r .back o (read-gone (subst⁻¹ (λ (m : ℕ). there (production (power g) g q (c .at) (r .left) m) o) (p .counted ts z)
+                (subst⁻¹ (λ (m : Body). there m o) (f (r .left) y) (subst (λ (m : ℕ). there (production (power g) g q₁ (c .at) (r .left) m) o) (p .counted ts z) (ungone x)))));
           };
       stored = p .stored;
       wrote = p .wrote;
@@ -274,7 +274,7 @@ same-here {g} {s} {d} {q = q} {q₁} {n} {c = c} st f p =
       credit = p .credit;
     }
 
-first-for : (g n : ℕ) (c : Cursor) (xs : List Lexeme) (t : Said) → choose g (rule power clauses (sight c xs n 83 t)) ≡ choose g (rule power more-clauses (sight c xs n 83 t))
+first-for : (g n : ℕ) (c : Cursor) (xs : List Lexeme) (t : Said) → choose g (rule (power g) clauses (sight c xs n 83 t)) ≡ choose g (rule (power g) more-clauses (sight c xs n 83 t))
 unfolding rule choose sight has
 first-for g n c xs t = refl
 
@@ -282,7 +282,7 @@ first-for g n c xs t = refl
 pub clauses-begin : {g : ℕ} {s : List ℕ} {d : ℕ} {from : State} {n e v w : ℕ} {c : Cursor} {o : List ℕ} → Stands s c → c .kind ≡ 83
     → Seg g s d from e v (state (goto clauses) n c w o) → Seg g s d from e v (state (goto more-clauses) n c w o)
 clauses-begin {g} {n = n} {c = c} st k p =
-    same-here st (λ xs y. seen power g clauses n y k refl ∙ first-for g n c xs (word-of xs) ∙ sym (seen power g more-clauses n y k refl)) p
+    same-here st (λ xs y. seen (power g) g clauses n y k refl ∙ first-for g n c xs (word-of xs) ∙ sym (seen (power g) g more-clauses n y k refl)) p
 
 -- what an `if` reads, with the keyword's range
 module _ {g : ℕ} {s : List ℕ} {d : ℕ} (i j : ℕ) {w : ℕ} {c : Cursor} {o o₁ : List ℕ} {a : Answer} where
@@ -333,15 +333,15 @@ module _ {g : ℕ} {s : List ℕ} {d : ℕ} {from : State} {f n e v w : ℕ} {c 
 -- ── Elements ──────────────────────────────────────────────────────────────────────────────────────
 
 module _ (g p n : ℕ) (xs : List Lexeme) where
-  first-comma : eqb (kind-of xs) 83 ≡ false → eqb (kind-of xs) 33 ≡ true → eqb (kind-of (rest xs)) 83 ≡ true → production power g array-first p xs n ≡ eat 33 ▸ goto array-comp
+  first-comma : eqb (kind-of xs) 83 ≡ false → eqb (kind-of xs) 33 ≡ true → eqb (kind-of (rest xs)) 83 ≡ true → production (power g) g array-first p xs n ≡ eat 33 ▸ goto array-comp
   unfolding production choose rule view has
   first-comma a b e = rw (a, b, e) refl
 
-  first-alone : eqb (kind-of xs) 83 ≡ false → eqb (kind-of xs) 33 ≡ true → eqb (kind-of (rest xs)) 83 ≡ false → production power g array-first p xs n ≡ goto elements
+  first-alone : eqb (kind-of xs) 83 ≡ false → eqb (kind-of xs) 33 ≡ true → eqb (kind-of (rest xs)) 83 ≡ false → production (power g) g array-first p xs n ≡ goto elements
   unfolding production choose rule view has
   first-alone a b e = rw (a, b, e) refl
 
-  first-other : eqb (kind-of xs) 83 ≡ false → eqb (kind-of xs) 33 ≡ false → production power g array-first p xs n ≡ goto elements
+  first-other : eqb (kind-of xs) 83 ≡ false → eqb (kind-of xs) 33 ≡ false → production (power g) g array-first p xs n ≡ goto elements
   unfolding production choose rule view has
   first-other a b = rw (a, b) refl
 

@@ -47,14 +47,14 @@ pub sign-kind : {k o : ℕ} {p : Prefix} → p ≡ prefix-of k → p ≡ Unary o
 sign-kind {k} e f = above k (sym e ∙ f)
 
 pub a-sign : (g : ℕ) (c : Cursor) (xs : List Lexeme) (n least k : ℕ) (t : Said) {o : ℕ} {p : Prefix} → p ≡ prefix-of k → p ≡ Unary o
-    → choose g (rule power (expr least) (sight c xs n k t)) ≡ eat k ▸ deep (expr power) ▸ close 12 (byte o ∷ []) ▸ goto (infix-tail least)
+    → choose g (rule (power g) (expr least) (sight c xs n k t)) ≡ eat k ▸ deep (expr (power g)) ▸ close 12 (byte o ∷ []) ▸ goto (infix-tail least)
 unfolding sight signed
-a-sign g c xs n least k t e f = prefix-chosen power g least (sight c xs n k t) ∙ ap (signed power least k) (sym e ∙ f)
+a-sign g c xs n least k t e f = prefix-chosen (power g) g least (sight c xs n k t) ∙ ap (signed (power g) least k) (sym e ∙ f)
 
 pub no-sign : (g : ℕ) (c : Cursor) (xs : List Lexeme) (n least k : ℕ) (t : Said) {p : Prefix} → p ≡ prefix-of k → tagOf the-type p ≡ 1
-    → choose g (rule power (expr least) (sight c xs n k t)) ≡ sub suffixed ▸ goto (infix-tail least)
+    → choose g (rule (power g) (expr least) (sight c xs n k t)) ≡ sub suffixed ▸ goto (infix-tail least)
 unfolding sight signed
-no-sign g c xs n least k t {p} e f = prefix-chosen power g least (sight c xs n k t) ∙ ap (signed power least k) (sym e ∙ no-unary p f)
+no-sign g c xs n least k t {p} e f = prefix-chosen (power g) g least (sight c xs n k t) ∙ ap (signed (power g) least k) (sym e ∙ no-unary p f)
 
 -- ── Binary operators ──────────────────────────────────────────────────────────────────────────────
 
@@ -102,7 +102,7 @@ module _ (g least : ℕ) (v : View) where
       by true e i = found (leb least l) (has g w) (eqb-true (v .kind) k e) i refl
       by false e i = i
 
-  infix-chosen : choose g (rule power (infix-tail least) v) ≡ looped least (v .kind) true (infix-under g (v .kind))
+  infix-chosen : choose g (rule (power g) (infix-tail least) v) ≡ looped least (v .kind) true (infix-under g (v .kind))
   unfolding rule infix-under operators distinct absent
   infix-chosen = operator-chosen operators tt
 
@@ -125,42 +125,42 @@ infix-kind g {k} e f = beyond g k (sym e ∙ f)
 
 module _ (g : ℕ) (c : Cursor) (xs : List Lexeme) (n least k : ℕ) (t : Said) {b : Infix} (e : b ≡ infix-under g k) where
   pub an-operator : {o l r : ℕ} → b ≡ Binary o l r → least ≤ l
-      → choose g (rule power (infix-tail least) (sight c xs n k t)) ≡ eat k ▸ deep (expr r) ▸ close 13 (byte o ∷ []) ▸ goto (infix-tail least)
+      → choose g (rule (power g) (infix-tail least) (sight c xs n k t)) ≡ eat k ▸ deep (expr r) ▸ close 13 (byte o ∷ []) ▸ goto (infix-tail least)
   unfolding sight looped
   an-operator {o} {l} {r} f h =
       infix-chosen g least (sight c xs n k t) ∙ ap (looped least k true) (sym e ∙ f)
       ∙ pick-yes (leb least l && true) (eat k ▸ deep (expr r) ▸ close 13 (byte o ∷ []) ▸ goto (infix-tail least)) end (ap (λ (z : Bool). z && true) (le-leb least l h))
 
-  pub weak-operator : {o l r : ℕ} → b ≡ Binary o l r → l < least → choose g (rule power (infix-tail least) (sight c xs n k t)) ≡ end
+  pub weak-operator : {o l r : ℕ} → b ≡ Binary o l r → l < least → choose g (rule (power g) (infix-tail least) (sight c xs n k t)) ≡ end
   unfolding sight looped
   weak-operator {o} {l} {r} f h =
       infix-chosen g least (sight c xs n k t) ∙ ap (looped least k true) (sym e ∙ f)
       ∙ pick-no (leb least l && true) (eat k ▸ deep (expr r) ▸ close 13 (byte o ∷ []) ▸ goto (infix-tail least)) end (ap (λ (z : Bool). z && true) (lt-leb least l h))
 
-  pub no-operator : tagOf infix-enum.the-type b ≡ 1 → choose g (rule power (infix-tail least) (sight c xs n k t)) ≡ end
+  pub no-operator : tagOf infix-enum.the-type b ≡ 1 → choose g (rule (power g) (infix-tail least) (sight c xs n k t)) ≡ end
   unfolding sight looped
   no-operator f = infix-chosen g least (sight c xs n k t) ∙ ap (looped least k true) (sym e ∙ no-binary b f)
 
 -- ── Phrases of expr_basic that more than one lexeme makes ─────────────────────────────────────────
 
 module _ (g : ℕ) (c : Cursor) (xs : List Lexeme) (n : ℕ) (t : Said) where
-  pub a-paren : choose g (rule power basic (sight c xs n 25 t)) ≡ eat 25 ▸ expression ▸ eat 26 ▸ end
+  pub a-paren : choose g (rule (power g) basic (sight c xs n 25 t)) ≡ eat 25 ▸ expression ▸ eat 26 ▸ end
   unfolding choose rule sight has
   a-paren = refl
 
-  pub an-array : choose g (rule power basic (sight c xs n 23 t)) ≡ eat 23 ▸ goto array
+  pub an-array : choose g (rule (power g) basic (sight c xs n 23 t)) ≡ eat 23 ▸ goto array
   unfolding choose rule sight has
   an-array = refl
 
-  pub an-object : choose g (rule power basic (sight c xs n 27 t)) ≡ eat 27 ▸ sub inside ▸ eat 28 ▸ end
+  pub an-object : choose g (rule (power g) basic (sight c xs n 27 t)) ≡ eat 27 ▸ sub inside ▸ eat 28 ▸ end
   unfolding choose rule sight has
   an-object = refl
 
-  pub a-local : choose g (rule power basic (sight c xs n 67 t)) ≡ eat 67 ▸ goto binds
+  pub a-local : choose g (rule (power g) basic (sight c xs n 67 t)) ≡ eat 67 ▸ goto binds
   unfolding choose rule sight has
   a-local = refl
 
-  pub an-error : choose g (rule power basic (sight c xs n 75 t)) ≡ eat 75 ▸ expression ▸ close 17 (span (c .start) (c .end) ∷ []) ▸ end
+  pub an-error : choose g (rule (power g) basic (sight c xs n 75 t)) ≡ eat 75 ▸ expression ▸ close 17 (span (c .start) (c .end) ∷ []) ▸ end
   unfolding choose rule sight has
   an-error = refl
 

@@ -57,7 +57,7 @@ module _ (g : ℕ) where
 
 -- ── What `eat` saw ────────────────────────────────────────────────────────────────────────────────
 
-eaten-kind : {g k : ℕ} {ts us : Trees} {d p r : ℕ} {xs ys : List Lexeme} → Reading power g (eat k ▸ end) ts d p xs (done us r ys) → kind-of xs ≡ k
+eaten-kind : {g k : ℕ} {ts us : Trees} {d p r : ℕ} {xs ys : List Lexeme} → Reading (power g) g (eat k ▸ end) ts d p xs (done us r ys) → kind-of xs ≡ k
 eaten-kind (eaten e _) = e
 
 pub ate-kind : {s : List ℕ} {k w w₁ j : ℕ} {c c₁ : Cursor} {a : Answer} {xs : List Lexeme} → Eats s k c w a → a ≡ Done c₁ w₁ j → Left s (c .at) xs → kind-of xs ≡ k
@@ -70,16 +70,16 @@ ate-kind {c₁ = c₁} {xs = xs} m q l =
 pub ate-moved : {s : List ℕ} {k w w₁ j : ℕ} {c c₁ : Cursor} {a : Answer} → Stands s c → Eats s k c w a → a ≡ Done c₁ w₁ j → Moved s c c₁
 ate-moved {w₁ = w₁} {j} {c₁ = c₁} st m q = record { at = m .moved c₁ w₁ j q .2; stands = ate-stands st m q }
 
-regone : {g d : ℕ} {q : Phrase} {b : Body} {ts : Trees} {n p : ℕ} {xs : List Lexeme} {o : Outcome} → production power g q p xs n ≡ b → size ts ≡ n → Reading power g b ts d p xs o
-    → Reading power g (goto q) ts d p xs o
+regone : {g d : ℕ} {q : Phrase} {b : Body} {ts : Trees} {n p : ℕ} {xs : List Lexeme} {o : Outcome} → production (power g) g q p xs n ≡ b → size ts ≡ n → Reading (power g) g b ts d p xs o
+    → Reading (power g) g (goto q) ts d p xs o
 regone {g} {d} {q} {b} {ts} {n} {p} {xs} {o} e z r =
-    let there : Body → Type 0 = λ (x : Body). Reading power g x ts d p xs o in
-    read-gone (subst⁻¹ (λ (m : ℕ). there (production power g q p xs m)) z (subst⁻¹ there e r))
+    let there : Body → Type 0 = λ (x : Body). Reading (power g) g x ts d p xs o in
+    read-gone (subst⁻¹ (λ (m : ℕ). there (production (power g) g q p xs m)) z (subst⁻¹ there e r))
 
 module _ {g : ℕ} {s : List ℕ} {d : ℕ} where
   -- the phrase goes on as its production says, of the lexemes that are left
   pub goes-left : {from : State} {q : Phrase} {n e v w : ℕ} {c : Cursor} {o : List ℕ} (b : Body) → Stands s c
-      → ((xs : List Lexeme) → Left s (c .at) xs → Sees s c xs → production power g q (c .at) xs n ≡ b)
+      → ((xs : List Lexeme) → Left s (c .at) xs → Sees s c xs → production (power g) g q (c .at) xs n ≡ b)
       → Seg g s d from e v (state (goto q) n c w o) → Seg g s d from e v (state b n c w o)
   goes-left {q = q} {n} {c = c} b st f p =
       record {
@@ -90,11 +90,11 @@ module _ {g : ℕ} {s : List ℕ} {d : ℕ} where
         run = λ ts xs z h.
             let r = p .run ts xs z h in
             let y = sees st refl (r .kept) in
-            let there : Body → Outcome → Type 0 = λ (x : Body) (o : Outcome). Reading power g x (p .trees ts) d (c .at) (r .left) o in
+            let there : Body → Outcome → Type 0 = λ (x : Body) (o : Outcome). Reading (power g) g x (p .trees ts) d (c .at) (r .left) o in
             record {
               left = r .left;
               kept = r .kept;
-              back = λ o x. r .back o (read-gone (subst⁻¹ (λ (m : ℕ). there (production power g q (c .at) (r .left) m) o) (p .counted ts z) (subst⁻¹ (λ (m : Body). there m o) (f (r .left) (r .kept) y) x)));
+              back = λ o x. r .back o (read-gone (subst⁻¹ (λ (m : ℕ). there (production (power g) g q (c .at) (r .left) m) o) (p .counted ts z) (subst⁻¹ (λ (m : Body). there m o) (f (r .left) (r .kept) y) x)));
             };
         stored = p .stored;
         wrote = p .wrote;
@@ -104,7 +104,7 @@ module _ {g : ℕ} {s : List ℕ} {d : ℕ} where
       }
 
   -- a lexeme that every production begins with is not there
-  pub goes-broken : {q : Phrase} {n k w : ℕ} {c : Cursor} {o : List ℕ} {a : Answer} → ((xs : List Lexeme) → (b : Body) × (production power g q (c .at) xs n ≡ eat k ▸ b))
+  pub goes-broken : {q : Phrase} {n k w : ℕ} {c : Cursor} {o : List ℕ} {a : Answer} → ((xs : List Lexeme) → (b : Body) × (production (power g) g q (c .at) xs n ≡ eat k ▸ b))
       → Eats s k c w a → tagOf the-type a ≡ 1 → (r : Refusal) × (a ≡ Broken r) × Breaks g s d (state (goto q) n c w o) r
   goes-broken {q} {n} {k} {w} {c} {o} {a} f m t =
       let x = Steps.no-done a t in
@@ -135,26 +135,26 @@ module _ (g : ℕ) (at : ℕ) (xs : List Lexeme) (n i j k p m : ℕ) where
   one-less : (b : ℕ) → valued i j k p m (n + 1 - 1) b ≡ valued i j k p m n b
   one-less b = ap (λ (x : ℕ). valued i j k p m x b) (let q : n + 1 - 1 ≡ n = omega arith in q)
 
-  one-colon : ¬ (kind-of (rest xs) ≡ 29) → production power g (field-value i j k p m) at xs (n + 1) ≡ eat 29 ▸ valued i j k p m n 0
+  one-colon : ¬ (kind-of (rest xs) ≡ 29) → production (power g) g (field-value i j k p m) at xs (n + 1) ≡ eat 29 ▸ valued i j k p m n 0
   unfolding production view rule
   one-colon h =
       pick-0 g (eqb (kind-of xs) 29) (eqb (kind-of (rest xs)) 29) (eqb (kind-of (rest (rest xs))) 29) _ _ _ (ne-eqb _ 29 h)
       ∙ ap (λ (x : Body). eat 29 ▸ x) (one-less 0)
 
-  two-colons : kind-of xs ≡ 29 → kind-of (rest xs) ≡ 29 → ¬ (kind-of (rest (rest xs)) ≡ 29) → production power g (field-value i j k p m) at xs (n + 1) ≡ eat 29 ▸ eat 29 ▸ valued i j k p m n 1
+  two-colons : kind-of xs ≡ 29 → kind-of (rest xs) ≡ 29 → ¬ (kind-of (rest (rest xs)) ≡ 29) → production (power g) g (field-value i j k p m) at xs (n + 1) ≡ eat 29 ▸ eat 29 ▸ valued i j k p m n 1
   unfolding production view rule
   two-colons e f h =
       pick-1 g (eqb (kind-of xs) 29) (eqb (kind-of (rest xs)) 29) (eqb (kind-of (rest (rest xs))) 29) _ _ _ (eq-eqb _ 29 e) (eq-eqb _ 29 f) (ne-eqb _ 29 h)
       ∙ ap (λ (x : Body). eat 29 ▸ eat 29 ▸ x) (one-less 1)
 
   three-colons : kind-of xs ≡ 29 → kind-of (rest xs) ≡ 29 → kind-of (rest (rest xs)) ≡ 29
-      → production power g (field-value i j k p m) at xs (n + 1) ≡ eat 29 ▸ eat 29 ▸ eat 29 ▸ valued i j k p m n 2
+      → production (power g) g (field-value i j k p m) at xs (n + 1) ≡ eat 29 ▸ eat 29 ▸ eat 29 ▸ valued i j k p m n 2
   unfolding production view rule
   three-colons e f h =
       pick-2 g (eqb (kind-of xs) 29) (eqb (kind-of (rest xs)) 29) (eqb (kind-of (rest (rest xs))) 29) _ _ _ (eq-eqb _ 29 e) (eq-eqb _ 29 f) (eq-eqb _ 29 h)
       ∙ ap (λ (x : Body). eat 29 ▸ eat 29 ▸ eat 29 ▸ x) (one-less 2)
 
-  pub some-colon : (x : ℕ) → (b : Body) × (production power g (field-value i j k p m) at xs x ≡ eat 29 ▸ b)
+  pub some-colon : (x : ℕ) → (b : Body) × (production (power g) g (field-value i j k p m) at xs x ≡ eat 29 ▸ b)
   unfolding production view rule
   some-colon x = pick-any g 29 _ _ _ _ _
 

@@ -145,7 +145,7 @@ bad-answer {g} {n = n} {c = c} st h f (no-escape k e) =
 module _ {g : ℕ} {s : List ℕ} {d : ℕ} {q : Phrase} {n w w₁ j : ℕ} {c c₁ : Cursor} {o o₁ : List ℕ} where
   -- a lexeme of kind k is a record of at most 8 bytes
   pub one-leaf : {k t : ℕ} {f : List Field} → Stands s c → c .kind ≡ k → 1 < k
-      → ((xs : List Lexeme) (u : Said) → choose g (rule power q (sight c xs n k u)) ≡ leaf t f ▸ end) → Moved s c c₁ → length (entry t f) ≤ 8 → Wrote o w (entry t f) w₁ o₁
+      → ((xs : List Lexeme) (u : Said) → choose g (rule (power g) q (sight c xs n k u)) ≡ leaf t f ▸ end) → Moved s c c₁ → length (entry t f) ≤ 8 → Wrote o w (entry t f) w₁ o₁
       → Leads g s d (state (goto q) n c w o) 0 end (n + 1) (Done c₁ w₁ j) o₁
   one-leaf {k} {t} {f} st e h r mv i u =
       let some : 1 < c .kind = omega (arith, e, h) in
@@ -153,7 +153,7 @@ module _ {g : ℕ} {s : List ℕ} {d : ℕ} {q : Phrase} {n w w₁ j : ℕ} {c c
 
   -- a name is a record of its place and its bytes
   pub one-name : (t : ℕ) → Stands s c → c .kind ≡ 55
-      → ((xs : List Lexeme) → choose g (rule power q (sight c xs n 55 (says (slice (c .start) (c .end) s)))) ≡ leaf t (span (c .start) (c .end) ∷ text (slice (c .start) (c .end) s) ∷ []) ▸ end)
+      → ((xs : List Lexeme) → choose g (rule (power g) q (sight c xs n 55 (says (slice (c .start) (c .end) s)))) ≡ leaf t (span (c .start) (c .end) ∷ text (slice (c .start) (c .end) s) ∷ []) ▸ end)
       → Moved s c c₁ → Wrote o w (entry t (span (c .start) (c .end) ∷ text (take (c .end - c .start) (drop (c .start) s)) ∷ [])) w₁ o₁
       → Leads g s d (state (goto q) n c w o) 0 end (n + 1) (Done c₁ w₁ j) o₁
   one-name t st e r mv u =
@@ -164,6 +164,6 @@ module _ {g : ℕ} {s : List ℕ} {d : ℕ} {q : Phrase} {n w w₁ j : ℕ} {c c
 -- a phrase that is broken off by rule
 module _ {g : ℕ} {s : List ℕ} {d : ℕ} {q : Phrase} {n w : ℕ} {c : Cursor} {o o₁ : List ℕ} where
   pub one-fault : {m x u k : ℕ} {b : Body} {a : Answer} → Stands s c → sorted m x ≡ true
-      → ((xs : List Lexeme) (t : Said) → choose g (rule power q (sight c xs n (c .kind) t)) ≡ fail m x) → a ≡ Broken (record { number = m; place = c; detail = x })
+      → ((xs : List Lexeme) (t : Said) → choose g (rule (power g) q (sight c xs n (c .kind) t)) ≡ fail m x) → a ≡ Broken (record { number = m; place = c; detail = x })
       → Leads g s d (state (goto q) n c w o) u b k a o₁
   one-fault {m} {x} st h r e = Steps.broke (Steps.fails st h (Steps.known (fail m x) st refl r Steps.here)) e

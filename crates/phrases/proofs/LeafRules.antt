@@ -20,7 +20,7 @@ use Rattle.phrases.specs.declared.Cursor.{Cursor}
 module _ (g : ℕ) (c : Cursor) (xs : List Lexeme) (n : ℕ) where
   -- what a phrase is where the next lexeme has kind k and says t
   abbrev pub is : Phrase → ℕ → Said → Body
-  is q k t = choose g (rule power q (sight c xs n k t))
+  is q k t = choose g (rule (power g) q (sight c xs n k t))
 
   -- ── Ends of patterns ────────────────────────────────────────────────────────────────────────────
 
@@ -177,7 +177,7 @@ no-strings f = (
 
 module _ (g : ℕ) (c : Cursor) (xs : List Lexeme) (n : ℕ) where
   pub array-pattern-closes : (m r : ℕ) (w : List ℕ) (k : ℕ) (t : Said)
-      → choose g (rule power (array-pattern-close n r w) (sight c xs (n + m) k t)) ≡ eat 24 ▸ close 27 (number n ∷ byte r ∷ number m ∷ text w ∷ []) ▸ end
+      → choose g (rule (power g) (array-pattern-close n r w) (sight c xs (n + m) k t)) ≡ eat 24 ▸ close 27 (number n ∷ byte r ∷ number m ∷ text w ∷ []) ▸ end
   unfolding choose rule sight
   array-pattern-closes m r w k t =
       let e : n + m - n ≡ m = omega arith in

@@ -184,11 +184,11 @@ module _ (g : ℕ) (c : Cursor) (xs : List Lexeme) (n m r : ℕ) (w : List ℕ) 
 
 -- ── A field's name: the production has its bytes, whatever stands there ───────────────────────────
 
-field-is : (g p : ℕ) (xs : List Lexeme) (n : ℕ) → production power g pattern-field p xs n ≡ eat 55 ▸ goto (pattern-into (said (word-of xs)))
+field-is : (g p : ℕ) (xs : List Lexeme) (n : ℕ) → production (power g) g pattern-field p xs n ≡ eat 55 ▸ goto (pattern-into (said (word-of xs)))
 unfolding production view choose rule
 field-is g p xs n = refl
 
-kind-eaten : {g : ℕ} {k d p p₁ : ℕ} {b : Body} {ts ts₁ : Trees} {xs xs₁ : List Lexeme} → Reading power g (eat k ▸ b) ts d p xs (done ts₁ p₁ xs₁) → kind-of xs ≡ k
+kind-eaten : {g : ℕ} {k d p p₁ : ℕ} {b : Body} {ts ts₁ : Trees} {xs xs₁ : List Lexeme} → Reading (power g) g (eat k ▸ b) ts d p xs (done ts₁ p₁ xs₁) → kind-of xs ≡ k
 kind-eaten (eaten e r) = e
 
 module _ {g : ℕ} {s : List ℕ} {d : ℕ} {n w : ℕ} {c : Cursor} {o : List ℕ} {a : Answer} where
@@ -212,12 +212,12 @@ module _ {g : ℕ} {s : List ℕ} {d : ℕ} {n w : ℕ} {c : Cursor} {o : List �
             let y = sees st refl h in
             let k : c .kind ≡ 55 = sym (y .kind) ∙ kind-eaten (r₂ .back (done (p₂ .trees ts) (c₁ .at) (r₂ .left)) ended) in
             let e : said (word-of xs) ≡ name = ap said (name-says k (y .says (λ i. omega (arith, k, i)))) in
-            let f : production power g pattern-field (c .at) xs (size ts) ≡ eat 55 ▸ goto (pattern-into name) =
+            let f : production (power g) g pattern-field (c .at) xs (size ts) ≡ eat 55 ▸ goto (pattern-into name) =
             field-is g (c .at) xs (size ts) ∙ ap (λ (v : List ℕ). eat 55 ▸ goto (pattern-into v)) e in
             record {
               left = r .left;
               kept = r .kept;
-              back = λ u v. gone (subst⁻¹ (λ (b : Body). Reading power g b ts d (c .at) xs u) f (r .back u v));
+              back = λ u v. gone (subst⁻¹ (λ (b : Body). Reading (power g) g b ts d (c .at) xs u) f (r .back u v));
             };
         stored = p .stored;
         wrote = p .wrote;
@@ -238,7 +238,7 @@ module _ {g : ℕ} {s : List ℕ} {d : ℕ} {n w : ℕ} {c : Cursor} {o : List �
               record {
                 left = t .left;
                 kept = t .kept;
-                reading = gone (subst⁻¹ (λ (b : Body). Reading power g b ts d (c .at) xs (broken (x .0 .number) (x .0 .place .at) (t .left) (x .0 .detail))) (field-is g (c .at) xs (size ts)) (t .reading));
+                reading = gone (subst⁻¹ (λ (b : Body). Reading (power g) g b ts d (c .at) xs (broken (x .0 .number) (x .0 .place .at) (t .left) (x .0 .detail))) (field-is g (c .at) xs (size ts)) (t .reading));
               };
           stands = Steps.refused (m .eats g d o .takes end n) (x .1) .stands;
           sort = Steps.refused (m .eats g d o .takes end n) (x .1) .sort;

@@ -51,7 +51,7 @@ at g s d b n c w o = here
 -- ── Stretches ─────────────────────────────────────────────────────────────────────────────────────
 
 -- what a phrase goes on as
-ungone : {g d : ℕ} {q : Phrase} {ts : Trees} {p : ℕ} {xs : List Lexeme} {o : Outcome} → Reading power g (goto q) ts d p xs o → Reading power g (production power g q p xs (size ts)) ts d p xs o
+ungone : {g d : ℕ} {q : Phrase} {ts : Trees} {p : ℕ} {xs : List Lexeme} {o : Outcome} → Reading (power g) g (goto q) ts d p xs o → Reading (power g) g (production (power g) g q p xs (size ts)) ts d p xs o
 ungone (read-gone r) = r
 
 -- an answer that is not `Done` is `Broken`
@@ -120,7 +120,7 @@ module _ {g : ℕ} {s : List ℕ} {d : ℕ} where
   -- ── The production of a phrase ──────────────────────────────────────────────────────────────────
 
   -- the phrase goes on as its production says, whatever lexemes are left
-  pub goes : {from : State} {q : Phrase} {n e v w : ℕ} {c : Cursor} {o : List ℕ} (b : Body) → Stands s c → ((xs : List Lexeme) → Sees s c xs → production power g q (c .at) xs n ≡ b)
+  pub goes : {from : State} {q : Phrase} {n e v w : ℕ} {c : Cursor} {o : List ℕ} (b : Body) → Stands s c → ((xs : List Lexeme) → Sees s c xs → production (power g) g q (c .at) xs n ≡ b)
       → Seg g s d from e v (state (goto q) n c w o) → Seg g s d from e v (state b n c w o)
   goes {q = q} {n} {c = c} b st f p =
       record {
@@ -131,11 +131,11 @@ module _ {g : ℕ} {s : List ℕ} {d : ℕ} where
         run = λ ts xs z h.
             let r = p .run ts xs z h in
             let y = sees st refl (r .kept) in
-            let there : Body → Outcome → Type 0 = λ (x : Body) (o : Outcome). Reading power g x (p .trees ts) d (c .at) (r .left) o in
+            let there : Body → Outcome → Type 0 = λ (x : Body) (o : Outcome). Reading (power g) g x (p .trees ts) d (c .at) (r .left) o in
             record {
               left = r .left;
               kept = r .kept;
-              back = λ o x. r .back o (read-gone (subst⁻¹ (λ (m : ℕ). there (production power g q (c .at) (r .left) m) o) (p .counted ts z) (subst⁻¹ (λ (m : Body). there m o) (f (r .left) y) x)));
+              back = λ o x. r .back o (read-gone (subst⁻¹ (λ (m : ℕ). there (production (power g) g q (c .at) (r .left) m) o) (p .counted ts z) (subst⁻¹ (λ (m : Body). there m o) (f (r .left) y) x)));
             };
         stored = p .stored;
         wrote = p .wrote;
@@ -146,16 +146,16 @@ module _ {g : ℕ} {s : List ℕ} {d : ℕ} where
 
   -- the next lexeme has kind k
   pub known : {from : State} {q : Phrase} {n e v w : ℕ} {c : Cursor} {o : List ℕ} {k : ℕ} (b : Body) → Stands s c → c .kind ≡ k
-      → ((xs : List Lexeme) (t : Said) → choose g (rule power q (sight c xs n k t)) ≡ b)
+      → ((xs : List Lexeme) (t : Said) → choose g (rule (power g) q (sight c xs n k t)) ≡ b)
       → Seg g s d from e v (state (goto q) n c w o) → Seg g s d from e v (state b n c w o)
-  known {q = q} {n} b st k f p = goes b st (λ xs y. seen power g q n y k refl ∙ f xs (word-of xs)) p
+  known {q = q} {n} b st k f p = goes b st (λ xs y. seen (power g) g q n y k refl ∙ f xs (word-of xs)) p
 
   -- it is a name
   pub called : {from : State} {q : Phrase} {n e v w : ℕ} {c : Cursor} {o : List ℕ} (b : Body) → Stands s c → c .kind ≡ 55
-      → ((xs : List Lexeme) → choose g (rule power q (sight c xs n 55 (says (slice (c .start) (c .end) s)))) ≡ b)
+      → ((xs : List Lexeme) → choose g (rule (power g) q (sight c xs n 55 (says (slice (c .start) (c .end) s)))) ≡ b)
       → Seg g s d from e v (state (goto q) n c w o) → Seg g s d from e v (state b n c w o)
   called {q = q} {n} {c = c} b st k f p =
-      goes b st (λ xs y. seen power g q n y k (name-says k (y .says (λ z. omega (arith, k, z)))) ∙ f xs) p
+      goes b st (λ xs y. seen (power g) g q n y k (name-says k (y .says (λ z. omega (arith, k, z)))) ∙ f xs) p
 
   -- ── Lexemes ─────────────────────────────────────────────────────────────────────────────────────
 
@@ -175,7 +175,7 @@ module _ {g : ℕ} {s : List ℕ} {d : ℕ} where
             record {
               left = rest (r .left);
               kept = subst⁻¹ (λ (q : ℕ). Left s q (rest (r .left))) (mv .at) (y .later);
-              back = λ o x. r .back o (eaten (y .kind ∙ k) (subst (λ (q : ℕ). Reading power g b (p .trees ts) d q (rest (r .left)) o) (mv .at ∙ sym (y .stop)) x));
+              back = λ o x. r .back o (eaten (y .kind ∙ k) (subst (λ (q : ℕ). Reading (power g) g b (p .trees ts) d q (rest (r .left)) o) (mv .at ∙ sym (y .stop)) x));
             };
         stored = p .stored;
         wrote = p .wrote;
@@ -207,7 +207,7 @@ module _ {g : ℕ} {s : List ℕ} {d : ℕ} where
             record {
               left = rest (r .left);
               kept = subst⁻¹ (λ (q : ℕ). Left s q (rest (r .left))) (mv .at) (y .later);
-              back = λ o x. r .back o (leafed (subst (λ (q : ℕ). Reading power g b (p .trees ts ⊕ tree t f none) d q (rest (r .left)) o) (mv .at ∙ sym (y .stop)) x));
+              back = λ o x. r .back o (leafed (subst (λ (q : ℕ). Reading (power g) g b (p .trees ts ⊕ tree t f none) d q (rest (r .left)) o) (mv .at ∙ sym (y .stop)) x));
             };
         stored = u .stored ∙ ap (λ (z : List ℕ). sets z w (entry t f)) (p .stored) ∙ sets-append (from .out) (from .written) w (p .bytes) (entry t f) (p .wrote);
         wrote = omega (arith, p .wrote, u .to, length-append (p .bytes) (entry t f));

@@ -48,15 +48,15 @@ not-two {c = c} {xs = xs} (no-value a mv f) e y =
     ap₂ (λ (p q : Bool). p && q) (eq-eqb (c .kind) 55 a) z
 
 module _ (g : ℕ) (c : Cursor) (xs : List Lexeme) (n a u m : ℕ) (t : Said) where
-  two-named : kind-of (rest xs) ≡ 35 → choose g (rule power (argument a u m) (sight c xs n 55 t)) ≡ sub named-argument ▸ goto (argument-end a u (m + 1))
+  two-named : kind-of (rest xs) ≡ 35 → choose g (rule (power g) (argument a u m) (sight c xs n 55 t)) ≡ sub named-argument ▸ goto (argument-end a u (m + 1))
   unfolding choose rule sight has
   two-named e = pick-yes _ _ _ (ap (λ (x : ℕ). (true && eqb x 35) && true) e)
 
-  two-plain : (k : ℕ) → eqb k 55 && eqb (kind-of (rest xs)) 35 ≡ false → m ≡ 0 → choose g (rule power (argument a u m) (sight c xs n k t)) ≡ expression ▸ goto (argument-end a (u + 1) m)
+  two-plain : (k : ℕ) → eqb k 55 && eqb (kind-of (rest xs)) 35 ≡ false → m ≡ 0 → choose g (rule (power g) (argument a u m) (sight c xs n k t)) ≡ expression ▸ goto (argument-end a (u + 1) m)
   unfolding choose rule sight has
   two-plain k e z = pick-no _ _ _ (ap (λ (x : Bool). x && true) e) ∙ pick-yes _ _ _ (ap (λ (x : Bool). x && true) (eq-eqb m 0 z))
 
-  two-fault : (k : ℕ) → eqb k 55 && eqb (kind-of (rest xs)) 35 ≡ false → ¬ (m ≡ 0) → choose g (rule power (argument a u m) (sight c xs n k t)) ≡ fail 8 1
+  two-fault : (k : ℕ) → eqb k 55 && eqb (kind-of (rest xs)) 35 ≡ false → ¬ (m ≡ 0) → choose g (rule (power g) (argument a u m) (sight c xs n k t)) ≡ fail 8 1
   unfolding choose rule sight has
   two-fault k e z = pick-no _ _ _ (ap (λ (x : Bool). x && true) e) ∙ pick-no _ _ _ (ap (λ (x : Bool). x && true) (ne-eqb m 0 z))
 
@@ -66,7 +66,7 @@ module _ {g : ℕ} {s : List ℕ} {d : ℕ} {c : Cursor} {w : ℕ} {o : List ℕ
   argues-plain {m} {k} st h e z r =
       record {
         argues = λ a u n.
-            let p = Steps.goes (expression ▸ goto (argument-end a (u + 1) m)) st (λ xs y. seen power g (argument a u m) n y refl refl ∙ two-plain g c xs n a u m (word-of xs) (c .kind) (not-two h e y) z)
+            let p = Steps.goes (expression ▸ goto (argument-end a (u + 1) m)) st (λ xs y. seen (power g) g (argument a u m) n y refl refl ∙ two-plain g c xs n a u m (word-of xs) (c .kind) (not-two h e y) z)
             (Steps.at g s d (goto (argument a u m)) n c w o) in
             let q : expression ▸ goto (argument-end a (u + 1) m) ≡ expression ▸ goto (argument-end a (u + (1 - k)) (m + k)) =
             ap₂ (λ (i j : ℕ). expression ▸ goto (argument-end a i j)) (omega (arith, e)) (omega (arith, e)) in
@@ -79,7 +79,7 @@ module _ {g : ℕ} {s : List ℕ} {d : ℕ} {c : Cursor} {w : ℕ} {o : List ℕ
   argues-fault {m} {k} st h e z r =
       record {
         argues = λ a u n.
-            let p = Steps.goes (fail 8 1) st (λ xs y. seen power g (argument a u m) n y refl refl ∙ two-fault g c xs n a u m (word-of xs) (c .kind) (not-two h e y) z)
+            let p = Steps.goes (fail 8 1) st (λ xs y. seen (power g) g (argument a u m) n y refl refl ∙ two-fault g c xs n a u m (word-of xs) (c .kind) (not-two h e y) z)
             (Steps.at g s d (goto (argument a u m)) n c w o) in
             Steps.broke (Steps.fails st refl p) r;
       }
@@ -90,7 +90,7 @@ module _ {g : ℕ} {s : List ℕ} {d : ℕ} {c : Cursor} {w : ℕ} {o : List ℕ
       record {
         argues = λ a u n.
             let p = Steps.goes (sub named-argument ▸ goto (argument-end a u (m + 1))) st
-            (λ xs y. seen power g (argument a u m) n y i refl ∙ two-named g c xs n a u m (word-of xs) (sees-next y mv .kind ∙ j)) (Steps.at g s d (goto (argument a u m)) n c w o) in
+            (λ xs y. seen (power g) g (argument a u m) n y i refl ∙ two-named g c xs n a u m (word-of xs) (sees-next y mv .kind ∙ j)) (Steps.at g s d (goto (argument a u m)) n c w o) in
             let q : sub named-argument ▸ goto (argument-end a u (m + 1)) ≡ sub named-argument ▸ goto (argument-end a (u + (1 - k)) (m + k)) =
             ap₂ (λ (x y : ℕ). sub named-argument ▸ goto (argument-end a x y)) (omega (arith, e)) (omega (arith, e)) in
             Steps.tail (omega arith) (r .takes (goto (argument-end a (u + (1 - k)) (m + k))) n) (Steps.body-is q p);
@@ -159,11 +159,11 @@ at-brace (paren a) p q r s = absurd (s a)
 at-brace (brace a) p q r s = a
 
 module _ (g : ℕ) (c : Cursor) (xs : List Lexeme) (n f : ℕ) (t : Said) where
-  mark-off : has g exp-null-coaelse ≡ false → choose g (rule power (suffix f) (sight c xs n 36 t)) ≡ end
+  mark-off : has g exp-null-coaelse ≡ false → choose g (rule (power g) (suffix f) (sight c xs n 36 t)) ≡ end
   unfolding choose rule sight has
   mark-off h = pick-no _ _ _ h
 
-  nothing-more : (k : ℕ) → ¬ (k ≡ 36) → ¬ (k ≡ 31) → ¬ (k ≡ 23) → ¬ (k ≡ 25) → ¬ (k ≡ 27) → choose g (rule power (suffix f) (sight c xs n k t)) ≡ end
+  nothing-more : (k : ℕ) → ¬ (k ≡ 36) → ¬ (k ≡ 31) → ¬ (k ≡ 23) → ¬ (k ≡ 25) → ¬ (k ≡ 27) → choose g (rule (power g) (suffix f) (sight c xs n k t)) ≡ end
   unfolding choose rule sight has
   nothing-more k h₁ h₂ h₃ h₄ h₅ =
       pick-no _ _ _ (ap (λ (x : Bool). x && has g exp-null-coaelse) (ne-eqb k 36 h₁))

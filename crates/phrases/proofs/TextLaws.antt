@@ -204,12 +204,12 @@ says-nothing (no-text g) f = refl
 module _ {g : ℕ} {s : List ℕ} {d : ℕ} {from : State} {q : Phrase} {n e v w : ℕ} {c : Cursor} {o : List ℕ} where
   -- the next lexeme has this text
   pub meaning : (b : Body) {k : ℕ} {t : List ℕ} → Stands s c → c .kind ≡ k → 1 < k → Means s k (c .start) (c .end) t
-      → ((xs : List Lexeme) → choose g (rule power q (sight c xs n k (says t))) ≡ b) → Seg g s d from e v (state (goto q) n c w o) → Seg g s d from e v (state b n c w o)
+      → ((xs : List Lexeme) → choose g (rule (power g) q (sight c xs n k (says t))) ≡ b) → Seg g s d from e v (state (goto q) n c w o) → Seg g s d from e v (state b n c w o)
   meaning b {k} {t} st i h m f p =
       let m′ = subst⁻¹ (λ (j : ℕ). Means s j (c .start) (c .end) t) i m in
-      Steps.goes b st (λ xs y. seen power g q n y i (says-it (y .says (λ z. omega (arith, z, i, h))) m′) ∙ f xs) p
+      Steps.goes b st (λ xs y. seen (power g) g q n y i (says-it (y .says (λ z. omega (arith, z, i, h))) m′) ∙ f xs) p
 
   -- and this one has none
   pub meaningless : (b : Body) {k : ℕ} → Stands s c → c .kind ≡ k → 1 < k → ((t : List ℕ) → Means s (c .kind) (c .start) (c .end) t → ⊥)
-      → ((xs : List Lexeme) → choose g (rule power q (sight c xs n k nothing)) ≡ b) → Seg g s d from e v (state (goto q) n c w o) → Seg g s d from e v (state b n c w o)
-  meaningless b {k} st i h m f p = Steps.goes b st (λ xs y. seen power g q n y i (says-nothing (y .says (λ z. omega (arith, z, i, h))) m) ∙ f xs) p
+      → ((xs : List Lexeme) → choose g (rule (power g) q (sight c xs n k nothing)) ≡ b) → Seg g s d from e v (state (goto q) n c w o) → Seg g s d from e v (state b n c w o)
+  meaningless b {k} st i h m f p = Steps.goes b st (λ xs y. seen (power g) g q n y i (says-nothing (y .says (λ z. omega (arith, z, i, h))) m) ∙ f xs) p

@@ -19,8 +19,8 @@ use Rattle.phrases.specs.declared.Answer.{Answer}
 use Rattle.phrases.specs.declared.Answer.the-variants.{Done, Broken}
 
 -- "prefix 20"
-abbrev pub power : ℕ
-power = 20
+abbrev pub power : ℕ → ℕ
+power g = 20
 
 -- Where a phrase may start, with w bytes of image written: an image has at most 32 bytes for each byte that is read.
 pub record Ready (s : List ℕ) (c : Cursor) (w : ℕ) : Type 0 where
@@ -43,7 +43,7 @@ state b n c w o = record { body = b; count = n; cursor = c; written = w; out = o
 pub record Comes (g : ℕ) (s : List ℕ) (d : ℕ) (b : Body) (ts : Trees) (p : ℕ) (xs : List Lexeme) (b₁ : Body) (ts₁ : Trees) (p₁ : ℕ) : Type 0 where
   pub left : List Lexeme
   pub kept : Left s p₁ left
-  pub back : (o : Outcome) → Reading power g b₁ ts₁ d p₁ left o → Reading power g b ts d p xs o
+  pub back : (o : Outcome) → Reading (power g) g b₁ ts₁ d p₁ left o → Reading (power g) g b ts d p xs o
 
 -- A stretch of a phrase, at d levels of depth: from one state to a later one, whatever trees it had. It has surely taken e bytes, and has
 -- written v bytes beyond 32 for each other byte that it has taken.
@@ -64,7 +64,7 @@ pub record Seg (g : ℕ) (s : List ℕ) (d : ℕ) (from : State) (e v : ℕ) (to
 pub record Stops (g : ℕ) (s : List ℕ) (d : ℕ) (b : Body) (ts : Trees) (p : ℕ) (xs : List Lexeme) (r : Refusal) : Type 0 where
   pub left : List Lexeme
   pub kept : Left s (r .place .at) left
-  pub reading : Reading power g b ts d p xs (broken (r .number) (r .place .at) left (r .detail))
+  pub reading : Reading (power g) g b ts d p xs (broken (r .number) (r .place .at) left (r .detail))
 
 -- 01's details: number 5 has a kind, 6 and 8 have theirs, and 7, 9, 10 and 11 have 0.
 unfoldable pub sorted : ℕ → ℕ → Bool

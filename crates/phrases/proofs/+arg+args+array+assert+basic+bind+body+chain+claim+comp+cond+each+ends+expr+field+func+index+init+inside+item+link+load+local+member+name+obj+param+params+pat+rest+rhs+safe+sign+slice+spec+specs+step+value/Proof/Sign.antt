@@ -72,7 +72,7 @@ expr-requires t c κs =
     let g = args′ .set in
     let s = args′ .src .now in
     let begin = Steps.at g s (args′ .left) (goto (expr least)) 0 (args′ .c) (args′ .w) (args′ .out .now) in
-    let signed = Steps.known (eat (args′ .c .kind) ▸ deep (expr power) ▸ close 12 (byte o ∷ []) ▸ goto (infix-tail least)) st refl (λ xs t. a-sign g (args′ .c) xs 0 least (args′ .c .kind) t (unary-op′ .ensures) (p′ .given .1)) begin in
+    let signed = Steps.known (eat (args′ .c .kind) ▸ deep (expr (power g)) ▸ close 12 (byte o ∷ []) ▸ goto (infix-tail least)) st refl (λ xs t. a-sign g (args′ .c) xs 0 least (args′ .c .kind) t (unary-op′ .ensures) (p′ .given .1)) begin in
     let opened = Steps.taken (sign-kind (unary-op′ .ensures) (p′ .given .1)) st (eat-any′ .ensures) refl signed in
     (omega (arith, pre′ .0), Steps.ready (pre′ .1) (lit≤ tt) opened)
 
@@ -103,7 +103,7 @@ returns-2 t c =
     let g = args′ .set in
     let s = args′ .src .now in
     let begin = Steps.at g s (args′ .left) (goto (expr least)) 0 (args′ .c) (args′ .w) (args′ .out .now) in
-    let signed = Steps.known (eat (args′ .c .kind) ▸ deep (expr power) ▸ close 12 (byte o ∷ []) ▸ goto (infix-tail least)) st refl (λ xs t. a-sign g (args′ .c) xs 0 least (args′ .c .kind) t (unary-op′ .ensures) (p′ .given .1)) begin in
+    let signed = Steps.known (eat (args′ .c .kind) ▸ deep (expr (power g)) ▸ close 12 (byte o ∷ []) ▸ goto (infix-tail least)) st refl (λ xs t. a-sign g (args′ .c) xs 0 least (args′ .c .kind) t (unary-op′ .ensures) (p′ .given .1)) begin in
     let opened = Steps.taken (sign-kind (unary-op′ .ensures) (p′ .given .1)) st (eat-any′ .ensures) refl signed in
     Steps.passed (Steps.takes-broken (expr′ .ensures) (match2′ .keys2)) opened
 
@@ -122,7 +122,7 @@ put-flag-requires t c κs =
     let g = args′ .set in
     let s = args′ .src .now in
     let begin = Steps.at g s (args′ .left) (goto (expr least)) 0 (args′ .c) (args′ .w) (args′ .out .now) in
-    let signed = Steps.known (eat (args′ .c .kind) ▸ deep (expr power) ▸ close 12 (byte o ∷ []) ▸ goto (infix-tail least)) st refl (λ xs t. a-sign g (args′ .c) xs 0 least (args′ .c .kind) t (unary-op′ .ensures) (p′ .given .1)) begin in
+    let signed = Steps.known (eat (args′ .c .kind) ▸ deep (expr (power g)) ▸ close 12 (byte o ∷ []) ▸ goto (infix-tail least)) st refl (λ xs t. a-sign g (args′ .c) xs 0 least (args′ .c .kind) t (unary-op′ .ensures) (p′ .given .1)) begin in
     let opened = Steps.taken (sign-kind (unary-op′ .ensures) (p′ .given .1)) st (eat-any′ .ensures) refl signed in
     let value = Steps.took (expr′ .ensures) (a′ .given .1) opened in
     Steps.fits (pre′ .1) (lit≤ tt) value
@@ -148,7 +148,7 @@ returns-3 t c =
     let g = args′ .set in
     let s = args′ .src .now in
     let begin = Steps.at g s (args′ .left) (goto (expr least)) 0 (args′ .c) (args′ .w) (args′ .out .now) in
-    let signed = Steps.known (eat (args′ .c .kind) ▸ deep (expr power) ▸ close 12 (byte o ∷ []) ▸ goto (infix-tail least)) st refl (λ xs t. a-sign g (args′ .c) xs 0 least (args′ .c .kind) t (unary-op′ .ensures) (p′ .given .1)) begin in
+    let signed = Steps.known (eat (args′ .c .kind) ▸ deep (expr (power g)) ▸ close 12 (byte o ∷ []) ▸ goto (infix-tail least)) st refl (λ xs t. a-sign g (args′ .c) xs 0 least (args′ .c .kind) t (unary-op′ .ensures) (p′ .given .1)) begin in
     let opened = Steps.taken (sign-kind (unary-op′ .ensures) (p′ .given .1)) st (eat-any′ .ensures) refl signed in
     let value = Steps.took (expr′ .ensures) (a′ .given .1) opened in
     Steps.ends (lit≤ tt) (Steps.closed 4 (lit≤ tt) (put-flag′ .ensures) value)
