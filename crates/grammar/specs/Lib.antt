@@ -1,3 +1,4 @@
+pub mod Tags
 pub mod Trees
 pub mod Image
 pub mod Lexemes

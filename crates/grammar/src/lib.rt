@@ -1,3 +1,4 @@
 // The grammar: 01's phrases as derivations (specs/), what follows from them (proofs/), and the code that the phrase functions lean on.
 pub mod operators; // operators by their kinds
+pub mod tags; // the tags of records
 pub mod writers; // records into a lent output
