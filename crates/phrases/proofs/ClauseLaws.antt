@@ -18,16 +18,16 @@ use Rattle.grammar.specs.Lexemes.{Lexeme, Said, says, said, rest, kind-of, word
 use Rattle.grammar.specs.Productions.{Phrase, Body, end, goto, _▸_, eat, sub, deep, close, rule, expression, exp-object-iteration, for-clause, pattern, header, iteration, iteration-value, clauses, more-clauses, if-clause, members, next-member, comprehension, Step, array-first, array-comp, elements}
 use Rattle.grammar.specs.Reading.{has, choose, view, production, Outcome, Reading, gone as read-gone}
 use Rattle.grammar.proofs.Chosen.{pick-yes, pick-no}
-use Rattle.phrases.specs.Lexing.{Stands, Moved, Header, header as is-header, off, no-bracket, no-key, not-closed, no-colon, Colons, none-more, one-more, two-more, Past, past, same, Clauses, at-for, comma-for, neither, comma-alone}
-use Rattle.phrases.specs.Meets.{power, State, state, Seg, Breaks, Leads, Takes, Counted, Counts, Joins}
-use Rattle.phrases.proofs.LexemeLaws.{lies, Sees, sees, sees-next, sight, seen, name-says, moved-once}
-use Rattle.phrases.proofs.PartLaws.{wrote-lent}
-use Rattle.phrases.proofs.Answer.{the-type}
-use Rattle.phrases.proofs.Steps
-use Rattle.phrases.specs.declared.Cursor.{Cursor}
-use Rattle.phrases.specs.declared.Refusal.{Refusal}
-use Rattle.phrases.specs.declared.Answer.{Answer}
-use Rattle.phrases.specs.declared.Answer.the-variants.{Done, Broken}
+use Rattle.leaves.specs.Lexing.{Stands, Moved, Header, header as is-header, off, no-bracket, no-key, not-closed, no-colon, Colons, none-more, one-more, two-more, Past, past, same, Clauses, at-for, comma-for, neither, comma-alone}
+use Rattle.leaves.specs.Meets.{power, State, state, Seg, Breaks, Leads, Takes, Counted, Counts, Joins}
+use Rattle.leaves.proofs.LexemeLaws.{lies, Sees, sees, sees-next, sight, seen, name-says, moved-once}
+use Rattle.leaves.proofs.PartLaws.{wrote-lent}
+use Rattle.leaves.proofs.Answer.{the-type}
+use Rattle.leaves.proofs.Steps
+use Rattle.leaves.specs.declared.Cursor.{Cursor}
+use Rattle.leaves.specs.declared.Refusal.{Refusal}
+use Rattle.leaves.specs.declared.Answer.{Answer}
+use Rattle.leaves.specs.declared.Answer.the-variants.{Done, Broken}
 
 -- ── Tests ─────────────────────────────────────────────────────────────────────────────────────────
 

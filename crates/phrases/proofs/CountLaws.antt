@@ -9,12 +9,12 @@ use Rattle.grammar.specs.Trees.{Trees, none, node, count as size}
 use Rattle.grammar.specs.Image.{image}
 use Rattle.grammar.specs.Productions.{Phrase, Step, Body, end, goto, _▸_}
 use Rattle.grammar.proofs.ImageLaws.{image-length}
-use Rattle.phrases.specs.Meets.{State, state, Seg, Breaks, Takes, Counted, Counts, Joins, Argues}
-use Rattle.phrases.proofs.Steps
-use Rattle.phrases.specs.declared.Cursor.{Cursor}
-use Rattle.phrases.specs.declared.Refusal.{Refusal}
-use Rattle.phrases.specs.declared.Answer.{Answer}
-use Rattle.phrases.specs.declared.Answer.the-variants.{Done, Broken}
+use Rattle.leaves.specs.Meets.{State, state, Seg, Breaks, Takes, Counted, Counts, Joins, Argues}
+use Rattle.leaves.proofs.Steps
+use Rattle.leaves.specs.declared.Cursor.{Cursor}
+use Rattle.leaves.specs.declared.Refusal.{Refusal}
+use Rattle.leaves.specs.declared.Answer.{Answer}
+use Rattle.leaves.specs.declared.Answer.the-variants.{Done, Broken}
 
 -- ── What adds a tree and owes nothing takes a byte: the tree's image is paid for ──────────────────
 

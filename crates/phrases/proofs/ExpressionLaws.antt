@@ -21,11 +21,11 @@ use Rattle.grammar.specs.declared.operators.Infix.the-variants.{Binary, NoInfix
 use Rattle.grammar.proofs.operators.Infix as infix-enum
 use Rattle.grammar.proofs.Chosen.{and-left, and-right, pick-yes, pick-no}
 use Rattle.grammar.proofs.OperatorLaws.{signed, prefix-chosen, looped}
-use Rattle.phrases.specs.Operators.{infix-in, infix-under}
-use Rattle.phrases.specs.Lexing.{Imports}
-use Rattle.phrases.specs.Meets.{power}
-use Rattle.phrases.proofs.LexemeLaws.{sight}
-use Rattle.phrases.specs.declared.Cursor.{Cursor}
+use Rattle.leaves.specs.Operators.{infix-in, infix-under}
+use Rattle.leaves.specs.Lexing.{Imports}
+use Rattle.leaves.specs.Meets.{power}
+use Rattle.leaves.proofs.LexemeLaws.{sight}
+use Rattle.leaves.specs.declared.Cursor.{Cursor}
 
 -- ── Prefix operators ──────────────────────────────────────────────────────────────────────────────
 

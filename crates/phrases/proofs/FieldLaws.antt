@@ -15,16 +15,16 @@ use Rattle.grammar.specs.Trees.{Trees, none, node, byte, number, span, count as
 use Rattle.grammar.specs.Lexemes.{Lexeme, rest, kind-of}
 use Rattle.grammar.specs.Productions.{Phrase, Step, Body, end, goto, _▸_, eat, close, rule, row, _∣_, otherwise, always, expression, field-value}
 use Rattle.grammar.specs.Reading.{Outcome, done, Reading, ended, gone as read-gone, eaten, production, view, choose, has}
-use Rattle.phrases.specs.Lexing.{Left, Stands, Moved, Colons, none-more, one-more, two-more}
-use Rattle.phrases.specs.Meets.{Ready, power, State, state, Seg, Breaks, Takes, Counted, Counts, Eats, bound}
-use Rattle.phrases.proofs.LexemeLaws.{Sees, sees, sees-next}
-use Rattle.phrases.proofs.LeafLaws.{ate-stands}
-use Rattle.phrases.proofs.Answer.{the-type}
-use Rattle.phrases.proofs.Steps
-use Rattle.phrases.specs.declared.Cursor.{Cursor}
-use Rattle.phrases.specs.declared.Refusal.{Refusal}
-use Rattle.phrases.specs.declared.Answer.{Answer}
-use Rattle.phrases.specs.declared.Answer.the-variants.{Done, Broken}
+use Rattle.leaves.specs.Lexing.{Left, Stands, Moved, Colons, none-more, one-more, two-more}
+use Rattle.leaves.specs.Meets.{Ready, power, State, state, Seg, Breaks, Takes, Counted, Counts, Eats, bound}
+use Rattle.leaves.proofs.LexemeLaws.{Sees, sees, sees-next}
+use Rattle.leaves.proofs.LeafLaws.{ate-stands}
+use Rattle.leaves.proofs.Answer.{the-type}
+use Rattle.leaves.proofs.Steps
+use Rattle.leaves.specs.declared.Cursor.{Cursor}
+use Rattle.leaves.specs.declared.Refusal.{Refusal}
+use Rattle.leaves.specs.declared.Answer.{Answer}
+use Rattle.leaves.specs.declared.Answer.the-variants.{Done, Broken}
 
 -- ── Three productions, by how many of three tests hold ────────────────────────────────────────────
 

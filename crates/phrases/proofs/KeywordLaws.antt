@@ -11,15 +11,15 @@ use Rattle.grammar.specs.Lexemes.{Lexeme, Said}
 use Rattle.grammar.specs.Productions.{Body, end, goto, fail, _▸_, eat, sub, close, rule, expression}
 use Rattle.grammar.specs.Productions.{basic, params, else-part, function-body, assertion, condition, asserted, pattern, param, param-default, array-comp, array-comp-end, clauses, comprehension, comprehension-end}
 use Rattle.grammar.specs.Reading.{has, choose}
-use Rattle.phrases.specs.Lexing.{Stands, Imports, normal, string, binary}
-use Rattle.phrases.specs.Meets.{state, Leads, Counts}
-use Rattle.phrases.proofs.Steps
-use Rattle.phrases.proofs.Answer.{the-type}
-use Rattle.phrases.specs.declared.Answer.{Answer}
+use Rattle.leaves.specs.Lexing.{Stands, Imports, normal, string, binary}
+use Rattle.leaves.specs.Meets.{state, Leads, Counts}
+use Rattle.leaves.proofs.Steps
+use Rattle.leaves.proofs.Answer.{the-type}
+use Rattle.leaves.specs.declared.Answer.{Answer}
 use denote.Enum.Declared.{tagOf}
-use Rattle.phrases.proofs.LexemeLaws.{sight}
-use Rattle.phrases.proofs.LeafRules.{is}
-use Rattle.phrases.specs.declared.Cursor.{Cursor}
+use Rattle.leaves.proofs.LexemeLaws.{sight}
+use Rattle.leaves.proofs.LeafRules.{is}
+use Rattle.leaves.specs.declared.Cursor.{Cursor}
 
 pub import-some : {k b : ℕ} → Imports k b → 1 < k
 import-some normal = lit< tt

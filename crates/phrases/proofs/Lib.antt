@@ -1,11 +1,4 @@
-pub mod LexemeLaws
-pub mod Steps
 pub mod CountLaws
-pub mod FoundLaws
-pub mod PartLaws
-pub mod TextLaws
-pub mod LeafRules
-pub mod LeafLaws
 pub mod ExpressionLaws
 pub mod KeywordLaws
 pub mod PatternLaws

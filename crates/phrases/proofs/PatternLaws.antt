@@ -17,16 +17,16 @@ use Rattle.grammar.specs.Lexemes.{Lexeme, Said, says, said, kind-of, word-of}
 use Rattle.grammar.specs.Productions.{Phrase, Body, Step, end, goto, _▸_, eat, sub, deep, close, rule, expression}
 use Rattle.grammar.specs.Productions.{pattern, array-pattern, object-pattern, pattern-starts, pattern-starts-end, array-rest, array-rest-end, pattern-ends, pattern-ends-end, array-pattern-close, pattern-field, pattern-into, pattern-default, default-value, default-end, pattern-fields, pattern-fields-end, object-pattern-close, object-rest}
 use Rattle.grammar.specs.Reading.{has, choose, production, view, done, broken, Reading, ended, gone, eaten}
-use Rattle.phrases.specs.Lexing.{Stands, Moved}
-use Rattle.phrases.specs.Meets.{power, state, Seg, Eats, Breaks, Leads, Takes}
-use Rattle.phrases.proofs.Answer.{the-type}
-use Rattle.phrases.proofs.LexemeLaws.{sight, lies, sees, name-says}
-use Rattle.phrases.proofs.LeafRules.{is}
-use Rattle.phrases.proofs.Steps
-use Rattle.phrases.specs.declared.Cursor.{Cursor}
-use Rattle.phrases.specs.declared.Refusal.{Refusal}
-use Rattle.phrases.specs.declared.Answer.{Answer}
-use Rattle.phrases.specs.declared.Answer.the-variants.{Done, Broken}
+use Rattle.leaves.specs.Lexing.{Stands, Moved}
+use Rattle.leaves.specs.Meets.{power, state, Seg, Eats, Breaks, Leads, Takes}
+use Rattle.leaves.proofs.Answer.{the-type}
+use Rattle.leaves.proofs.LexemeLaws.{sight, lies, sees, name-says}
+use Rattle.leaves.proofs.LeafRules.{is}
+use Rattle.leaves.proofs.Steps
+use Rattle.leaves.specs.declared.Cursor.{Cursor}
+use Rattle.leaves.specs.declared.Refusal.{Refusal}
+use Rattle.leaves.specs.declared.Answer.{Answer}
+use Rattle.leaves.specs.declared.Answer.the-variants.{Done, Broken}
 
 module _ (g : ℕ) (c : Cursor) (xs : List Lexeme) (n : ℕ) where
   -- ── The rest of an array ────────────────────────────────────────────────────────────────────────

@@ -21,15 +21,15 @@ use Rattle.grammar.specs.Writing.{Wrote}
 use Rattle.grammar.specs.Reading.{choose, has}
 use Rattle.grammar.specs.Productions.{Body, end, goto, fail, _▸_, eat, sub, close, rule, expression, arguments, argument, argument-end, call-close, named-argument, suffix, member-name, bracket as bracket-phrase, inside, exp-null-coaelse}
 use Rattle.grammar.proofs.Chosen.{pick-yes, pick-no}
-use Rattle.phrases.specs.Lexing.{Stands, Moved, Named, named, no-name, no-value, Suffixed, mark, dot, bracket, paren, brace, no-mark, none as no-suffix}
-use Rattle.phrases.specs.Meets.{power, State, state, Seg, Takes, Tells, TellsSome, Breaks, Argues, sorted, safely}
-use Rattle.phrases.proofs.LexemeLaws.{lies, Sees, sees-next, sight, seen, moved-once}
-use Rattle.phrases.proofs.LeafLaws.{done-once, not-both}
-use Rattle.phrases.proofs.Steps
-use Rattle.phrases.specs.declared.Cursor.{Cursor}
-use Rattle.phrases.specs.declared.Refusal.{Refusal}
-use Rattle.phrases.specs.declared.Answer.{Answer}
-use Rattle.phrases.specs.declared.Answer.the-variants.{Done, Broken}
+use Rattle.leaves.specs.Lexing.{Stands, Moved, Named, named, no-name, no-value, Suffixed, mark, dot, bracket, paren, brace, no-mark, none as no-suffix}
+use Rattle.leaves.specs.Meets.{power, State, state, Seg, Takes, Tells, TellsSome, Breaks, Argues, sorted, safely}
+use Rattle.leaves.proofs.LexemeLaws.{lies, Sees, sees-next, sight, seen, moved-once}
+use Rattle.leaves.proofs.LeafLaws.{done-once, not-both}
+use Rattle.leaves.proofs.Steps
+use Rattle.leaves.specs.declared.Cursor.{Cursor}
+use Rattle.leaves.specs.declared.Refusal.{Refusal}
+use Rattle.leaves.specs.declared.Answer.{Answer}
+use Rattle.leaves.specs.declared.Answer.the-variants.{Done, Broken}
 
 -- ── Arguments ─────────────────────────────────────────────────────────────────────────────────────
 

@@ -5,21 +5,23 @@ ghost use mathlib.Core.List.{[], _∷_};
 ghost use Prim.Native.Nat.{_+_, _-_, _≤_, _<_};
 ghost use lib.ListN.{length};
 ghost use lib.Seq.{slice as part};
+ghost use Rattle.lexemes.specs.Kinds.{IF-KW, FUNCTION-KW, FOR-KW, ASSERT-KW};
 ghost use Rattle.grammar.specs.Trees.{span};
 ghost use Rattle.grammar.specs.Productions.{goto, end, sub, deep, expr as exprPhrase, infix-tail, suffixed, suffix as suffixPhrase, bracket, slice-end, slice-step, arguments, basic as basicPhrase, array as arrayPhrase, inside as insidePhrase, comprehension, clauses, for-clause, assertion};
 ghost use Rattle.grammar.specs.Productions.{member as memberPhrase, field as fieldPhrase, field-value, params as paramsPhrase, param as paramPhrase, binds, local-body, bind as bindPhrase, pattern, array-rest, array-rest-end, pattern-fields, pattern-field, pattern-default};
-ghost use Rattle.phrases.specs.Lexing.{Named, Header as HeaderAt, Imports, Suffixed};
-ghost use Rattle.phrases.specs.Meets.{Ready, state, Leads, LeadsAny, Takes, TakesSome, Counts, Tells, TellsSome, TellsAny, Joins, Argues, suffixes, titled, bound as bound-by, safely};
-
-pub mod parser; // Parser and its methods
-pub mod leaves; // phrases that read no other phrase
-pub mod operators; // binary operators under a setting
-pub mod records; // records written from structs
-
+ghost use Rattle.leaves.specs.Lexing.{Named, Header as HeaderAt, Imports, Suffixed};
+ghost use Rattle.leaves.specs.Meets.{Ready, state, Leads, LeadsAny, Takes, TakesSome, Counts, Tells, TellsSome, TellsAny, Joins, Argues, suffixes, titled, bound as bound-by, safely};
 use grammar::operators::Infix;
 use grammar::operators::Prefix;
 use grammar::operators::unary_op;
+use grammar::tags::Tag;
 use grammar::writers;
+use leaves::Answer;
+use leaves::Cursor;
+use leaves::WithComputed;
+use leaves::WithCount;
+use leaves::WithFault;
+use leaves::WithFirst;
 use leaves::array_close;
 use leaves::array_pattern_close;
 use leaves::call_close;
@@ -27,43 +29,27 @@ use leaves::member_name;
 use leaves::members_close;
 use leaves::object_pattern_close;
 use leaves::object_rest;
+use leaves::operators;
+use leaves::parser::NAME;
+use leaves::parser::clauses_at;
+use leaves::parser::eat;
+use leaves::parser::eat_any;
+use leaves::parser::error;
+use leaves::parser::header_at;
+use leaves::parser::named_at;
+use leaves::parser::suffix_at;
 use leaves::past_comma;
+use leaves::records;
+use leaves::records::Header;
+use leaves::records::Span;
 use leaves::slice_close;
 use leaves::visibility;
 use leaves::with_assert;
 use leaves::with_field;
 use lexemes::kinds::Kind;
-use parser::clauses_at;
-use parser::eat;
-use parser::eat_any;
-use parser::error;
-use parser::header_at;
-use parser::named_at;
-use parser::suffix_at;
-use records::Header;
-use records::Span;
 
-// Where a phrase reads: where the last lexeme ended, and the next kept lexeme, EOF where none is left.
-pub struct Cursor {
-    pub at: usize,
-    pub kind: u8,
-    pub start: usize,
-    pub end: usize,
-}
-
-// A phrase broken off: 01's number and detail, and where.
-pub struct Refusal {
-    pub number: u8,
-    pub place: Cursor,
-    pub detail: u8,
-}
-
-// A phrase's answer: where it ended and how long the image is then; and a number that some phrases tell, how many records they wrote or
-// what comes next.
-pub enum Answer {
-    Done(Cursor, usize, usize),
-    Broken(Refusal),
-}
+// prefix_binding_power
+const PREFIX_POWER: u8 = 20;
 
 // assert_stmt: assertion, condition, asserted.
 fn assert(src: &[u8], out: &mut [u8], c: Cursor, w: usize, left: usize, set: u64) -> Answer
@@ -81,20 +67,20 @@ fn assert(src: &[u8], out: &mut [u8], c: Cursor, w: usize, left: usize, set: u64
     };
     let to = c2.at;
     if c2.kind != Kind::COLON {
-        let w3 = writers::put_marked(out, w2, 32, from, to, 0);
+        let w3 = writers::put_marked(out, w2, Tag::ASSERT, from, to, 0);
         return Answer::Done(c2, w3, 1);
     }
     let d = expr(src, out, eat_any(src, c2), w2, left, set, 0);
     let Answer::Done(c3, w3, _) = d else {
         return d;
     };
-    let w4 = writers::put_marked(out, w3, 32, from, to, 1);
+    let w4 = writers::put_marked(out, w3, Tag::ASSERT, from, to, 1);
     Answer::Done(c3, w4, 1)
 }
 
 // if_else, with if_spec_data's `if`: basic at `if`, else-part.
 fn cond(src: &[u8], out: &mut [u8], c: Cursor, w: usize, left: usize, set: u64) -> Answer
-    requires { ⌜ Ready (now src) c w × (c .kind ≡ 71) ⌝ }
+    requires { ⌜ Ready (now src) c w × (c .kind ≡ IF-KW) ⌝ }
     ensures { λ r. ⌜ Leads set (now (src .entry)) left (state (goto basicPhrase) 0 c w (now (out .entry))) 0 end 1 r (now (out .exit)) ⌝ }
 {
     let a = expr(src, out, eat_any(src, c), w, left, set, 0);
@@ -110,14 +96,14 @@ fn cond(src: &[u8], out: &mut [u8], c: Cursor, w: usize, left: usize, set: u64) 
         return d;
     };
     if c3.kind != Kind::ELSE_KW {
-        let w4 = writers::put_marked(out, w3, 22, c.start, c.end, 0);
+        let w4 = writers::put_marked(out, w3, Tag::IF, c.start, c.end, 0);
         return Answer::Done(c3, w4, 1);
     }
     let e = expr(src, out, eat_any(src, c3), w3, left, set, 0);
     let Answer::Done(c4, w4, _) = e else {
         return e;
     };
-    let w5 = writers::put_marked(out, w4, 22, c.start, c.end, 1);
+    let w5 = writers::put_marked(out, w4, Tag::IF, c.start, c.end, 1);
     Answer::Done(c4, w5, 1)
 }
 
@@ -131,7 +117,7 @@ fn slice(
     set: u64,
     parts: u8,
     x: Span,
-) -> Answer
+) -> WithFirst
     requires { ⌜ Ready (now src) c w × (parts ≤ 1) × (x .start < 65536) × (x .end < 65536) ⌝ }
     ensures { λ r. ⌜ TellsAny set (now (src .entry)) left (goto (slice-end parts (x .start) (x .end))) c w (now (out .entry)) suffixes 1 r (now (out .exit)) ⌝ }
 {
@@ -167,7 +153,7 @@ fn step(
     parts: u8,
     x: Span,
     y: Span,
-) -> Answer
+) -> WithFirst
     requires { ⌜ Ready (now src) c w × (parts ≤ 3) × (x .start < 65536) × (x .end < 65536) × (y .start < 65536) × (y .end < 65536) ⌝ }
     ensures { λ r. ⌜ TellsAny set (now (src .entry)) left (goto (slice-step parts (x .start) (x .end) (y .start) (y .end))) c w (now (out .entry)) suffixes 1 r (now (out .exit)) ⌝ }
 {
@@ -197,7 +183,7 @@ fn pat(src: &[u8], out: &mut [u8], c: Cursor, w: usize, left: usize, set: u64) -
         }
     }
     if set % 2 != 1 {
-        return error(c, 5, Kind::IDENT);
+        return error(c, 5, NAME);
     }
     if left == 0 {
         return error(c, 11, 0);
@@ -359,8 +345,8 @@ fn init(
     Answer::Done(c2, w3, 1)
 }
 
-// params: params, params-end. Tells how many they are.
-fn params(src: &[u8], out: &mut [u8], c: Cursor, w: usize, left: usize, set: u64) -> Answer
+// params: params, params-end.
+fn params(src: &[u8], out: &mut [u8], c: Cursor, w: usize, left: usize, set: u64) -> WithCount
     requires { ⌜ Ready (now src) c w ⌝ }
     ensures { λ r. ⌜ Counts set (now (src .entry)) paramsPhrase 4 left c w (now (out .entry)) r (now (out .exit)) ⌝ }
 {
@@ -369,7 +355,7 @@ fn params(src: &[u8], out: &mut [u8], c: Cursor, w: usize, left: usize, set: u64
     let mut n: usize = 0;
     loop {
         if cur.kind == Kind::R_PAREN {
-            return Answer::Done(cur, at, n);
+            return WithCount::Done(cur, at, n);
         }
         let a = param(src, out, cur, at, left, set);
         let Answer::Done(c1, w1, _) = a else {
@@ -378,7 +364,7 @@ fn params(src: &[u8], out: &mut [u8], c: Cursor, w: usize, left: usize, set: u64
         n += 1;
         at = w1;
         if c1.kind != Kind::COMMA {
-            return Answer::Done(c1, at, n);
+            return WithCount::Done(c1, at, n);
         }
         cur = eat_any(src, c1);
     }
@@ -394,14 +380,14 @@ fn param(src: &[u8], out: &mut [u8], c: Cursor, w: usize, left: usize, set: u64)
         return a;
     };
     if c1.kind != Kind::ASSIGN {
-        let w2 = writers::put_flag(out, w1, 30, 0);
+        let w2 = writers::put_flag(out, w1, Tag::PARAMETER, 0);
         return Answer::Done(c1, w2, 1);
     }
     let b = expr(src, out, eat_any(src, c1), w1, left, set, 0);
     let Answer::Done(c2, w2, _) = b else {
         return b;
     };
-    let w3 = writers::put_flag(out, w2, 30, 1);
+    let w3 = writers::put_flag(out, w2, Tag::PARAMETER, 1);
     Answer::Done(c2, w3, 1)
 }
 
@@ -414,7 +400,7 @@ fn args(
     left: usize,
     set: u64,
     from: usize,
-) -> Answer
+) -> WithFirst
     requires { ⌜ Ready (now src) c w × (from < 65536) ⌝ }
     ensures { λ r. ⌜ Tells set (now (src .entry)) left (state (goto (arguments from 0 0)) 1 c w (now (out .entry))) suffixes 1 r (now (out .exit)) ⌝ }
 {
@@ -468,7 +454,7 @@ fn arg(
     };
     let from = c.start;
     let to = c.end;
-    let w3 = writers::put_word(out, w2, 19, &src[from..to]);
+    let w3 = writers::put_word(out, w2, Tag::NAMED_ARGUMENT, &src[from..to]);
     Answer::Done(c2, w3, 1)
 }
 
@@ -486,13 +472,13 @@ fn bind(src: &[u8], out: &mut [u8], c: Cursor, w: usize, left: usize, set: u64) 
     }
     let from = c.start;
     let to = c.end;
-    let w1 = writers::put_name(out, w, 25, from, to, &src[from..to]);
+    let w1 = writers::put_name(out, w, Tag::NAME_PATTERN, from, to, &src[from..to]);
     let c1 = eat_any(src, c);
     if c1.kind != Kind::L_PAREN {
         return rhs(src, out, c1, w1, left, set, 0, 0);
     }
     let b = params(src, out, eat_any(src, c1), w1, left, set);
-    let Answer::Done(c2, w2, n) = b else {
+    let WithCount::Done(c2, w2, n) = b else {
         return b;
     };
     let d = eat(src, c2, w2, Kind::R_PAREN);
@@ -528,8 +514,8 @@ fn rhs(
     Answer::Done(c2, w3, 1)
 }
 
-// field_name: field up to its name. Tells whether it is computed.
-fn name(src: &[u8], out: &mut [u8], c: Cursor, w: usize, left: usize, set: u64) -> Answer
+// field_name: field up to its name.
+fn name(src: &[u8], out: &mut [u8], c: Cursor, w: usize, left: usize, set: u64) -> WithComputed
     requires { ⌜ Ready (now src) c w ⌝ }
     ensures { λ r. ⌜ Tells set (now (src .entry)) left (state (goto fieldPhrase) 0 c w (now (out .entry))) (titled (c .start)) 1 r (now (out .exit)) ⌝ }
 {
@@ -544,7 +530,7 @@ fn name(src: &[u8], out: &mut [u8], c: Cursor, w: usize, left: usize, set: u64) 
     let Answer::Done(c2, w2, _) = b else {
         return b;
     };
-    Answer::Done(c2, w2, 1)
+    WithComputed::Done(c2, w2, 1)
 }
 
 // field: field, field-named.
@@ -553,14 +539,14 @@ fn field(src: &[u8], out: &mut [u8], c: Cursor, w: usize, left: usize, set: u64)
     ensures { λ r. ⌜ Takes set (now (src .entry)) (sub fieldPhrase) 1 0 left c w (now (out .entry)) r (now (out .exit)) ⌝ }
 {
     let a = name(src, out, c, w, left, set);
-    let Answer::Done(c1, w1, computed) = a else {
+    let WithComputed::Done(c1, w1, computed) = a else {
         return a;
     };
     let start = c.start;
     let end = c1.at;
     if c1.kind == Kind::L_PAREN {
         let b = params(src, out, eat_any(src, c1), w1, left, set);
-        let Answer::Done(c2, w2, n) = b else {
+        let WithCount::Done(c2, w2, n) = b else {
             return b;
         };
         let d = eat(src, c2, w2, Kind::R_PAREN);
@@ -626,7 +612,7 @@ fn value(
     Answer::Done(c3, w4, 1)
 }
 
-// member: member. Tells the fault of a comprehension of the members so far.
+// member: member.
 fn member(
     src: &[u8],
     out: &mut [u8],
@@ -635,7 +621,7 @@ fn member(
     left: usize,
     set: u64,
     fault: usize,
-) -> Answer
+) -> WithFault
     requires { ⌜ Ready (now src) c w × (fault ≤ 4) ⌝ }
     ensures { λ r. ⌜ Joins set (now (src .entry)) left (goto (memberPhrase fault)) c w (now (out .entry)) r (now (out .exit)) ⌝ }
 {
@@ -644,20 +630,20 @@ fn member(
         let Answer::Done(c1, w1, _) = a else {
             return a;
         };
-        return Answer::Done(c1, w1, fault);
+        return WithFault::Done(c1, w1, fault);
     }
     if c.kind == Kind::ASSERT_KW {
         let a = assert(src, out, c, w, left, set);
         let Answer::Done(c1, w1, _) = a else {
             return a;
         };
-        return Answer::Done(c1, w1, with_assert(fault));
+        return WithFault::Done(c1, w1, with_assert(fault));
     }
     let a = field(src, out, c, w, left, set);
     let Answer::Done(c1, w1, _) = a else {
         return a;
     };
-    Answer::Done(c1, w1, with_field(fault))
+    WithFault::Done(c1, w1, with_field(fault))
 }
 
 // for_spec, after its `for`: for-clause.
@@ -680,7 +666,7 @@ fn spec(src: &[u8], out: &mut [u8], c: Cursor, w: usize, left: usize, set: u64) 
     let Answer::Done(c3, w3, _) = d else {
         return d;
     };
-    let w4 = writers::put_none(out, w3, 33);
+    let w4 = writers::put_none(out, w3, Tag::FOR);
     Answer::Done(c3, w4, 1)
 }
 
@@ -715,9 +701,9 @@ fn each(src: &[u8], out: &mut [u8], c: Cursor, w: usize, left: usize, set: u64) 
     Answer::Done(c4, w5, 1)
 }
 
-// compspecs, if_spec_data, at `for`: clauses, more-clauses, if-clause. Tells how many they are.
-fn specs(src: &[u8], out: &mut [u8], c: Cursor, w: usize, left: usize, set: u64) -> Answer
-    requires { ⌜ Ready (now src) c w × (c .kind ≡ 83) ⌝ }
+// compspecs, if_spec_data, at `for`: clauses, more-clauses, if-clause.
+fn specs(src: &[u8], out: &mut [u8], c: Cursor, w: usize, left: usize, set: u64) -> WithCount
+    requires { ⌜ Ready (now src) c w × (c .kind ≡ FOR-KW) ⌝ }
     ensures { λ r. ⌜ Counts set (now (src .entry)) clauses 0 left c w (now (out .entry)) r (now (out .exit)) ⌝ }
 {
     let mut cur = c;
@@ -735,13 +721,13 @@ fn specs(src: &[u8], out: &mut [u8], c: Cursor, w: usize, left: usize, set: u64)
             continue;
         }
         if cur.kind != Kind::IF_KW {
-            return Answer::Done(cur, at, n);
+            return WithCount::Done(cur, at, n);
         }
         let b = expr(src, out, eat_any(src, cur), at, left, set, 0);
         let Answer::Done(c2, w2, _) = b else {
             return b;
         };
-        at = writers::put_mark(out, w2, 34, cur.start, cur.end);
+        at = writers::put_mark(out, w2, Tag::IF_CLAUSE, cur.start, cur.end);
         n += 1;
         cur = c2;
     }
@@ -761,7 +747,7 @@ fn inside(src: &[u8], out: &mut [u8], c: Cursor, w: usize, left: usize, set: u64
     let mut fault: usize = 4;
     loop {
         let a = member(src, out, cur, at, left, set, fault);
-        let Answer::Done(c1, w1, f) = a else {
+        let WithFault::Done(c1, w1, f) = a else {
             return a;
         };
         n += 1;
@@ -791,15 +777,15 @@ fn comp(
     n: usize,
     fault: usize,
 ) -> Answer
-    requires { ⌜ Ready (now src) c w × (c .kind ≡ 83) × (n ≤ c .at) × (fault ≤ 4) ⌝ }
+    requires { ⌜ Ready (now src) c w × (c .kind ≡ FOR-KW) × (n ≤ c .at) × (fault ≤ 4) ⌝ }
     ensures { λ r. ⌜ Leads set (now (src .entry)) left (state (goto (comprehension fault)) n c w (now (out .entry))) 7 end 1 r (now (out .exit)) ⌝ }
 {
     let a = specs(src, out, c, w, left, set);
-    let Answer::Done(c1, w1, m) = a else {
+    let WithCount::Done(c1, w1, m) = a else {
         return a;
     };
     if fault != 0 {
-        return error(c1, 8, fault as u8);
+        return error(c1, 8, fault);
     }
     let w2 = writers::put_counts(out, w1, n, m);
     Answer::Done(c1, w2, 1)
@@ -836,7 +822,7 @@ fn basic(src: &[u8], out: &mut [u8], c: Cursor, w: usize, left: usize, set: u64)
             let Answer::Done(c1, w1, _) = a else {
                 return a;
             };
-            let w2 = writers::put_mark(out, w1, 17, c.start, c.end);
+            let w2 = writers::put_mark(out, w1, Tag::ERROR, c.start, c.end);
             Answer::Done(c1, w2, 1)
         }
         Kind::IMPORTSTR_KW => load(src, out, c, w, left, set, 1),
@@ -852,7 +838,7 @@ fn array(src: &[u8], out: &mut [u8], c: Cursor, w: usize, left: usize, set: u64)
     ensures { λ r. ⌜ Leads set (now (src .entry)) left (state (goto arrayPhrase) 0 c w (now (out .entry))) 0 end 1 r (now (out .exit)) ⌝ }
 {
     if c.kind == Kind::R_BRACK {
-        return array_close(src, out, c, w, 7, 0);
+        return array_close(src, out, c, w, Tag::ARRAY, 0);
     }
     let a = expr(src, out, c, w, left, set, 0);
     let Answer::Done(c1, w1, _) = a else {
@@ -860,21 +846,21 @@ fn array(src: &[u8], out: &mut [u8], c: Cursor, w: usize, left: usize, set: u64)
     };
     if clauses_at(src, c1) == 1 {
         let d = specs(src, out, past_comma(src, c1), w1, left, set);
-        let Answer::Done(c2, w2, m) = d else {
+        let WithCount::Done(c2, w2, m) = d else {
             return d;
         };
-        return array_close(src, out, c2, w2, 8, m);
+        return array_close(src, out, c2, w2, Tag::ARRAY_COMP, m);
     }
     let mut cur = c1;
     let mut at = w1;
     let mut n: usize = 1;
     loop {
         if cur.kind != Kind::COMMA {
-            return array_close(src, out, cur, at, 7, n);
+            return array_close(src, out, cur, at, Tag::ARRAY, n);
         }
         let next = eat_any(src, cur);
         if next.kind == Kind::R_BRACK {
-            return array_close(src, out, next, at, 7, n);
+            return array_close(src, out, next, at, Tag::ARRAY, n);
         }
         let b = expr(src, out, next, at, left, set, 0);
         let Answer::Done(c2, w2, _) = b else {
@@ -924,13 +910,13 @@ fn body(src: &[u8], out: &mut [u8], c: Cursor, w: usize, left: usize, set: u64, 
     let Answer::Done(c2, w2, _) = b else {
         return b;
     };
-    let w3 = writers::put_count(out, w2, 15, n);
+    let w3 = writers::put_count(out, w2, Tag::LOCAL, n);
     Answer::Done(c2, w3, 1)
 }
 
 // expr_basic's function: basic at `function`, function-body.
 fn func(src: &[u8], out: &mut [u8], c: Cursor, w: usize, left: usize, set: u64) -> Answer
-    requires { ⌜ Ready (now src) c w × (c .kind ≡ 74) ⌝ }
+    requires { ⌜ Ready (now src) c w × (c .kind ≡ FUNCTION-KW) ⌝ }
     ensures { λ r. ⌜ Leads set (now (src .entry)) left (state (goto basicPhrase) 0 c w (now (out .entry))) 0 end 1 r (now (out .exit)) ⌝ }
 {
     let a = eat(src, eat_any(src, c), w, Kind::L_PAREN);
@@ -938,7 +924,7 @@ fn func(src: &[u8], out: &mut [u8], c: Cursor, w: usize, left: usize, set: u64) 
         return a;
     };
     let b = params(src, out, c1, w1, left, set);
-    let Answer::Done(c2, w2, n) = b else {
+    let WithCount::Done(c2, w2, n) = b else {
         return b;
     };
     let d = eat(src, c2, w2, Kind::R_PAREN);
@@ -955,7 +941,7 @@ fn func(src: &[u8], out: &mut [u8], c: Cursor, w: usize, left: usize, set: u64) 
 
 // expr_basic's assert: basic at `assert`.
 fn claim(src: &[u8], out: &mut [u8], c: Cursor, w: usize, left: usize, set: u64) -> Answer
-    requires { ⌜ Ready (now src) c w × (c .kind ≡ 84) ⌝ }
+    requires { ⌜ Ready (now src) c w × (c .kind ≡ ASSERT-KW) ⌝ }
     ensures { λ r. ⌜ Leads set (now (src .entry)) left (state (goto basicPhrase) 0 c w (now (out .entry))) 0 end 1 r (now (out .exit)) ⌝ }
 {
     let a = assert(src, out, c, w, left, set);
@@ -970,7 +956,7 @@ fn claim(src: &[u8], out: &mut [u8], c: Cursor, w: usize, left: usize, set: u64)
     let Answer::Done(c3, w3, _) = d else {
         return d;
     };
-    let w4 = writers::put_none(out, w3, 14);
+    let w4 = writers::put_none(out, w3, Tag::ASSERT_EXPR);
     Answer::Done(c3, w4, 1)
 }
 
@@ -983,7 +969,7 @@ fn load(src: &[u8], out: &mut [u8], c: Cursor, w: usize, left: usize, set: u64, 
     let Answer::Done(c1, w1, _) = a else {
         return a;
     };
-    let w2 = writers::put_kind(out, w1, 16, which, c.start, c.end);
+    let w2 = writers::put_kind(out, w1, Tag::IMPORT, which, c.start, c.end);
     Answer::Done(c1, w2, 1)
 }
 
@@ -1004,7 +990,7 @@ fn chain(src: &[u8], out: &mut [u8], c: Cursor, w: usize, left: usize, set: u64)
             return Answer::Done(cur, at, 1);
         }
         let b = link(src, out, cur, at, left, set, first);
-        let Answer::Done(c2, w2, f) = b else {
+        let WithFirst::Done(c2, w2, f) = b else {
             return b;
         };
         cur = c2;
@@ -1013,7 +999,7 @@ fn chain(src: &[u8], out: &mut [u8], c: Cursor, w: usize, left: usize, set: u64)
     }
 }
 
-// expr_suffix, one suffix: suffix. Tells whether the next index part is the first of its run, as its flag.
+// expr_suffix, one suffix: suffix.
 fn link(
     src: &[u8],
     out: &mut [u8],
@@ -1022,7 +1008,7 @@ fn link(
     left: usize,
     set: u64,
     first: usize,
-) -> Answer
+) -> WithFirst
     requires { ⌜ Ready (now src) c w × Suffixed set (c .kind) 1 × (first ≤ 4) ⌝ }
     ensures { λ r. ⌜ TellsSome set (now (src .entry)) left (state (goto (suffixPhrase first)) 1 c w (now (out .entry))) suffixes 1 r (now (out .exit)) ⌝ }
 {
@@ -1042,8 +1028,8 @@ fn link(
             let Answer::Done(c3, w3, _) = b else {
                 return b;
             };
-            let w4 = writers::put_none(out, w3, 11);
-            Answer::Done(c3, w4, 1)
+            let w4 = writers::put_none(out, w3, Tag::EXTENSION);
+            WithFirst::Done(c3, w4, 1)
         }
     }
 }
@@ -1057,7 +1043,7 @@ fn safe(
     left: usize,
     set: u64,
     first: usize,
-) -> Answer
+) -> WithFirst
     requires { ⌜ Ready (now src) c w × (first ≤ 4) ⌝ }
     ensures { λ r. ⌜ Tells set (now (src .entry)) left (state (safely first) 1 c w (now (out .entry))) suffixes 1 r (now (out .exit)) ⌝ }
 {
@@ -1078,7 +1064,7 @@ fn safe(
         return d;
     };
     let w5 = records::put_index(out, w4, c2.start, c3.at, first, 1);
-    Answer::Done(c4, w5, 0)
+    WithFirst::Done(c4, w5, 0)
 }
 
 // expr_suffix, after `[`: bracket, index-or-slice.
@@ -1090,7 +1076,7 @@ fn index(
     left: usize,
     set: u64,
     first: usize,
-) -> Answer
+) -> WithFirst
     requires { ⌜ Ready (now src) c w × (first ≤ 4) ⌝ }
     ensures { λ r. ⌜ Tells set (now (src .entry)) left (state (goto (bracket first)) 1 c w (now (out .entry))) suffixes 1 r (now (out .exit)) ⌝ }
 {
@@ -1122,7 +1108,7 @@ fn index(
         return b;
     };
     let w3 = records::put_index(out, w2, c.start, c1.at, first, 0);
-    Answer::Done(c2, w3, 0)
+    WithFirst::Done(c2, w3, 0)
 }
 
 // expr_bp up to its loop: expr.
@@ -1134,11 +1120,11 @@ fn sign(src: &[u8], out: &mut [u8], c: Cursor, w: usize, left: usize, set: u64, 
     let Prefix::Unary(o) = p else {
         return chain(src, out, c, w, left, set);
     };
-    let a = expr(src, out, eat_any(src, c), w, left, set, operators::PREFIX);
+    let a = expr(src, out, eat_any(src, c), w, left, set, PREFIX_POWER);
     let Answer::Done(c1, w1, _) = a else {
         return a;
     };
-    let w2 = writers::put_flag(out, w1, 12, o);
+    let w2 = writers::put_flag(out, w1, Tag::PREFIX, o);
     Answer::Done(c1, w2, 1)
 }
 
@@ -1176,7 +1162,7 @@ pub fn expr(
         let Answer::Done(c2, w2, _) = d else {
             return d;
         };
-        at = writers::put_flag(out, w2, 13, o);
+        at = writers::put_flag(out, w2, Tag::INFIX, o);
         cur = c2;
     }
 }

@@ -29,19 +29,19 @@ use Rattle.grammar.specs.Reading.{Outcome, Reading as Derived, ended, eaten, un
 use Rattle.grammar.specs.Answer.{Answer as Handed, Verdict, refused, tree, verdict, Judged, read, answer, output, document-01}
 use Rattle.grammar.specs.Source.{Bad, bad, Kept, kept}
 use Rattle.grammar.proofs.Source.{lexing}
-use Rattle.phrases.specs.Lexing.{Left, over, more, Stands}
-use Rattle.phrases.specs.Meets.{power, state, Seg, sorted, Breaks, Takes}
+use Rattle.leaves.specs.Lexing.{Left, over, more, Stands}
+use Rattle.leaves.specs.Meets.{power, state, Seg, sorted, Breaks, Takes}
 use Rattle.reader.specs.Reader.{refusal, numbers, written, Clean, Parsed, Parses, Finds, Reads}
-use Rattle.phrases.specs.declared.Cursor.{Cursor}
-use Rattle.phrases.specs.declared.Refusal.{Refusal}
-use Rattle.phrases.specs.declared.Answer.{Answer}
-use Rattle.phrases.specs.declared.Answer.the-variants.{Done, Broken}
+use Rattle.leaves.specs.declared.Cursor.{Cursor}
+use Rattle.leaves.specs.declared.Refusal.{Refusal}
+use Rattle.leaves.specs.declared.Answer.{Answer}
+use Rattle.leaves.specs.declared.Answer.the-variants.{Done, Broken}
 use Rattle.reader.specs.declared.Reading.{Reading}
 use Rattle.reader.specs.declared.Reading.the-variants.{Tree, Setting, Long, Encoding, Lexeme, Wanted, Absent, Expression, Misplaced, Escape, Block, Depth, Room}
 use Rattle.reader.proofs.Reading.{the-type}
-use Rattle.phrases.proofs.LexemeLaws.{sees}
+use Rattle.leaves.proofs.LexemeLaws.{sees}
 use Rattle.reader.proofs.AnswerLaws.{fits-answer, fits-output, lacks-answer, lacks-output}
-use Rattle.phrases.proofs.Steps
+use Rattle.leaves.proofs.Steps
 
 -- ── The lexemes of a source ───────────────────────────────────────────────────────────────────────
 

@@ -13,9 +13,9 @@ use Rattle.grammar.specs.Image.{image}
 use Rattle.grammar.specs.Lexemes.{Lexeme as Token}
 use Rattle.grammar.specs.Answer.{Answer, Verdict, refused, tree, Judged, answer, output, document-01}
 use Rattle.grammar.specs.Source.{Bad, Kept, Reads01}
-use Rattle.phrases.specs.Meets.{sorted}
-use Rattle.phrases.specs.declared.Answer.{Answer as Phrased}
-use Rattle.phrases.specs.declared.Answer.the-variants.{Done, Broken}
+use Rattle.leaves.specs.Meets.{sorted}
+use Rattle.leaves.specs.declared.Answer.{Answer as Phrased}
+use Rattle.leaves.specs.declared.Answer.the-variants.{Done, Broken}
 use Rattle.reader.specs.declared.Fields.{Fields}
 use Rattle.reader.specs.declared.Reading.{Reading}
 use Rattle.reader.specs.declared.Reading.the-variants.{Tree, Setting, Long, Encoding, Lexeme, Wanted, Absent, Expression, Misplaced, Escape, Block, Depth, Room}

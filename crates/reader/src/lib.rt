@@ -1,14 +1,15 @@
 // The reader: a setting, a source, a lent output, and the whole answer of document 01.
 ghost use mathlib.Core.Path.{_≡_};
 ghost use mathlib.Core.Bool.{true};
-ghost use Rattle.phrases.specs.Meets.{sorted};
+ghost use Rattle.leaves.specs.Meets.{sorted};
 ghost use Rattle.reader.specs.Reader.{numbers as numbers01, refusal as refusal01, written as written01, answered, Clean, Parses, Finds, Reads};
+use leaves::Answer;
+use leaves::Refusal;
+use leaves::parser::END;
+use leaves::parser::cursor_at;
+use leaves::parser::error;
 use lexemes::kept;
 use lexemes::kinds::Kind;
-use phrases::Answer;
-use phrases::Refusal;
-use phrases::parser::cursor_at;
-use phrases::parser::error;
 
 // What becomes of a source, each case with its place and what else 01 tells of it.
 pub enum Reading {
@@ -17,10 +18,10 @@ pub enum Reading {
     Long, // 2
     Encoding(usize), // 3: the bytes valid so far
     Lexeme(usize, usize, u8), // 4: the first bad one and its kind
-    Wanted(usize, usize, u8), // 5: a kind
-    Absent(usize, usize, u8), // 6: a field name or a pattern
+    Wanted(usize, usize, usize), // 5: a kind
+    Absent(usize, usize, usize), // 6: a field name or a pattern
     Expression(usize, usize), // 7
-    Misplaced(usize, usize, u8), // 8: an argument, or what a comprehension cannot have
+    Misplaced(usize, usize, usize), // 8: an argument, or what a comprehension cannot have
     Escape(usize, usize), // 9
     Block(usize, usize), // 10
     Depth(usize, usize), // 11
@@ -62,7 +63,7 @@ fn parse(setting: u64, source: &[u8], output: &mut [u8]) -> Answer
         return a;
     };
     if c.kind != Kind::EOF {
-        return error(c, 5, Kind::EOF);
+        return error(c, 5, END);
     }
     a
 }
@@ -126,7 +127,7 @@ pub struct Fields {
     pub length: u64,
 }
 
-fn refusal(number: u64, start: usize, end: usize, detail: u8) -> Fields
+fn refusal(number: u64, start: usize, end: usize, detail: usize) -> Fields
     ensures { λ f. ⌜ answered f ≡ refusal01 number start end detail ⌝ }
 {
     Fields {
@@ -153,7 +154,7 @@ pub fn numbers(r: Reading) -> Fields
         Reading::Setting => refusal(1, 0, 0, 0),
         Reading::Long => refusal(2, 0, 0, 0),
         Reading::Encoding(n) => refusal(3, n, n, 0),
-        Reading::Lexeme(a, e, k) => refusal(4, a, e, k),
+        Reading::Lexeme(a, e, k) => refusal(4, a, e, k as usize),
         Reading::Wanted(a, e, k) => refusal(5, a, e, k),
         Reading::Absent(a, e, d) => refusal(6, a, e, d),
         Reading::Expression(a, e) => refusal(7, a, e, 0),

@@ -205,7 +205,7 @@ pub +arg+args+array+assert+basic+bind+body+chain+claim+comp+cond+each+ends+expr+
     (λ t. body-lts.spec (body-claims t) (body-at t) body.Post (Body.eat-requires t) (Body.enum-known-a t) (Body.enum-told t) (Body.returns t) (Body.expr-requires t) (Body.enum-known-b t) (Body.enum-told-2 t) (Body.same-length t) (Body.returns-2 t) (Body.put-count-requires t) (Body.same-length-2 t) (Body.returns-3 t))
     (λ t. chain-lts.spec (chain-claims t) (chain-at t) chain.Post Chain.Inv-loop Chain.μ-loop (Chain.basic-requires t) (Chain.enum-known-a t) (Chain.enum-told t) (Chain.same-length t) (Chain.returns t) (Chain.loop-holds t) (Chain.suffix-at-requires t) (Chain.same-length-2 t) (Chain.returns-2 t) (Chain.link-requires t) (Chain.enum-known-b t) (Chain.enum-told-2 t) (Chain.same-length-3 t) (Chain.returns-3 t) (Chain.loop-less t) (Chain.loop-again t))
     (λ t. claim-lts.spec (claim-claims t) (claim-at t) claim.Post (Claim.assert-requires t) (Claim.enum-known-a t) (Claim.enum-told t) (Claim.same-length t) (Claim.returns t) (Claim.eat-requires t) (Claim.enum-known-b t) (Claim.enum-told-2 t) (Claim.same-length-2 t) (Claim.returns-2 t) (Claim.expr-requires t) (Claim.enum-known-d t) (Claim.enum-told-3 t) (Claim.same-length-3 t) (Claim.returns-3 t) (Claim.put-none-requires t) (Claim.same-length-4 t) (Claim.returns-4 t))
-    (λ t. comp-lts.spec (comp-claims t) (comp-at t) comp.Post (Comp.specs-requires t) (Comp.enum-known-a t) (Comp.enum-told t) (Comp.same-length t) (Comp.returns t) (Comp.cast-error t) (Comp.error-requires t) (Comp.same-length-2 t) (Comp.returns-2 t) (Comp.put-counts-requires t) (Comp.same-length-3 t) (Comp.returns-3 t))
+    (λ t. comp-lts.spec (comp-claims t) (comp-at t) comp.Post (Comp.specs-requires t) (Comp.enum-known-a t) (Comp.enum-told t) (Comp.same-length t) (Comp.returns t) (Comp.error-requires t) (Comp.same-length-2 t) (Comp.returns-2 t) (Comp.put-counts-requires t) (Comp.same-length-3 t) (Comp.returns-3 t))
     (λ t. cond-lts.spec (cond-claims t) (cond-at t) cond.Post (Cond.eat-any-requires t) (Cond.expr-requires t) (λ c. search needs) (λ c. search needs) (λ c. search needs) (Cond.returns t) (Cond.eat-requires t) (λ c. search needs) (λ c. search needs) (λ c. search needs) (Cond.returns-2 t) (Cond.expr-requires-2 t) (λ c. search needs) (λ c. search needs) (λ c. search needs) (Cond.returns-3 t) (Cond.put-marked-requires t) (Cond.same-length-4 t) (Cond.returns-4 t) (Cond.eat-any-requires-2 t) (Cond.expr-requires-3 t) (λ c. search needs) (λ c. search needs) (Cond.same-length-5 t) (Cond.returns-5 t) (Cond.put-marked-requires-2 t) (Cond.same-length-6 t) (Cond.returns-6 t))
     (λ t. each-lts.spec (each-claims t) (each-at t) each.Post (Each.error-requires t) (Each.returns t) (Each.eat-any-requires t) (Each.eat-any-requires-2 t) (Each.eat-any-requires-3 t) (Each.eat-any-requires-4 t) (Each.visibility-requires t) (Each.pat-requires t) (Each.enum-known-a t) (Each.enum-told t) (Each.same-length t) (Each.returns-2 t) (Each.eat-requires t) (Each.enum-known-b t) (Each.enum-told-2 t) (Each.same-length-2 t) (Each.returns-3 t) (Each.expr-requires t) (Each.enum-known-d t) (Each.enum-told-3 t) (Each.same-length-3 t) (Each.returns-4 t) (Each.sub-put-iteration t) (Each.part-put-iteration-start t) (Each.part-put-iteration-end t) (Each.put-iteration-requires t) (Each.same-length-4 t) (Each.returns-5 t))
     (λ t. ends-lts.spec (ends-claims t) (ends-at t) ends.Post Ends.Inv-loop Ends.μ-loop (Ends.loop-holds t) (Ends.array-pattern-close-requires t) (Ends.same-length t) (Ends.returns t) (Ends.eat-any-requires t) (Ends.array-pattern-close-requires-2 t) (Ends.same-length-2 t) (Ends.returns-2 t) (Ends.pat-requires t) (Ends.enum-known-a t) (Ends.enum-told t) (Ends.same-length-3 t) (Ends.returns-3 t) (Ends.add-m t) (Ends.loop-less t) (Ends.loop-again t))

@@ -2,7 +2,7 @@
 -- Assumes nothing.
 use native.Mathlib.Omega.{arith}
 use borrow.Author.Needs.{needs}
-use Rattle.phrases.proofs.Steps.{no-done}
+use Rattle.leaves.proofs.Steps.{no-done}
 use Rattle.reader.proofs.ReaderLaws.{parses-broken, parses-more, parses-tree}
 use Rattle.reader.proofs.parse.Statement.{statement}
 use Rattle.reader.proofs.parse.Tie as tie

@@ -7,15 +7,15 @@ use mathlib.Core.Path.{_≡_, refl, sym, ap, subst, _∙_}
 use mathlib.Core.Logic.{⊎-elim}
 use mathlib.Core.List.{[], _∷_}
 use Prim.Native.Nat.{ℕ, _+_, _*_, _-_, _≤_, _<_}
-use Rattle.phrases.proofs.Steps
+use Rattle.leaves.proofs.Steps
 use Rattle.phrases.proofs.arg.Reads.{Post}
 use Rattle.phrases.proofs.+arg+args+array+assert+basic+bind+body+chain+claim+comp+cond+each+ends+expr+field+func+index+init+inside+item+link+load+local+member+name+obj+param+params+pat+rest+rhs+safe+sign+slice+spec+specs+step+value.Lts-arg as lts
 use Rattle.phrases.proofs.+arg+args+array+assert+basic+bind+body+chain+claim+comp+cond+each+ends+expr+field+func+index+init+inside+item+link+load+local+member+name+obj+param+params+pat+rest+rhs+safe+sign+slice+spec+specs+step+value.Proof.Frame.{arg-claims as K, arg-at as P}
 use Rattle.grammar.specs.Trees.{text}
 use mathlib.Core.List.{List}
-use Rattle.phrases.proofs.LexemeLaws.{lies}
-use Rattle.phrases.proofs.LeafLaws.{bytes-short}
-use Rattle.phrases.proofs.PartLaws.{wrote-lent}
+use Rattle.leaves.proofs.LexemeLaws.{lies}
+use Rattle.leaves.proofs.LeafLaws.{bytes-short}
+use Rattle.leaves.proofs.PartLaws.{wrote-lent}
 use Rattle.phrases.proofs.SuffixLaws.{is-named, argues-plain, argues-fault, argues-named, name-taken, name-closed}
 
 pub error-requires : (t : ℕ) → lts.Need-error-requires (K t) (P t) Post

@@ -7,7 +7,7 @@ use mathlib.Core.Path.{_≡_, refl, sym, ap, subst, _∙_}
 use mathlib.Core.Logic.{⊎-elim}
 use mathlib.Core.List.{[], _∷_}
 use Prim.Native.Nat.{ℕ, _+_, _*_, _-_, _≤_, _<_}
-use Rattle.phrases.proofs.Steps
+use Rattle.leaves.proofs.Steps
 use Rattle.phrases.proofs.array.Reads.{Post}
 use Rattle.phrases.proofs.+arg+args+array+assert+basic+bind+body+chain+claim+comp+cond+each+ends+expr+field+func+index+init+inside+item+link+load+local+member+name+obj+param+params+pat+rest+rhs+safe+sign+slice+spec+specs+step+value.Lts-array as lts
 use Rattle.phrases.proofs.+arg+args+array+assert+basic+bind+body+chain+claim+comp+cond+each+ends+expr+field+func+index+init+inside+item+link+load+local+member+name+obj+param+params+pat+rest+rhs+safe+sign+slice+spec+specs+step+value.Proof.Frame.{array-claims as K, array-at as P}
@@ -16,7 +16,7 @@ use Rattle.grammar.specs.Trees.{number}
 use Rattle.grammar.specs.Productions.{goto, end, eat, sub, close, _▸_, rule, expression, array, array-first, array-comp-end, clauses, elements, next-element}
 use Rattle.grammar.specs.Reading.{choose, has}
 use borrow.Author.Tests.{ne-eqb}
-use Rattle.phrases.proofs.LexemeLaws.{sight}
+use Rattle.leaves.proofs.LexemeLaws.{sight}
 use Rattle.phrases.proofs.KeywordLaws.{array-clauses, array-clauses-end}
 use Rattle.phrases.proofs.ClauseLaws.{array-for, array-no-for}
 

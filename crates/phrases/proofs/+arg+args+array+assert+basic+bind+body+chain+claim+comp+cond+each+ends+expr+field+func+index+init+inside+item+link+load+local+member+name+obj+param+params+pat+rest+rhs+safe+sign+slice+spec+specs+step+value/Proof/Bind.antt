@@ -7,7 +7,7 @@ use mathlib.Core.Path.{_≡_, refl, sym, ap, subst, _∙_}
 use mathlib.Core.Logic.{⊎-elim}
 use mathlib.Core.List.{[], _∷_}
 use Prim.Native.Nat.{ℕ, _+_, _*_, _-_, _≤_, _<_}
-use Rattle.phrases.proofs.Steps
+use Rattle.leaves.proofs.Steps
 use Rattle.phrases.proofs.bind.Reads.{Post}
 use Rattle.phrases.proofs.+arg+args+array+assert+basic+bind+body+chain+claim+comp+cond+each+ends+expr+field+func+index+init+inside+item+link+load+local+member+name+obj+param+params+pat+rest+rhs+safe+sign+slice+spec+specs+step+value.Lts-bind as lts
 use Rattle.phrases.proofs.+arg+args+array+assert+basic+bind+body+chain+claim+comp+cond+each+ends+expr+field+func+index+init+inside+item+link+load+local+member+name+obj+param+params+pat+rest+rhs+safe+sign+slice+spec+specs+step+value.Proof.Frame.{bind-claims as K, bind-at as P}
@@ -18,10 +18,10 @@ use Rattle.grammar.specs.Trees.{Field, byte, number, span, text}
 use Rattle.grammar.specs.Lexemes.{said}
 use Rattle.grammar.specs.Productions.{goto, end, eat, leaf, sub, deep, close, _▸_, rule, expression, bind, bind-named, bind-function, pattern, params}
 use Rattle.grammar.specs.Reading.{choose, has}
-use Rattle.phrases.specs.Meets.{bound}
-use Rattle.phrases.proofs.LexemeLaws.{sight, lies}
-use Rattle.phrases.proofs.PartLaws.{wrote-lent}
-use Rattle.phrases.proofs.LeafLaws.{within, bytes-short, name-size, fits}
+use Rattle.leaves.specs.Meets.{bound}
+use Rattle.leaves.proofs.LexemeLaws.{sight, lies}
+use Rattle.leaves.proofs.PartLaws.{wrote-lent}
+use Rattle.leaves.proofs.LeafLaws.{within, bytes-short, name-size, fits}
 use Rattle.phrases.proofs.FieldLaws.{with-params}
 
 pub pat-requires : (t : ℕ) → lts.Need-pat-requires (K t) (P t) Post

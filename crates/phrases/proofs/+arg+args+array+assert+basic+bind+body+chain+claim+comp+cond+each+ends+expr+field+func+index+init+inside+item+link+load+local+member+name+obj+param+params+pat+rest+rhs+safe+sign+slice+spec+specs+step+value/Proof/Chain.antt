@@ -7,14 +7,14 @@ use mathlib.Core.Path.{_≡_, refl, sym, ap, subst, _∙_}
 use mathlib.Core.Logic.{⊎-elim}
 use mathlib.Core.List.{[], _∷_}
 use Prim.Native.Nat.{ℕ, _+_, _*_, _-_, _≤_, _<_}
-use Rattle.phrases.proofs.Steps
+use Rattle.leaves.proofs.Steps
 use Rattle.phrases.proofs.chain.Reads.{Post}
 use Rattle.phrases.proofs.+arg+args+array+assert+basic+bind+body+chain+claim+comp+cond+each+ends+expr+field+func+index+init+inside+item+link+load+local+member+name+obj+param+params+pat+rest+rhs+safe+sign+slice+spec+specs+step+value.Lts-chain as lts
 use Rattle.phrases.proofs.+arg+args+array+assert+basic+bind+body+chain+claim+comp+cond+each+ends+expr+field+func+index+init+inside+item+link+load+local+member+name+obj+param+params+pat+rest+rhs+safe+sign+slice+spec+specs+step+value.Proof.Frame.{chain-claims as K, chain-at as P}
 use Rattle.grammar.specs.Productions.{goto, sub, _▸_, rule, suffixed, suffix, basic}
 use Rattle.grammar.specs.Reading.{choose, has}
-use Rattle.phrases.specs.Lexing.{Suffixed}
-use Rattle.phrases.proofs.LexemeLaws.{sight}
+use Rattle.leaves.specs.Lexing.{Suffixed}
+use Rattle.leaves.proofs.LexemeLaws.{sight}
 use Rattle.phrases.proofs.SuffixLaws.{suffix-there, no-more}
 
 abbrev pub Inv-loop : lts.InvT-loop

@@ -7,15 +7,15 @@ use mathlib.Core.Path.{_≡_, refl, sym, ap, subst, _∙_}
 use mathlib.Core.Logic.{⊎-elim}
 use mathlib.Core.List.{[], _∷_}
 use Prim.Native.Nat.{ℕ, _+_, _*_, _-_, _≤_, _<_}
-use Rattle.phrases.proofs.Steps
+use Rattle.leaves.proofs.Steps
 use Rattle.phrases.proofs.comp.Reads.{Post}
 use Rattle.phrases.proofs.+arg+args+array+assert+basic+bind+body+chain+claim+comp+cond+each+ends+expr+field+func+index+init+inside+item+link+load+local+member+name+obj+param+params+pat+rest+rhs+safe+sign+slice+spec+specs+step+value.Lts-comp as lts
 use Rattle.phrases.proofs.+arg+args+array+assert+basic+bind+body+chain+claim+comp+cond+each+ends+expr+field+func+index+init+inside+item+link+load+local+member+name+obj+param+params+pat+rest+rhs+safe+sign+slice+spec+specs+step+value.Proof.Frame.{comp-claims as K, comp-at as P}
 use Rattle.grammar.specs.Image.{entry, payload}
 use Rattle.grammar.specs.Trees.{number}
 use Rattle.grammar.specs.Productions.{goto, end, fail, sub, close, _▸_, comprehension, comprehension-end, clauses}
-use Rattle.phrases.specs.Meets.{sorted}
-use Rattle.phrases.proofs.LeafLaws.{few}
+use Rattle.leaves.specs.Meets.{sorted}
+use Rattle.leaves.proofs.LeafLaws.{few}
 use Rattle.phrases.proofs.KeywordLaws.{clauses-break, good-clauses, bad-clauses, clauses-end}
 
 pub specs-requires : (t : ℕ) → lts.Need-specs-requires (K t) (P t) Post
@@ -43,10 +43,6 @@ returns t c =
     let specs′ = c .before .before .before .before .specs in
     let match′ = c .before .match in
     clauses-break (args′ .fault) st (specs′ .ensures) (match′ .keys2)
-
-pub cast-error : (t : ℕ) → lts.Need-cast-error (K t) (P t) Post
-cast-error t c =
-    search needs
 
 pub error-requires : (t : ℕ) → lts.Need-error-requires (K t) (P t) Post
 error-requires t c κs =

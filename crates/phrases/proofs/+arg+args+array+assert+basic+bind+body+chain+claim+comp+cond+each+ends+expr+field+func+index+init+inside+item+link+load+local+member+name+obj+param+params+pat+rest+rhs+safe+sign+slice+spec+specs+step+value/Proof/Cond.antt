@@ -4,16 +4,16 @@ use lib.Dec.{lit<, lit≤}
 use mathlib.Core.Path.{refl}
 use mathlib.Core.List.{List, [], _∷_}
 use Prim.Native.Nat.{ℕ}
-use Rattle.phrases.proofs.Steps
+use Rattle.leaves.proofs.Steps
 use Rattle.phrases.proofs.cond.Reads.{Post}
 use Rattle.phrases.proofs.+arg+args+array+assert+basic+bind+body+chain+claim+comp+cond+each+ends+expr+field+func+index+init+inside+item+link+load+local+member+name+obj+param+params+pat+rest+rhs+safe+sign+slice+spec+specs+step+value.Lts-cond as lts
 use Rattle.phrases.proofs.+arg+args+array+assert+basic+bind+body+chain+claim+comp+cond+each+ends+expr+field+func+index+init+inside+item+link+load+local+member+name+obj+param+params+pat+rest+rhs+safe+sign+slice+spec+specs+step+value.Proof.Frame.{cond-claims as K, cond-at as P}
 use Rattle.grammar.specs.Image.{entry, payload}
 use Rattle.grammar.specs.Trees.{byte, span}
 use Rattle.grammar.specs.Productions.{Body, goto, end, eat, close, _▸_, expression, basic, else-part}
-use Rattle.phrases.specs.Meets.{state, Seg}
-use Rattle.phrases.specs.declared.Cursor.{Cursor}
-use Rattle.phrases.proofs.LeafLaws.{within}
+use Rattle.leaves.specs.Meets.{state, Seg}
+use Rattle.leaves.specs.declared.Cursor.{Cursor}
+use Rattle.leaves.proofs.LeafLaws.{within}
 use Rattle.phrases.proofs.KeywordLaws.{ifs-on, else-on, no-else}
 
 module _ (t : ℕ) where

@@ -7,12 +7,12 @@ use mathlib.Core.Path.{_≡_, refl, sym, ap, subst, _∙_}
 use mathlib.Core.Logic.{⊎-elim}
 use mathlib.Core.List.{[], _∷_}
 use Prim.Native.Nat.{ℕ, _+_, _*_, _-_, _≤_, _<_}
-use Rattle.phrases.proofs.Steps
+use Rattle.leaves.proofs.Steps
 use Rattle.phrases.proofs.each.Reads.{Post}
 use Rattle.phrases.proofs.+arg+args+array+assert+basic+bind+body+chain+claim+comp+cond+each+ends+expr+field+func+index+init+inside+item+link+load+local+member+name+obj+param+params+pat+rest+rhs+safe+sign+slice+spec+specs+step+value.Lts-each as lts
 use Rattle.phrases.proofs.+arg+args+array+assert+basic+bind+body+chain+claim+comp+cond+each+ends+expr+field+func+index+init+inside+item+link+load+local+member+name+obj+param+params+pat+rest+rhs+safe+sign+slice+spec+specs+step+value.Proof.Frame.{each-claims as K, each-at as P}
-use Rattle.phrases.proofs.LexemeLaws.{lies}
-use Rattle.phrases.proofs.PartLaws.{lent-short}
+use Rattle.leaves.proofs.LexemeLaws.{lies}
+use Rattle.leaves.proofs.PartLaws.{lent-short}
 use Rattle.phrases.proofs.ClauseLaws.{too-deep-clause, iterates, iteration-closed}
 
 pub error-requires : (t : ℕ) → lts.Need-error-requires (K t) (P t) Post

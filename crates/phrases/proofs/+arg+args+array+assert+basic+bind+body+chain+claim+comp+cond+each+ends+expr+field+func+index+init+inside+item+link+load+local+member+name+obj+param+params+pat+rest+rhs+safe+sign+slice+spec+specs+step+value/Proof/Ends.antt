@@ -7,14 +7,14 @@ use mathlib.Core.Path.{_≡_, refl, sym, ap, subst, _∙_}
 use mathlib.Core.Logic.{⊎-elim}
 use mathlib.Core.List.{[], _∷_}
 use Prim.Native.Nat.{ℕ, _+_, _*_, _-_, _≤_, _<_}
-use Rattle.phrases.proofs.Steps
+use Rattle.leaves.proofs.Steps
 use Rattle.phrases.proofs.ends.Reads.{Post}
 use Rattle.phrases.proofs.+arg+args+array+assert+basic+bind+body+chain+claim+comp+cond+each+ends+expr+field+func+index+init+inside+item+link+load+local+member+name+obj+param+params+pat+rest+rhs+safe+sign+slice+spec+specs+step+value.Lts-ends as lts
 use Rattle.phrases.proofs.+arg+args+array+assert+basic+bind+body+chain+claim+comp+cond+each+ends+expr+field+func+index+init+inside+item+link+load+local+member+name+obj+param+params+pat+rest+rhs+safe+sign+slice+spec+specs+step+value.Proof.Frame.{ends-claims as K, ends-at as P}
 use Rattle.phrases.proofs.CountLaws.{step-grows}
 use mathlib.Core.List.{List}
 use Rattle.grammar.specs.Productions.{Phrase, goto, end, eat, sub, _▸_, pattern, array-rest-end, pattern-ends, pattern-ends-end, array-pattern-close}
-use Rattle.phrases.proofs.LeafLaws.{moved-on, onward}
+use Rattle.leaves.proofs.LeafLaws.{moved-on, onward}
 use Rattle.phrases.proofs.PatternLaws.{Ending, at-rest, at-pattern, ending-comma, ending-over, ends-close, ends-one}
 use lib.Seq.{slice}
 

@@ -7,16 +7,16 @@ use mathlib.Core.Path.{_≡_, refl, sym, ap, subst, _∙_}
 use mathlib.Core.Logic.{⊎-elim}
 use mathlib.Core.List.{[], _∷_}
 use Prim.Native.Nat.{ℕ, _+_, _*_, _-_, _≤_, _<_}
-use Rattle.phrases.proofs.Steps
+use Rattle.leaves.proofs.Steps
 use Rattle.phrases.proofs.field.Reads.{Post}
 use Rattle.phrases.proofs.+arg+args+array+assert+basic+bind+body+chain+claim+comp+cond+each+ends+expr+field+func+index+init+inside+item+link+load+local+member+name+obj+param+params+pat+rest+rhs+safe+sign+slice+spec+specs+step+value.Lts-field as lts
 use Rattle.phrases.proofs.+arg+args+array+assert+basic+bind+body+chain+claim+comp+cond+each+ends+expr+field+func+index+init+inside+item+link+load+local+member+name+obj+param+params+pat+rest+rhs+safe+sign+slice+spec+specs+step+value.Proof.Frame.{field-claims as K, field-at as P}
 use borrow.Author.Tests.{ne-eqb}
 use Rattle.grammar.specs.Productions.{goto, end, eat, leaf, sub, deep, close, _▸_, rule, expression, field, field-named, field-value, params}
 use Rattle.grammar.specs.Reading.{choose, has}
-use Rattle.phrases.specs.Meets.{titled}
-use Rattle.phrases.proofs.LexemeLaws.{sight}
-use Rattle.phrases.proofs.LeafLaws.{within}
+use Rattle.leaves.specs.Meets.{titled}
+use Rattle.leaves.proofs.LexemeLaws.{sight}
+use Rattle.leaves.proofs.LeafLaws.{within}
 use Rattle.phrases.proofs.FieldLaws.{place}
 
 pub name-requires : (t : ℕ) → lts.Need-name-requires (K t) (P t) Post

@@ -7,14 +7,14 @@ use mathlib.Core.Path.{_≡_, refl, sym, ap, subst, _∙_}
 use mathlib.Core.Logic.{⊎-elim}
 use mathlib.Core.List.{[], _∷_}
 use Prim.Native.Nat.{ℕ, _+_, _*_, _-_, _≤_, _<_}
-use Rattle.phrases.proofs.Steps
+use Rattle.leaves.proofs.Steps
 use Rattle.phrases.proofs.func.Reads.{Post}
 use Rattle.phrases.proofs.+arg+args+array+assert+basic+bind+body+chain+claim+comp+cond+each+ends+expr+field+func+index+init+inside+item+link+load+local+member+name+obj+param+params+pat+rest+rhs+safe+sign+slice+spec+specs+step+value.Lts-func as lts
 use Rattle.phrases.proofs.+arg+args+array+assert+basic+bind+body+chain+claim+comp+cond+each+ends+expr+field+func+index+init+inside+item+link+load+local+member+name+obj+param+params+pat+rest+rhs+safe+sign+slice+spec+specs+step+value.Proof.Frame.{func-claims as K, func-at as P}
 use Rattle.grammar.specs.Image.{entry, payload}
 use Rattle.grammar.specs.Trees.{number, span}
 use Rattle.grammar.specs.Productions.{goto, end, eat, sub, close, _▸_, expression, basic, params, function-body}
-use Rattle.phrases.proofs.LeafLaws.{within}
+use Rattle.leaves.proofs.LeafLaws.{within}
 use Rattle.phrases.proofs.KeywordLaws.{functions-on, function-bodies, none-before}
 
 pub eat-any-requires : (t : ℕ) → lts.Need-eat-any-requires (K t) (P t) Post

@@ -7,7 +7,7 @@ use mathlib.Core.Path.{_≡_, refl, sym, ap, subst, _∙_}
 use mathlib.Core.Logic.{⊎-elim}
 use mathlib.Core.List.{[], _∷_}
 use Prim.Native.Nat.{ℕ, _+_, _*_, _-_, _≤_, _<_}
-use Rattle.phrases.proofs.Steps
+use Rattle.leaves.proofs.Steps
 use Rattle.phrases.proofs.init.Reads.{Post}
 use Rattle.phrases.proofs.+arg+args+array+assert+basic+bind+body+chain+claim+comp+cond+each+ends+expr+field+func+index+init+inside+item+link+load+local+member+name+obj+param+params+pat+rest+rhs+safe+sign+slice+spec+specs+step+value.Lts-init as lts
 use Rattle.phrases.proofs.+arg+args+array+assert+basic+bind+body+chain+claim+comp+cond+each+ends+expr+field+func+index+init+inside+item+link+load+local+member+name+obj+param+params+pat+rest+rhs+safe+sign+slice+spec+specs+step+value.Proof.Frame.{init-claims as K, init-at as P}
@@ -15,8 +15,8 @@ use mathlib.Core.List.{List}
 use Rattle.grammar.specs.Image.{entry, payload}
 use Rattle.grammar.specs.Trees.{byte, number, span, text}
 use Rattle.grammar.specs.Productions.{goto, end, eat, sub, close, _▸_, expression, pattern-default, default-value, default-end}
-use Rattle.phrases.proofs.LeafLaws.{fits, within}
-use Rattle.phrases.proofs.PartLaws.{lent-short, wrote-lent}
+use Rattle.leaves.proofs.LeafLaws.{fits, within}
+use Rattle.leaves.proofs.PartLaws.{lent-short, wrote-lent}
 use Rattle.phrases.proofs.PatternLaws.{default-some, default-none, default-is, default-ends}
 use lib.Seq.{slice, length-slice}
 

@@ -7,7 +7,7 @@ use mathlib.Core.Path.{_≡_, refl, sym, ap, subst, _∙_}
 use mathlib.Core.Logic.{⊎-elim}
 use mathlib.Core.List.{[], _∷_}
 use Prim.Native.Nat.{ℕ, _+_, _*_, _-_, _≤_, _<_}
-use Rattle.phrases.proofs.Steps
+use Rattle.leaves.proofs.Steps
 use Rattle.phrases.proofs.inside.Reads.{Post}
 use Rattle.phrases.proofs.+arg+args+array+assert+basic+bind+body+chain+claim+comp+cond+each+ends+expr+field+func+index+init+inside+item+link+load+local+member+name+obj+param+params+pat+rest+rhs+safe+sign+slice+spec+specs+step+value.Lts-inside as lts
 use Rattle.phrases.proofs.+arg+args+array+assert+basic+bind+body+chain+claim+comp+cond+each+ends+expr+field+func+index+init+inside+item+link+load+local+member+name+obj+param+params+pat+rest+rhs+safe+sign+slice+spec+specs+step+value.Proof.Frame.{inside-claims as K, inside-at as P}
@@ -16,8 +16,8 @@ use Rattle.grammar.specs.Trees.{number}
 use Rattle.grammar.specs.Productions.{goto, end, close, _▸_, rule, inside, member}
 use Rattle.grammar.specs.Reading.{choose, has}
 use borrow.Author.Tests.{ne-eqb}
-use Rattle.phrases.proofs.LeafLaws.{fits, few, past-stands}
-use Rattle.phrases.proofs.LexemeLaws.{sight}
+use Rattle.leaves.proofs.LeafLaws.{fits, few, past-stands}
+use Rattle.leaves.proofs.LexemeLaws.{sight}
 use Rattle.phrases.proofs.ClauseLaws.{members-next, members-last, members-for}
 
 abbrev pub Inv-loop : lts.InvT-loop

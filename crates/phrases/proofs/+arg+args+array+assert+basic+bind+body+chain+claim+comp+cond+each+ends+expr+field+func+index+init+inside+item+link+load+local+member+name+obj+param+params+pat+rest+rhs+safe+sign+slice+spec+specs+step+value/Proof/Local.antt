@@ -7,7 +7,7 @@ use mathlib.Core.Path.{_≡_, refl, sym, ap, subst, _∙_}
 use mathlib.Core.Logic.{⊎-elim}
 use mathlib.Core.List.{[], _∷_}
 use Prim.Native.Nat.{ℕ, _+_, _*_, _-_, _≤_, _<_}
-use Rattle.phrases.proofs.Steps
+use Rattle.leaves.proofs.Steps
 use Rattle.phrases.proofs.local.Reads.{Post}
 use Rattle.phrases.proofs.+arg+args+array+assert+basic+bind+body+chain+claim+comp+cond+each+ends+expr+field+func+index+init+inside+item+link+load+local+member+name+obj+param+params+pat+rest+rhs+safe+sign+slice+spec+specs+step+value.Lts-local as lts
 use Rattle.phrases.proofs.+arg+args+array+assert+basic+bind+body+chain+claim+comp+cond+each+ends+expr+field+func+index+init+inside+item+link+load+local+member+name+obj+param+params+pat+rest+rhs+safe+sign+slice+spec+specs+step+value.Proof.Frame.{local-claims as K, local-at as P}
@@ -15,7 +15,7 @@ use Rattle.phrases.proofs.CountLaws.{step-grows}
 use borrow.Author.Tests.{ne-eqb}
 use Rattle.grammar.specs.Productions.{goto, end, eat, leaf, sub, deep, close, _▸_, rule, bind, binds, binds-end, local-body}
 use Rattle.grammar.specs.Reading.{choose, has}
-use Rattle.phrases.proofs.LexemeLaws.{sight}
+use Rattle.leaves.proofs.LexemeLaws.{sight}
 
 abbrev pub Inv-loop : lts.InvT-loop
 Inv-loop src out₀ w left set cur₀ at₀ n₀ out cur at n = Steps.Turns set src left (goto binds) 0 cur₀ at₀ out₀ (goto binds) n cur at out × (n ≤ cur .at)

@@ -7,15 +7,15 @@ use mathlib.Core.Path.{_≡_, refl, sym, ap, subst, _∙_}
 use mathlib.Core.Logic.{⊎-elim}
 use mathlib.Core.List.{[], _∷_}
 use Prim.Native.Nat.{ℕ, _+_, _*_, _-_, _≤_, _<_}
-use Rattle.phrases.proofs.Steps
+use Rattle.leaves.proofs.Steps
 use Rattle.phrases.proofs.member.Reads.{Post}
 use Rattle.phrases.proofs.+arg+args+array+assert+basic+bind+body+chain+claim+comp+cond+each+ends+expr+field+func+index+init+inside+item+link+load+local+member+name+obj+param+params+pat+rest+rhs+safe+sign+slice+spec+specs+step+value.Lts-member as lts
 use Rattle.phrases.proofs.+arg+args+array+assert+basic+bind+body+chain+claim+comp+cond+each+ends+expr+field+func+index+init+inside+item+link+load+local+member+name+obj+param+params+pat+rest+rhs+safe+sign+slice+spec+specs+step+value.Proof.Frame.{member-claims as K, member-at as P}
 use borrow.Author.Tests.{ne-eqb}
 use Rattle.grammar.specs.Productions.{Body, goto, end, eat, leaf, sub, deep, close, _▸_, rule, bind, assertion, field, member, members, with-field, with-assert}
 use Rattle.grammar.specs.Reading.{choose, has}
-use Rattle.phrases.specs.Meets.{joined}
-use Rattle.phrases.proofs.LexemeLaws.{sight}
+use Rattle.leaves.specs.Meets.{joined}
+use Rattle.leaves.proofs.LexemeLaws.{sight}
 
 pub eat-any-requires : (t : ℕ) → lts.Need-eat-any-requires (K t) (P t) Post
 eat-any-requires t c κs =

@@ -6,16 +6,16 @@ use mathlib.Core.Path.{refl}
 use mathlib.Core.List.{List}
 use Prim.Native.Nat.{ℕ, _+_, _-_, _≤_}
 use borrow.Author.Tests.{ne-eqb}
-use Rattle.phrases.proofs.Steps
+use Rattle.leaves.proofs.Steps
 use Rattle.phrases.proofs.params.Reads.{Post}
 use Rattle.phrases.proofs.+arg+args+array+assert+basic+bind+body+chain+claim+comp+cond+each+ends+expr+field+func+index+init+inside+item+link+load+local+member+name+obj+param+params+pat+rest+rhs+safe+sign+slice+spec+specs+step+value.Lts-params as lts
 use Rattle.phrases.proofs.+arg+args+array+assert+basic+bind+body+chain+claim+comp+cond+each+ends+expr+field+func+index+init+inside+item+link+load+local+member+name+obj+param+params+pat+rest+rhs+safe+sign+slice+spec+specs+step+value.Proof.Frame.{params-claims as K, params-at as P}
 use Rattle.phrases.proofs.CountLaws.{counts-on, passed-counting}
-use Rattle.phrases.specs.Meets.{state, Seg}
-use Rattle.phrases.specs.declared.Cursor.{Cursor}
+use Rattle.leaves.specs.Meets.{state, Seg}
+use Rattle.leaves.specs.declared.Cursor.{Cursor}
 use Rattle.grammar.specs.Productions.{Body, goto, end, eat, sub, _▸_, rule, params, params-end, param}
 use Rattle.grammar.specs.Reading.{choose, has}
-use Rattle.phrases.proofs.LexemeLaws.{sight}
+use Rattle.leaves.proofs.LexemeLaws.{sight}
 
 abbrev pub Inv-loop : lts.InvT-loop
 Inv-loop src out₀ w left set cur₀ at₀ n₀ out cur at n = Steps.Turns set src left (goto params) 0 cur₀ at₀ out₀ (goto params) n cur at out × (cur₀ .at + n ≤ cur .at)

@@ -7,7 +7,7 @@ use mathlib.Core.Path.{_≡_, refl, sym, ap, subst, _∙_}
 use mathlib.Core.Logic.{⊎-elim}
 use mathlib.Core.List.{[], _∷_}
 use Prim.Native.Nat.{ℕ, _+_, _*_, _-_, _≤_, _<_}
-use Rattle.phrases.proofs.Steps
+use Rattle.leaves.proofs.Steps
 use Rattle.phrases.proofs.pat.Reads.{Post}
 use Rattle.phrases.proofs.+arg+args+array+assert+basic+bind+body+chain+claim+comp+cond+each+ends+expr+field+func+index+init+inside+item+link+load+local+member+name+obj+param+params+pat+rest+rhs+safe+sign+slice+spec+specs+step+value.Lts-pat as lts
 use Rattle.phrases.proofs.+arg+args+array+assert+basic+bind+body+chain+claim+comp+cond+each+ends+expr+field+func+index+init+inside+item+link+load+local+member+name+obj+param+params+pat+rest+rhs+safe+sign+slice+spec+specs+step+value.Proof.Frame.{pat-claims as K, pat-at as P}
@@ -16,9 +16,9 @@ use mathlib.Core.List.{List}
 use mathlib.Core.Logic.{_⊎_, inl, inr}
 use borrow.Author.Tests.{eqb-true, eqb-false, not-true, not-false}
 use Rattle.grammar.specs.Productions.{goto, end, eat, sub, _▸_, pattern, pattern-starts, pattern-starts-end, array-pattern-close, array-rest}
-use Rattle.phrases.specs.Meets.{sorted}
-use Rattle.phrases.proofs.LeafLaws.{moved-on, onward, one-fault}
-use Rattle.phrases.proofs.LeafRules.{no-pattern}
+use Rattle.leaves.specs.Meets.{sorted}
+use Rattle.leaves.proofs.LeafLaws.{moved-on, onward, one-fault}
+use Rattle.leaves.proofs.LeafRules.{no-pattern}
 use Rattle.phrases.proofs.PatternLaws.{starts-close, starts-rest, starts-one, starts-more, starts-over, in-brackets, in-braces, none-deeper, no-name}
 
 abbrev pub Inv-loop : lts.InvT-loop

@@ -7,13 +7,13 @@ use mathlib.Core.Path.{_≡_, refl, sym, ap, subst, _∙_}
 use mathlib.Core.Logic.{⊎-elim}
 use mathlib.Core.List.{[], _∷_}
 use Prim.Native.Nat.{ℕ, _+_, _*_, _-_, _≤_, _<_}
-use Rattle.phrases.proofs.Steps
+use Rattle.leaves.proofs.Steps
 use Rattle.phrases.proofs.rest.Reads.{Post}
 use Rattle.phrases.proofs.+arg+args+array+assert+basic+bind+body+chain+claim+comp+cond+each+ends+expr+field+func+index+init+inside+item+link+load+local+member+name+obj+param+params+pat+rest+rhs+safe+sign+slice+spec+specs+step+value.Lts-rest as lts
 use Rattle.phrases.proofs.+arg+args+array+assert+basic+bind+body+chain+claim+comp+cond+each+ends+expr+field+func+index+init+inside+item+link+load+local+member+name+obj+param+params+pat+rest+rhs+safe+sign+slice+spec+specs+step+value.Proof.Frame.{rest-claims as K, rest-at as P}
 use Rattle.grammar.specs.Productions.{goto, end, eat, _▸_, array-rest, array-rest-end}
-use Rattle.phrases.proofs.LeafLaws.{moved-on, onward}
-use Rattle.phrases.proofs.LexemeLaws.{lies}
+use Rattle.leaves.proofs.LeafLaws.{moved-on, onward}
+use Rattle.leaves.proofs.LexemeLaws.{lies}
 use Rattle.phrases.proofs.PatternLaws.{array-rest-named, array-rest-bare}
 use lib.Seq.{slice}
 

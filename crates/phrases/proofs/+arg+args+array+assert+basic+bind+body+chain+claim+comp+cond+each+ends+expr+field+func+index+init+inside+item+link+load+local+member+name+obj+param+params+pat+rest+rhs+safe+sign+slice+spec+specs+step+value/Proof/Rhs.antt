@@ -7,7 +7,7 @@ use mathlib.Core.Path.{_≡_, refl, sym, ap, subst, _∙_}
 use mathlib.Core.Logic.{⊎-elim}
 use mathlib.Core.List.{[], _∷_}
 use Prim.Native.Nat.{ℕ, _+_, _*_, _-_, _≤_, _<_}
-use Rattle.phrases.proofs.Steps
+use Rattle.leaves.proofs.Steps
 use Rattle.phrases.proofs.rhs.Reads.{Post}
 use Rattle.phrases.proofs.+arg+args+array+assert+basic+bind+body+chain+claim+comp+cond+each+ends+expr+field+func+index+init+inside+item+link+load+local+member+name+obj+param+params+pat+rest+rhs+safe+sign+slice+spec+specs+step+value.Lts-rhs as lts
 use Rattle.phrases.proofs.+arg+args+array+assert+basic+bind+body+chain+claim+comp+cond+each+ends+expr+field+func+index+init+inside+item+link+load+local+member+name+obj+param+params+pat+rest+rhs+safe+sign+slice+spec+specs+step+value.Proof.Frame.{rhs-claims as K, rhs-at as P}
@@ -15,8 +15,8 @@ use Rattle.grammar.specs.Image.{entry, payload}
 use Rattle.grammar.specs.Trees.{byte, number, span, text}
 use Rattle.grammar.specs.Productions.{goto, end, eat, leaf, sub, deep, close, _▸_, rule, expression, local-body}
 use Rattle.grammar.specs.Reading.{choose, has}
-use Rattle.phrases.specs.Meets.{bound}
-use Rattle.phrases.proofs.LexemeLaws.{sight}
+use Rattle.leaves.specs.Meets.{bound}
+use Rattle.leaves.proofs.LexemeLaws.{sight}
 
 pub eat-requires : (t : ℕ) → lts.Need-eat-requires (K t) (P t) Post
 eat-requires t c κs =

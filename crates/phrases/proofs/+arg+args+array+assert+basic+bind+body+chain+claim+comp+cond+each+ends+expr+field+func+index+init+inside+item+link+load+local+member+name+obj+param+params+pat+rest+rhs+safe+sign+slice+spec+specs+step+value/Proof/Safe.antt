@@ -7,7 +7,7 @@ use mathlib.Core.Path.{_≡_, refl, sym, ap, subst, _∙_}
 use mathlib.Core.Logic.{⊎-elim}
 use mathlib.Core.List.{[], _∷_}
 use Prim.Native.Nat.{ℕ, _+_, _*_, _-_, _≤_, _<_}
-use Rattle.phrases.proofs.Steps
+use Rattle.leaves.proofs.Steps
 use Rattle.phrases.proofs.safe.Reads.{Post}
 use Rattle.phrases.proofs.+arg+args+array+assert+basic+bind+body+chain+claim+comp+cond+each+ends+expr+field+func+index+init+inside+item+link+load+local+member+name+obj+param+params+pat+rest+rhs+safe+sign+slice+spec+specs+step+value.Lts-safe as lts
 use Rattle.phrases.proofs.+arg+args+array+assert+basic+bind+body+chain+claim+comp+cond+each+ends+expr+field+func+index+init+inside+item+link+load+local+member+name+obj+param+params+pat+rest+rhs+safe+sign+slice+spec+specs+step+value.Proof.Frame.{safe-claims as K, safe-at as P}
@@ -15,10 +15,10 @@ use Rattle.grammar.specs.Image.{entry, payload}
 use Rattle.grammar.specs.Trees.{byte, span}
 use Rattle.grammar.specs.Productions.{goto, eat, close, _▸_, rule, expression, suffix, null-safe-index, null-safe-end, member-name}
 use Rattle.grammar.specs.Reading.{choose, has}
-use Rattle.phrases.specs.Meets.{safely}
+use Rattle.leaves.specs.Meets.{safely}
 use borrow.Author.Tests.{ne-eqb}
-use Rattle.phrases.proofs.LexemeLaws.{sight}
-use Rattle.phrases.proofs.LeafLaws.{within}
+use Rattle.leaves.proofs.LexemeLaws.{sight}
+use Rattle.leaves.proofs.LeafLaws.{within}
 
 pub eat-requires : (t : ℕ) → lts.Need-eat-requires (K t) (P t) Post
 eat-requires t c κs =

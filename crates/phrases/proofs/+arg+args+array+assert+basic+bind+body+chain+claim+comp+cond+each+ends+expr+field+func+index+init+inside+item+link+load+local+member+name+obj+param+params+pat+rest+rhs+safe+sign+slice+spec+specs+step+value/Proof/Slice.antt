@@ -7,17 +7,17 @@ use mathlib.Core.Path.{_≡_, refl, sym, ap, subst, _∙_}
 use mathlib.Core.Logic.{⊎-elim}
 use mathlib.Core.List.{[], _∷_}
 use Prim.Native.Nat.{ℕ, _+_, _*_, _-_, _≤_, _<_}
-use Rattle.phrases.proofs.Steps
+use Rattle.leaves.proofs.Steps
 use Rattle.phrases.proofs.slice.Reads.{Post}
 use Rattle.phrases.proofs.+arg+args+array+assert+basic+bind+body+chain+claim+comp+cond+each+ends+expr+field+func+index+init+inside+item+link+load+local+member+name+obj+param+params+pat+rest+rhs+safe+sign+slice+spec+specs+step+value.Lts-slice as lts
 use Rattle.phrases.proofs.+arg+args+array+assert+basic+bind+body+chain+claim+comp+cond+each+ends+expr+field+func+index+init+inside+item+link+load+local+member+name+obj+param+params+pat+rest+rhs+safe+sign+slice+spec+specs+step+value.Proof.Frame.{slice-claims as K, slice-at as P}
 use Rattle.grammar.specs.Trees.{span}
 use Rattle.grammar.specs.Productions.{goto, end, eat, _▸_, rule, expression, slice-end, slice-ended, slice-step}
 use Rattle.grammar.specs.Reading.{choose, has}
-use Rattle.phrases.specs.Meets.{sliced}
+use Rattle.leaves.specs.Meets.{sliced}
 use borrow.Author.Tests.{ne-eqb}
-use Rattle.phrases.proofs.LexemeLaws.{sight}
-use Rattle.phrases.proofs.LeafLaws.{within}
+use Rattle.leaves.proofs.LexemeLaws.{sight}
+use Rattle.leaves.proofs.LeafLaws.{within}
 
 pub eat-any-requires : (t : ℕ) → lts.Need-eat-any-requires (K t) (P t) Post
 eat-any-requires t c κs =

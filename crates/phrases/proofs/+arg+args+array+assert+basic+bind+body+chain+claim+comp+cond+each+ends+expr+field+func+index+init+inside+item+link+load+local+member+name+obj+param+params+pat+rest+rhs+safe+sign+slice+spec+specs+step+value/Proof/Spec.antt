@@ -7,13 +7,13 @@ use mathlib.Core.Path.{_≡_, refl, sym, ap, subst, _∙_}
 use mathlib.Core.Logic.{⊎-elim}
 use mathlib.Core.List.{[], _∷_}
 use Prim.Native.Nat.{ℕ, _+_, _*_, _-_, _≤_, _<_}
-use Rattle.phrases.proofs.Steps
+use Rattle.leaves.proofs.Steps
 use Rattle.phrases.proofs.spec.Reads.{Post}
 use Rattle.phrases.proofs.+arg+args+array+assert+basic+bind+body+chain+claim+comp+cond+each+ends+expr+field+func+index+init+inside+item+link+load+local+member+name+obj+param+params+pat+rest+rhs+safe+sign+slice+spec+specs+step+value.Lts-spec as lts
 use Rattle.phrases.proofs.+arg+args+array+assert+basic+bind+body+chain+claim+comp+cond+each+ends+expr+field+func+index+init+inside+item+link+load+local+member+name+obj+param+params+pat+rest+rhs+safe+sign+slice+spec+specs+step+value.Proof.Frame.{spec-claims as K, spec-at as P}
 use Rattle.grammar.specs.Image.{entry, payload}
 use Rattle.grammar.specs.Productions.{goto, for-clause}
-use Rattle.phrases.specs.Lexing.{Header}
+use Rattle.leaves.specs.Lexing.{Header}
 use Rattle.phrases.proofs.ClauseLaws.{plain-clause}
 
 pub header-at-requires : (t : ℕ) → lts.Need-header-at-requires (K t) (P t) Post

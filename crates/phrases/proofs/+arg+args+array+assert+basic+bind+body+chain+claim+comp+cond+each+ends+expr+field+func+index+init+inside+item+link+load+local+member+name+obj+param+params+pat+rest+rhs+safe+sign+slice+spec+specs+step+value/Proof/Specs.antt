@@ -7,7 +7,7 @@ use mathlib.Core.Path.{_≡_, refl, sym, ap, subst, _∙_}
 use mathlib.Core.Logic.{⊎-elim}
 use mathlib.Core.List.{[], _∷_}
 use Prim.Native.Nat.{ℕ, _+_, _*_, _-_, _≤_, _<_}
-use Rattle.phrases.proofs.Steps
+use Rattle.leaves.proofs.Steps
 use Rattle.phrases.proofs.specs.Reads.{Post}
 use Rattle.phrases.proofs.+arg+args+array+assert+basic+bind+body+chain+claim+comp+cond+each+ends+expr+field+func+index+init+inside+item+link+load+local+member+name+obj+param+params+pat+rest+rhs+safe+sign+slice+spec+specs+step+value.Lts-specs as lts
 use Rattle.phrases.proofs.+arg+args+array+assert+basic+bind+body+chain+claim+comp+cond+each+ends+expr+field+func+index+init+inside+item+link+load+local+member+name+obj+param+params+pat+rest+rhs+safe+sign+slice+spec+specs+step+value.Proof.Frame.{specs-claims as K, specs-at as P}
@@ -15,8 +15,8 @@ use Rattle.phrases.proofs.CountLaws.{counts-on, passed-counting}
 use Rattle.grammar.specs.Productions.{goto, end, eat, sub, _▸_, rule, expression, clauses, more-clauses, for-clause, if-clause}
 use Rattle.grammar.specs.Reading.{choose, has}
 use borrow.Author.Tests.{ne-eqb}
-use Rattle.phrases.proofs.LeafLaws.{within}
-use Rattle.phrases.proofs.LexemeLaws.{sight}
+use Rattle.leaves.proofs.LeafLaws.{within}
+use Rattle.leaves.proofs.LexemeLaws.{sight}
 use Rattle.phrases.proofs.ClauseLaws.{clauses-begin, if-read, if-broken}
 
 abbrev pub Inv-loop : lts.InvT-loop

@@ -1,0 +1,7 @@
+pub mod LexemeLaws
+pub mod Steps
+pub mod FoundLaws
+pub mod PartLaws
+pub mod TextLaws
+pub mod LeafRules
+pub mod LeafLaws

@@ -1,0 +1,53 @@
+-- `parser::suffix_at` meets its contract.
+-- Assumes nothing.
+use Prim.Native.Nat.{_-_}
+use Rattle.leaves.specs.Lexing.{mark, dot, bracket, paren, brace, no-mark, none}
+use borrow.Author.Tests.{eq-eqb, ne-eqb}
+use Rattle.grammar.specs.Reading.{has}
+use Rattle.leaves.proofs.parser.suffix_at.Statement.{statement}
+use Rattle.leaves.proofs.parser.suffix_at.Tie as tie
+use Rattle.leaves.proofs.parser.suffix_at.Reads as reads
+use Rattle.leaves.proofs.parser.suffix_at.Lts as lts
+
+returns : tie.Need-returns
+unfolding has
+returns c =
+    let if1′ = c .before .if1 in
+    let if2′ = c .if2 in
+    mark (if1′ .taken) (eq-eqb _ 1 (if2′ .taken))
+
+returns-2 : tie.Need-returns-2
+unfolding has
+returns-2 c =
+    let if1′ = c .before .if1 in
+    let if2′ = c .if2 in
+    no-mark (if1′ .taken) (ne-eqb _ 1 (if2′ .left))
+
+returns-3 : tie.Need-returns-3
+returns-3 c =
+    let match′ = c .match in
+    dot (match′ .keys1)
+
+returns-4 : tie.Need-returns-4
+returns-4 c =
+    let match′ = c .match in
+    bracket (match′ .keys2)
+
+returns-5 : tie.Need-returns-5
+returns-5 c =
+    let match′ = c .match in
+    paren (match′ .keys3)
+
+returns-6 : tie.Need-returns-6
+returns-6 c =
+    let match′ = c .match in
+    brace (match′ .keys4)
+
+returns-7 : tie.Need-returns-7
+returns-7 c =
+    let if1′ = c .before .if1 in
+    let match′ = c .match in
+    none (if1′ .left) (match′ .rest .0 .0 .0 .1) (match′ .rest .0 .0 .1) (match′ .rest .0 .1) (match′ .rest .1)
+
+pub suffix-at-spec : {M : Type 1} → statement M
+suffix-at-spec = tie.close (tie.spec returns returns-2 returns-3 returns-4 returns-5 returns-6 returns-7)
