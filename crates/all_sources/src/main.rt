@@ -1,5 +1,7 @@
-// All sources of up to three lexemes, under each setting: how many there are, and a checksum of all their answers, as the judge prints them
-// (vectors/exhaustive.txt). They are counted through, the last lexeme fastest.
+// What `readtree` prints for the files that the arguments name. Then all sources of up to three lexemes, under each setting: how many there are,
+// and a checksum of all their answers, as the judge prints them (vectors/exhaustive.txt). They are counted through, the last lexeme fastest.
+mod files;
+
 ghost use Rattle.io.specs.Counts.{Counts};
 use desk::questions;
 use desk::text::put;
@@ -18,46 +20,9 @@ const TEXT: usize = 1024;
 fn put_lexeme(source: &mut [u8], at: usize, n: usize) -> usize
     ensures { λ r. ⌜ Counts r (now (source .exit)) ⌝ }
 {
-    match n {
-        0 => put(source, at, b"a"),
-        1 => put(source, at, b"1"),
-        2 => put(source, at, b"\"a\""),
-        3 => put(source, at, b"null"),
-        4 => put(source, at, b"+"),
-        5 => put(source, at, b"=="),
-        6 => put(source, at, b"-"),
-        7 => put(source, at, b"??"),
-        8 => put(source, at, b"("),
-        9 => put(source, at, b")"),
-        10 => put(source, at, b"["),
-        11 => put(source, at, b"]"),
-        12 => put(source, at, b"{"),
-        13 => put(source, at, b"}"),
-        14 => put(source, at, b":"),
-        _ => put_later_lexeme(source, at, n),
-    }
-}
-
-fn put_later_lexeme(source: &mut [u8], at: usize, n: usize) -> usize
-    ensures { λ r. ⌜ Counts r (now (source .exit)) ⌝ }
-{
-    match n {
-        15 => put(source, at, b";"),
-        16 => put(source, at, b"."),
-        17 => put(source, at, b"..."),
-        18 => put(source, at, b","),
-        19 => put(source, at, b"="),
-        20 => put(source, at, b"?"),
-        21 => put(source, at, b"if"),
-        22 => put(source, at, b"then"),
-        23 => put(source, at, b"else"),
-        24 => put(source, at, b"for"),
-        25 => put(source, at, b"in"),
-        26 => put(source, at, b"local"),
-        27 => put(source, at, b"assert"),
-        28 => put(source, at, b"function"),
-        _ => put(source, at, b"error"),
-    }
+    let lexemes =
+        b"a 1 \"a\" null + == - ?? ( ) [ ] { } : ; . ... , = ? if then else for in local assert function error";
+    put(source, at, lists::field(lexemes, n))
 }
 
 // The n-th source of one, two and three lexemes, a space between them.
@@ -129,6 +94,7 @@ fn print_sums(setting: u64) {
 }
 
 fn main() {
+    files::read_all();
     for setting in 0..8 {
         print_sums(setting);
     }

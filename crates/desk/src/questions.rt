@@ -167,17 +167,6 @@ impl Question {
     }
 }
 
-// A question that is a whole line, or the start of one.
-pub fn asked(line: &[u8], source: &mut [u8]) -> Question {
-    let mut q = Question::new();
-    let mut i = 0;
-    while i < line.len() {
-        q = q.with(line[i], source);
-        i += 1;
-    }
-    q
-}
-
 // Anything but zeros, so that what the reader leaves untouched is seen.
 fn smear(output: &mut [u8]) {
     let mut i = 0;

@@ -1,4 +1,4 @@
-// The lines of a list of vectors/, taken apart: fields with a space between, bytes in hex. For the replay programs alone.
+// Text taken apart: lines, fields with a space between, bytes in hex, as the lists of vectors/ have them; and a count of the lines that agree.
 ghost use Prim.Native.Nat.{_≤_};
 ghost use lib.ListN.{length};
 ghost use Rattle.io.specs.Counts.{Counts};

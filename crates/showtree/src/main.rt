@@ -1,14 +1,9 @@
 // Shows files to a person: an accepted one as an indented tree, a refused one as a sentence with its place.
 // Arguments: files, and `-s SETTING` for those after it.
-mod lines; // a record as a line
-mod places; // places as a person counts them
-mod records; // the image's records
-mod refusals; // a refusal as a sentence
-mod say; // what is written
-mod tree; // the records in a person's order
-
+use desk::Fields;
 use desk::input::take;
 use libc::STDERR_FILENO;
+use show::refusals::Refusal;
 
 // One byte more than a source may have, so that a longer one is seen as longer.
 const SOURCE: usize = 65_001;
@@ -24,7 +19,18 @@ const AWAITED: u64 = 8; // `-s` stood there, and its setting comes
 
 const STOPPED: u64 = 9; // it did not come
 
-fn show(
+fn tell(name: &[u8], f: Fields, source: &[u8]) {
+    let refusal = Refusal {
+        number: f.number,
+        start: f.start,
+        end: f.end,
+        detail: f.detail,
+        length: f.length,
+    };
+    show::refusals::tell(name, refusal, source);
+}
+
+fn show_source(
     name: &[u8],
     setting: u64,
     source: &[u8],
@@ -35,11 +41,11 @@ fn show(
 ) {
     let f = desk::answer(setting, source, output);
     if f.number != 0 {
-        refusals::tell(name, f, source);
+        tell(name, f, source);
         return;
     }
     let image = desk::image(f, output);
-    tree::show(image, source, starts, firsts, stack);
+    show::tree::show(image, source, starts, firsts, stack);
 }
 
 fn show_file(
@@ -63,7 +69,7 @@ fn show_file(
         return;
     }
     let n = taken.length;
-    show(name, setting, &source[..n], output, starts, firsts, stack);
+    show_source(name, setting, &source[..n], output, starts, firsts, stack);
 }
 
 // The setting that follows `-s`.

@@ -11,6 +11,9 @@ Inv-loop setting₀ setting = Unit {0}
 abbrev μ-loop : tie.MeasureT-loop
 μ-loop setting₀ setting = 8 - setting
 
+read-all-requires : tie.Need-read-all-requires Inv-loop μ-loop
+read-all-requires c κs = search needs
+
 loop-holds : tie.Need-loop-holds Inv-loop μ-loop
 loop-holds c = search needs
 
@@ -30,4 +33,4 @@ returns : tie.Need-returns Inv-loop μ-loop
 returns c = search needs
 
 pub main-spec : {M : Type 1} → statement M
-main-spec = tie.close (tie.spec Inv-loop μ-loop loop-holds print-sums-requires add-setting loop-less loop-again returns)
+main-spec = tie.close (tie.spec Inv-loop μ-loop read-all-requires loop-holds print-sums-requires add-setting loop-less loop-again returns)

@@ -1,0 +1,7 @@
+// An answer as a person reads it: a tree as indented lines, a refusal as a sentence with its place.
+mod lines; // a record as a line
+mod places; // places as a person counts them
+pub mod records; // the image's records
+pub mod refusals; // a refusal as a sentence
+mod say; // what is written
+pub mod tree; // the records in a person's order
