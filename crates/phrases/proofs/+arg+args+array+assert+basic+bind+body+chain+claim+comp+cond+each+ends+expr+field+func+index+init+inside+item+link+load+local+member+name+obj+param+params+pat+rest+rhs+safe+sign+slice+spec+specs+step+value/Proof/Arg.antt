@@ -1,157 +1,104 @@
--- The answers of `arg`.
+-- The answers of `arg`: the stretch over a named argument up to each place of the code, and from these what each call asks and each return owes.
+-- Of a place a₁ .. is the start, c₃ an earlier place.
 use borrow.Author.Needs.{needs}
 use native.Mathlib.Omega.{arith}
-use lib.Dec.{lit<, lit≤}
-use lib.ListN.{length}
-use mathlib.Core.Path.{_≡_, refl, sym, ap, subst, _∙_}
-use mathlib.Core.Logic.{⊎-elim}
-use mathlib.Core.List.{[], _∷_}
-use Prim.Native.Nat.{ℕ, _+_, _*_, _-_, _≤_, _<_}
+use lib.Dec.{lit≤}
+use lib.Seq.{slice}
+use mathlib.Core.Path.{_≡_}
+use mathlib.Core.List.{List, [], _∷_}
+use Prim.Native.Nat.{ℕ, _+_, _-_}
 use Rattle.leaves.proofs.Steps
 use Rattle.phrases.proofs.arg.Reads.{Post}
 use Rattle.phrases.proofs.+arg+args+array+assert+basic+bind+body+chain+claim+comp+cond+each+ends+expr+field+func+index+init+inside+item+link+load+local+member+name+obj+param+params+pat+rest+rhs+safe+sign+slice+spec+specs+step+value.Lts-arg as lts
 use Rattle.phrases.proofs.+arg+args+array+assert+basic+bind+body+chain+claim+comp+cond+each+ends+expr+field+func+index+init+inside+item+link+load+local+member+name+obj+param+params+pat+rest+rhs+safe+sign+slice+spec+specs+step+value.Proof.Frame.{arg-claims as K, arg-at as P}
+use Rattle.lexemes.specs.Kinds.{IDENT, ASSIGN}
+use Rattle.grammar.specs.Tags.{NAMED-ARGUMENT}
 use Rattle.grammar.specs.Trees.{text}
-use mathlib.Core.List.{List}
+use Rattle.grammar.specs.Productions.{Body, goto, end, close, _▸_, expression, named-argument}
+use Rattle.leaves.specs.Meets.{state, Seg}
+use Rattle.leaves.specs.declared.Cursor.{Cursor}
 use Rattle.leaves.proofs.LexemeLaws.{lies}
 use Rattle.leaves.proofs.LeafLaws.{bytes-short}
 use Rattle.leaves.proofs.PartLaws.{wrote-lent}
 use Rattle.phrases.proofs.SuffixLaws.{is-named, argues-plain, argues-fault, argues-named, name-taken, name-closed}
 
-pub error-requires : (t : ℕ) → lts.Need-error-requires (K t) (P t) Post
-error-requires t c κs =
-    search needs
+module _ (t : ℕ) where
+  -- a stretch of a named argument, which has taken its name and `=`
+  abbrev So : lts.Start (K t) (P t) Post → Body → ℕ → Cursor → ℕ → List ℕ → Type 0
+  So a b n c w o = let x = a .args in Seg (x .set) (x .src .now) (x .left) (state (goto named-argument) 0 (x .c) (x .w) (x .out .now)) (0 + (x .c .end - x .c .at) + 1) 0 (state b n c w o)
 
-pub returns : (t : ℕ) → lts.Need-returns (K t) (P t) Post
-returns t c =
-    let pre′ = c .before .before .before .before .before .pre in
-    let st = pre′ .1 .0 .stands in
-    let if1′ = c .before .before .if1 in
-    let if2′ = c .before .if2 in
-    let error′ = c .error in
-    argues-fault st (pre′ .1 .1) (if1′ .taken) (if2′ .taken) (error′ .ensures)
+  -- the record of all its trees
+  abbrev record-of : lts.Start (K t) (P t) Post → Body
+  record-of a = let x = a .args in close NAMED-ARGUMENT (text (slice (x .c .start) (x .c .end) (x .src .now)) ∷ []) ▸ end
 
-pub expr-requires : (t : ℕ) → lts.Need-expr-requires (K t) (P t) Post
-expr-requires t c κs =
-    let pre′ = c .before .before .before .before .before .pre in
-    (omega (arith, pre′ .0), pre′ .1 .0)
+  abbrev a₁ : lts.After-eat-any (K t) (P t) Post → lts.Start (K t) (P t) Post
+  a₁ c = c .before .before .before .before
 
-pub same-length : (t : ℕ) → lts.Need-same-length (K t) (P t) Post
-same-length t c =
-    search needs
+  named : (c : lts.After-eat-any (K t) (P t) Post) → (a₁ c .args .c .kind ≡ IDENT) × (c .eat-any .result .kind ≡ ASSIGN) × (a₁ c .args .k ≡ 1)
+  named c = is-named (a₁ c .pre .1 .1) (c .before .if1 .left) (c .eat-any .ensures)
 
-pub returns-2 : (t : ℕ) → lts.Need-returns-2 (K t) (P t) Post
-returns-2 t c =
-    let pre′ = c .before .before .before .before .before .before .before .before .pre in
-    let st = pre′ .1 .0 .stands in
-    let if1′ = c .before .before .before .before .before .if1 in
-    let if2′ = c .before .before .before .before .if2 in
-    let expr′ = c .before .before .expr in
-    argues-plain st (pre′ .1 .1) (if1′ .taken) (if2′ .left) (expr′ .ensures)
+  abbrev a₂ : lts.After-eat-any2 (K t) (P t) Post → lts.Start (K t) (P t) Post
+  a₂ c = a₁ (c .before .before)
 
-pub eat-any-requires : (t : ℕ) → lts.Need-eat-any-requires (K t) (P t) Post
-eat-any-requires t c κs =
-    let pre′ = c .before .before .before .pre in
-    let st = pre′ .1 .0 .stands in
-    st
+  headed : (c : lts.After-eat-any2 (K t) (P t) Post) → So (a₂ c) (expression ▸ record-of (a₂ c)) 0 (c .eat-any2 .result) (a₂ c .args .w) (a₂ c .args .out .now)
+  headed c = let e = c .before .before in name-taken (a₂ c .pre .1 .0 .stands) (named e .0) (e .eat-any .ensures) (named e .1) (c .eat-any2 .ensures)
 
-pub eat-any-requires-2 : (t : ℕ) → lts.Need-eat-any-requires-2 (K t) (P t) Post
-eat-any-requires-2 t c κs =
-    let eat-any′ = c .before .eat-any in
-    eat-any′ .ensures .stands
+  abbrev c₃ : lts.After-a (K t) (P t) Post → lts.After-eat-any2 (K t) (P t) Post
+  c₃ c = c .before .before .before .before .before
 
-pub expr-requires-2 : (t : ℕ) → lts.Need-expr-requires-2 (K t) (P t) Post
-expr-requires-2 t c κs =
-    let pre′ = c .before .before .before .before .before .before .pre in
-    let args′ = c .before .before .before .before .before .before .args in
-    let g = args′ .set in
-    let st = pre′ .1 .0 .stands in
-    let if1′ = c .before .before .before .if1 in
-    let eat-any′ = c .before .before .eat-any in
-    let is = is-named (pre′ .1 .1) (if1′ .left) (eat-any′ .ensures) in
-    let eat-any2′ = c .eat-any2 in
-    let head = name-taken {g = g} {d = args′ .left} {w = args′ .w} {o = args′ .out .now} st (is .0) (eat-any′ .ensures) (is .1) (eat-any2′ .ensures) in
-    (omega (arith, pre′ .0), Steps.ready (pre′ .1 .0) (omega arith) head)
+  abbrev a₃ : lts.After-a (K t) (P t) Post → lts.Start (K t) (P t) Post
+  a₃ c = a₂ (c₃ c)
 
-pub enum-known-a : (t : ℕ) → lts.Need-enum-known-a (K t) (P t) Post
-enum-known-a t c =
-    search needs
+  valued : (c : lts.After-a (K t) (P t) Post) → So (a₃ c) (record-of (a₃ c)) 1 (c .a .given .0 .0) (c .a .given .0 .1 .0) (c .before .before .before .before .expr2 .last .1 .0)
+  valued c = Steps.took (c .before .before .before .before .expr2 .ensures) (c .a .given .1) (headed (c₃ c))
 
-pub enum-told : (t : ℕ) → lts.Need-enum-told (K t) (P t) Post
-enum-told t c =
-    search needs
+  -- ── What each call asks ─────────────────────────────────────────────────────────────────────────
 
-pub same-length-2 : (t : ℕ) → lts.Need-same-length-2 (K t) (P t) Post
-same-length-2 t c =
-    search needs
+  expr-requires-2 : lts.Need-expr-requires-2 (K t) (P t) Post
+  expr-requires-2 c κs = let p = a₂ c .pre in (omega (arith, p .0), Steps.ready (p .1 .0) (omega arith) (headed c))
 
-pub returns-3 : (t : ℕ) → lts.Need-returns-3 (K t) (P t) Post
-returns-3 t c =
-    let pre′ = c .before .before .before .before .before .before .before .before .before .before .before .pre in
-    let st = pre′ .1 .0 .stands in
-    let if1′ = c .before .before .before .before .before .before .before .before .if1 in
-    let eat-any′ = c .before .before .before .before .before .before .before .eat-any in
-    let is = is-named (pre′ .1 .1) (if1′ .left) (eat-any′ .ensures) in
-    let expr2′ = c .before .before .before .before .expr2 in
-    let match′ = c .before .match in
-    let args′ = c .before .before .before .before .before .before .before .before .before .before .before .args in
-    let g = args′ .set in
-    let eat-any2′ = c .before .before .before .before .before .eat-any2 in
-    let head = name-taken {g = g} {d = args′ .left} {w = args′ .w} {o = args′ .out .now} st (is .0) (eat-any′ .ensures) (is .1) (eat-any2′ .ensures) in
-    argues-named st (is .0) (eat-any′ .ensures) (is .1) (is .2) (Steps.as-sub (Steps.passed (Steps.takes-broken (expr2′ .ensures) (match′ .keys2)) head))
+  sub-put-word : lts.Need-sub-put-word (K t) (P t) Post
+  sub-put-word c = lies (a₃ (c .before .before) .pre .1 .0 .stands) .on
 
-pub sub-put-word : (t : ℕ) → lts.Need-sub-put-word (K t) (P t) Post
-sub-put-word t c =
-    let pre′ = c .before .before .before .before .before .before .before .before .before .before .before .before .before .pre in
-    let st = pre′ .1 .0 .stands in
-    lies st .on
+  part-put-word-end : lts.Need-part-put-word-end (K t) (P t) Post
+  part-put-word-end c = lies (a₃ (c .before .before) .pre .1 .0 .stands) .within
 
-pub part-put-word-start : (t : ℕ) → lts.Need-part-put-word-start (K t) (P t) Post
-part-put-word-start t c =
-    let pre′ = c .before .before .before .before .before .before .before .before .before .before .before .before .before .pre in
-    let st = pre′ .1 .0 .stands in
-    lies st .on
+  put-word-requires : lts.Need-put-word-requires (K t) (P t) Post
+  put-word-requires c κs = let a = c .before .before .before in let p = a₃ a .pre .1 .0 in (Steps.fits p (lit≤ tt) (valued a), omega (arith, bytes-short p))
 
-pub part-put-word-end : (t : ℕ) → lts.Need-part-put-word-end (K t) (P t) Post
-part-put-word-end t c =
-    let pre′ = c .before .before .before .before .before .before .before .before .before .before .before .before .before .pre in
-    let st = pre′ .1 .0 .stands in
-    lies st .within
+  -- ── What each return owes ───────────────────────────────────────────────────────────────────────
 
-pub put-word-requires : (t : ℕ) → lts.Need-put-word-requires (K t) (P t) Post
-put-word-requires t c κs =
-    let pre′ = c .before .before .before .before .before .before .before .before .before .before .before .before .before .before .pre in
-    let expr2′ = c .before .before .before .before .before .before .before .expr2 in
-    let a′ = c .before .before .before .a in
-    let args′ = c .before .before .before .before .before .before .before .before .before .before .before .before .before .before .args in
-    let g = args′ .set in
-    let st = pre′ .1 .0 .stands in
-    let if1′ = c .before .before .before .before .before .before .before .before .before .before .before .if1 in
-    let eat-any′ = c .before .before .before .before .before .before .before .before .before .before .eat-any in
-    let is = is-named (pre′ .1 .1) (if1′ .left) (eat-any′ .ensures) in
-    let eat-any2′ = c .before .before .before .before .before .before .before .before .eat-any2 in
-    let head = name-taken {g = g} {d = args′ .left} {w = args′ .w} {o = args′ .out .now} st (is .0) (eat-any′ .ensures) (is .1) (eat-any2′ .ensures) in
-    let value = Steps.took (expr2′ .ensures) (a′ .given .1) head in
-    (Steps.fits (pre′ .1 .0) (lit≤ tt) value, omega (arith, bytes-short (pre′ .1 .0)))
+  returns : lts.Need-returns (K t) (P t) Post
+  returns c = let x = c .before .before in let p = x .before .before .before .pre .1 in argues-fault (p .0 .stands) (p .1) (x .if1 .taken) (c .before .if2 .taken) (c .error .ensures)
 
-pub same-length-3 : (t : ℕ) → lts.Need-same-length-3 (K t) (P t) Post
-same-length-3 t c =
-    search needs
+  returns-2 : lts.Need-returns-2 (K t) (P t) Post
+  returns-2 c =
+      let x = c .before .before .before .before in
+      let p = x .before .before .before .before .pre .1 in
+      argues-plain (p .0 .stands) (p .1) (x .before .if1 .taken) (x .if2 .left) (c .before .before .expr .ensures)
 
-pub returns-4 : (t : ℕ) → lts.Need-returns-4 (K t) (P t) Post
-returns-4 t c =
-    let pre′ = c .before .before .before .before .before .before .before .before .before .before .before .before .before .before .before .before .before .pre in
-    let st = pre′ .1 .0 .stands in
-    let if1′ = c .before .before .before .before .before .before .before .before .before .before .before .before .before .before .if1 in
-    let eat-any′ = c .before .before .before .before .before .before .before .before .before .before .before .before .before .eat-any in
-    let is = is-named (pre′ .1 .1) (if1′ .left) (eat-any′ .ensures) in
-    let expr2′ = c .before .before .before .before .before .before .before .before .before .before .expr2 in
-    let a′ = c .before .before .before .before .before .before .a in
-    let args′ = c .before .before .before .before .before .before .before .before .before .before .before .before .before .before .before .before .before .args in
-    let g = args′ .set in
-    let eat-any2′ = c .before .before .before .before .before .before .before .before .before .before .before .eat-any2 in
-    let head = name-taken {g = g} {d = args′ .left} {w = args′ .w} {o = args′ .out .now} st (is .0) (eat-any′ .ensures) (is .1) (eat-any2′ .ensures) in
-    let value = Steps.took (expr2′ .ensures) (a′ .given .1) head in
-    let s = args′ .src .now in
-    let put-word′ = c .before .before .put-word in
-    argues-named st (is .0) (eat-any′ .ensures) (is .1) (is .2) (name-closed st (omega arith) value (wrote-lent 19 (λ (l : List ℕ). text l ∷ []) s (args′ .c .start) (args′ .c .end) (put-word′ .ensures)))
+  returns-3 : lts.Need-returns-3 (K t) (P t) Post
+  returns-3 c =
+      let x = c .before .before .before .before in
+      let h = x .before in
+      let e = h .before .before in
+      let is = named e in
+      argues-named (a₂ h .pre .1 .0 .stands) (is .0) (e .eat-any .ensures) (is .1) (is .2) (Steps.as-sub (Steps.passed (Steps.takes-broken (x .expr2 .ensures) (c .before .match .keys2)) (headed h)))
+
+  returns-4 : lts.Need-returns-4 (K t) (P t) Post
+  returns-4 c =
+      let x = c .before .before in
+      let v = x .before .before .before .before in
+      let e = c₃ v .before .before in
+      let is = named e in
+      let g = a₁ e .args in
+      let st = a₁ e .pre .1 .0 .stands in
+      argues-named st (is .0) (e .eat-any .ensures) (is .1) (is .2)
+      (name-closed st (omega arith) (valued v) (wrote-lent NAMED-ARGUMENT (λ (l : List ℕ). text l ∷ []) (g .src .now) (g .c .start) (g .c .end) (x .put-word .ensures)))
+
+  -- All of them, in the order of the code.
+  pub met : {M : Type 1} → lts.Closed (K t) (P t) Post M
+  met =
+      lts.spec (K t) (P t) Post (λ c κs. search needs) returns (λ c κs. search needs) (λ c. search needs) returns-2 (λ c κs. search needs)
+      (λ c κs. search needs) expr-requires-2 (λ c. search needs) (λ c. search needs) (λ c. search needs) returns-3 sub-put-word sub-put-word
+      part-put-word-end put-word-requires (λ c. search needs) returns-4

@@ -1,21 +1,25 @@
--- The answers of `array`.
+-- The answers of `array`: the stretch from its start to each place of its code and over a turn of its loop, and from these what each call asks and each return owes.
+-- Of a place a₁ .. is the start, l₁ .. the turn, x₂ .. the call before it, c₃ an earlier place.
 use borrow.Author.Needs.{needs}
 use native.Mathlib.Omega.{arith}
 use lib.Dec.{lit<, lit≤}
 use lib.ListN.{length}
-use mathlib.Core.Path.{_≡_, refl, sym, ap, subst, _∙_}
-use mathlib.Core.Logic.{⊎-elim}
-use mathlib.Core.List.{[], _∷_}
-use Prim.Native.Nat.{ℕ, _+_, _*_, _-_, _≤_, _<_}
+use mathlib.Core.Path.{_≡_, refl, _∙_}
+use mathlib.Core.List.{List}
+use Prim.Native.Nat.{ℕ, _+_, _-_, _≤_}
+use borrow.Author.Tests.{ne-eqb}
 use Rattle.leaves.proofs.Steps
 use Rattle.phrases.proofs.array.Reads.{Post}
 use Rattle.phrases.proofs.+arg+args+array+assert+basic+bind+body+chain+claim+comp+cond+each+ends+expr+field+func+index+init+inside+item+link+load+local+member+name+obj+param+params+pat+rest+rhs+safe+sign+slice+spec+specs+step+value.Lts-array as lts
 use Rattle.phrases.proofs.+arg+args+array+assert+basic+bind+body+chain+claim+comp+cond+each+ends+expr+field+func+index+init+inside+item+link+load+local+member+name+obj+param+params+pat+rest+rhs+safe+sign+slice+spec+specs+step+value.Proof.Frame.{array-claims as K, array-at as P}
-use Rattle.phrases.proofs.CountLaws.{step-grows}
-use Rattle.grammar.specs.Trees.{number}
-use Rattle.grammar.specs.Productions.{goto, end, eat, sub, close, _▸_, rule, expression, array, array-first, array-comp-end, clauses, elements, next-element}
+use Rattle.lexemes.specs.Kinds.{R-BRACK, COMMA, FOR-KW}
+use Rattle.grammar.specs.Tags.{ARRAY, ARRAY-COMP}
+use Rattle.grammar.specs.Productions.{Body, goto, eat, sub, _▸_, rule, expression, array, array-first, array-comp, array-comp-end, clauses, elements, next-element}
 use Rattle.grammar.specs.Reading.{choose, has}
-use borrow.Author.Tests.{ne-eqb}
+use Rattle.leaves.specs.Lexing.{Stands}
+use Rattle.leaves.specs.Meets.{state, Seg, bracketed}
+use Rattle.leaves.specs.declared.Cursor.{Cursor}
+use Rattle.phrases.proofs.CountLaws.{step-grows}
 use Rattle.leaves.proofs.LexemeLaws.{sight}
 use Rattle.phrases.proofs.KeywordLaws.{array-clauses, array-clauses-end}
 use Rattle.phrases.proofs.ClauseLaws.{array-for, array-no-for}
@@ -26,431 +30,202 @@ Inv-loop src out₀ w left set w1 cur₀ at₀ n₀ out cur at n = Steps.Turns s
 abbrev pub μ-loop : lts.MeasureT-loop
 μ-loop src out₀ w left set w1 cur₀ at₀ n₀ out cur at n = length src - cur .at
 
-pub array-close-requires : (t : ℕ) → lts.Need-array-close-requires (K t) (P t) Post Inv-loop μ-loop
-array-close-requires t c κs =
-    let pre′ = c .before .before .before .before .before .pre in
-    (pre′ .1, omega arith)
+module _ (t : ℕ) where
+  abbrev Begin : Type 0
+  Begin = lts.Start (K t) (P t) Post Inv-loop μ-loop
 
-pub same-length : (t : ℕ) → lts.Need-same-length (K t) (P t) Post Inv-loop μ-loop
-same-length t c =
-    search needs
+  abbrev Turn : Type 0
+  Turn = lts.At-loop (K t) (P t) Post Inv-loop μ-loop
 
-pub returns : (t : ℕ) → lts.Need-returns (K t) (P t) Post Inv-loop μ-loop
-unfolding rule choose has sight
-returns t c =
-    let array-close′ = c .before .before .array-close in
-    let args′ = c .before .before .before .before .before .before .before .before .args in
-    let g = args′ .set in
-    let pre′ = c .before .before .before .before .before .before .before .before .pre in
-    let if1′ = c .before .before .before .before .if1 in
-    let s = args′ .src .now in
-    let begin = Steps.at g s (args′ .left) (goto array) 0 (args′ .c) (args′ .w) (args′ .out .now) in
-    Steps.tail (lit≤ tt) (array-close′ .ensures .ends g (args′ .left) 0) (Steps.known (eat 24 ▸ close 7 (number 0 ∷ []) ▸ end) (pre′ .1 .stands) (if1′ .taken) (λ xs t. refl) begin)
+  -- a stretch from the start to a body with n trees
+  abbrev So : Begin → Body → ℕ → Cursor → ℕ → List ℕ → Type 0
+  So a b n c w o = let x = a .args in Seg (x .set) (x .src .now) (x .left) (state (goto array) 0 (x .c) (x .w) (x .out .now)) 0 0 (state b n c w o)
 
-pub expr-requires : (t : ℕ) → lts.Need-expr-requires (K t) (P t) Post Inv-loop μ-loop
-expr-requires t c κs =
-    let pre′ = c .before .before .before .before .before .pre in
-    (omega (arith, pre′ .0), pre′ .1)
+  -- ── The first element ───────────────────────────────────────────────────────────────────────────
 
-pub enum-known-a : (t : ℕ) → lts.Need-enum-known-a (K t) (P t) Post Inv-loop μ-loop
-enum-known-a t c =
-    search needs
+  abbrev a₁ : lts.Else1 (K t) (P t) Post Inv-loop μ-loop → Begin
+  a₁ c = c .before .before .before .before
 
-pub enum-told : (t : ℕ) → lts.Need-enum-told (K t) (P t) Post Inv-loop μ-loop
-enum-told t c =
-    search needs
+  entered : (c : lts.Else1 (K t) (P t) Post Inv-loop μ-loop) → let x = a₁ c .args in So (a₁ c) (expression ▸ goto array-first) 0 (x .c) (x .w) (x .out .now)
+  unfolding rule choose has sight
+  entered c = Steps.known (expression ▸ goto array-first) (a₁ c .pre .1 .stands) refl (λ xs t. simp (ne-eqb _ R-BRACK (c .if1 .left))) Steps.here
 
-pub same-length-2 : (t : ℕ) → lts.Need-same-length-2 (K t) (P t) Post Inv-loop μ-loop
-same-length-2 t c =
-    search needs
+  abbrev x₂ : lts.After-a (K t) (P t) Post Inv-loop μ-loop → lts.After-expr (K t) (P t) Post Inv-loop μ-loop
+  x₂ c = c .before .before .before .before
 
-pub returns-2 : (t : ℕ) → lts.Need-returns-2 (K t) (P t) Post Inv-loop μ-loop
-unfolding rule choose has sight
-returns-2 t c =
-    let expr′ = c .before .before .before .before .expr in
-    let match′ = c .before .match in
-    let pre′ = c .before .before .before .before .before .before .before .before .before .before .pre in
-    let if1′ = c .before .before .before .before .before .before .if1 in
-    let args′ = c .before .before .before .before .before .before .before .before .before .before .args in
-    let g = args′ .set in
-    let s = args′ .src .now in
-    let begin = Steps.at g s (args′ .left) (goto array) 0 (args′ .c) (args′ .w) (args′ .out .now) in
-    let entered = Steps.known (expression ▸ goto array-first) (pre′ .1 .stands) refl (λ xs t. simp (ne-eqb _ 24 (if1′ .left))) begin in
-    Steps.passed (Steps.takes-broken (expr′ .ensures) (match′ .keys2)) entered
+  abbrev a₂ : lts.After-a (K t) (P t) Post Inv-loop μ-loop → Begin
+  a₂ c = a₁ (x₂ c .before .before)
 
-pub clauses-at-requires : (t : ℕ) → lts.Need-clauses-at-requires (K t) (P t) Post Inv-loop μ-loop
-unfolding rule choose has sight
-clauses-at-requires t c κs =
-    let expr′ = c .before .before .before .before .before .expr in
-    let a′ = c .before .a in
-    let pre′ = c .before .before .before .before .before .before .before .before .before .before .before .pre in
-    let if1′ = c .before .before .before .before .before .before .before .if1 in
-    let args′ = c .before .before .before .before .before .before .before .before .before .before .before .args in
-    let g = args′ .set in
-    let s = args′ .src .now in
-    let begin = Steps.at g s (args′ .left) (goto array) 0 (args′ .c) (args′ .w) (args′ .out .now) in
-    let entered = Steps.known (expression ▸ goto array-first) (pre′ .1 .stands) refl (λ xs t. simp (ne-eqb _ 24 (if1′ .left))) begin in
-    let first = Steps.took (expr′ .ensures) (a′ .given .1) entered in
-    let there = first .stands (pre′ .1 .stands) in
-    there
+  first : (c : lts.After-a (K t) (P t) Post Inv-loop μ-loop) → So (a₂ c) (goto array-first) 1 (c .a .given .0 .0) (c .a .given .0 .1 .0) (x₂ c .expr .last .1 .0)
+  first c = Steps.took (x₂ c .expr .ensures) (c .a .given .1) (entered (x₂ c .before .before))
 
-pub past-comma-requires : (t : ℕ) → lts.Need-past-comma-requires (K t) (P t) Post Inv-loop μ-loop
-unfolding rule choose has sight
-past-comma-requires t c κs =
-    let expr′ = c .before .before .before .before .before .before .before .before .expr in
-    let a′ = c .before .before .before .before .a in
-    let pre′ = c .before .before .before .before .before .before .before .before .before .before .before .before .before .before .pre in
-    let if1′ = c .before .before .before .before .before .before .before .before .before .before .if1 in
-    let args′ = c .before .before .before .before .before .before .before .before .before .before .before .before .before .before .args in
-    let g = args′ .set in
-    let s = args′ .src .now in
-    let begin = Steps.at g s (args′ .left) (goto array) 0 (args′ .c) (args′ .w) (args′ .out .now) in
-    let entered = Steps.known (expression ▸ goto array-first) (pre′ .1 .stands) refl (λ xs t. simp (ne-eqb _ 24 (if1′ .left))) begin in
-    let first = Steps.took (expr′ .ensures) (a′ .given .1) entered in
-    let there = first .stands (pre′ .1 .stands) in
-    there
+  there : (c : lts.After-a (K t) (P t) Post Inv-loop μ-loop) → Stands (a₂ c .args .src .now) (c .a .given .0 .0)
+  there c = first c .stands (a₂ c .pre .1 .stands)
 
-pub specs-requires : (t : ℕ) → lts.Need-specs-requires (K t) (P t) Post Inv-loop μ-loop
-unfolding rule choose has sight
-specs-requires t c κs =
-    let pre′ = c .before .before .before .before .before .before .before .before .before .before .before .before .before .before .before .pre in
-    let expr′ = c .before .before .before .before .before .before .before .before .before .expr in
-    let a′ = c .before .before .before .before .before .a in
-    let if1′ = c .before .before .before .before .before .before .before .before .before .before .before .if1 in
-    let args′ = c .before .before .before .before .before .before .before .before .before .before .before .before .before .before .before .args in
-    let g = args′ .set in
-    let s = args′ .src .now in
-    let begin = Steps.at g s (args′ .left) (goto array) 0 (args′ .c) (args′ .w) (args′ .out .now) in
-    let entered = Steps.known (expression ▸ goto array-first) (pre′ .1 .stands) refl (λ xs t. simp (ne-eqb _ 24 (if1′ .left))) begin in
-    let first = Steps.took (expr′ .ensures) (a′ .given .1) entered in
-    let there = first .stands (pre′ .1 .stands) in
-    let clauses-at′ = c .before .before .before .clauses-at in
-    let if2′ = c .before .before .if2 in
-    let past-comma′ = c .past-comma in
-    let found = array-for there (clauses-at′ .ensures) (if2′ .taken) (past-comma′ .ensures) first in
-    (omega (arith, pre′ .0), (Steps.ready (pre′ .1) (lit≤ tt) (found .0), found .1))
+  -- ── A comprehension ─────────────────────────────────────────────────────────────────────────────
 
-pub enum-known-d : (t : ℕ) → lts.Need-enum-known-d (K t) (P t) Post Inv-loop μ-loop
-enum-known-d t c =
-    search needs
+  abbrev c₃ : lts.After-past-comma (K t) (P t) Post Inv-loop μ-loop → lts.After-a (K t) (P t) Post Inv-loop μ-loop
+  c₃ c = c .before .before .before .before .before
 
-pub enum-told-2 : (t : ℕ) → lts.Need-enum-told-2 (K t) (P t) Post Inv-loop μ-loop
-enum-told-2 t c =
-    search needs
+  found : (c : lts.After-past-comma (K t) (P t) Post Inv-loop μ-loop) → let a = c₃ c in
+      So (a₂ a) (goto array-comp) 1 (c .past-comma .result) (a .a .given .0 .1 .0) (x₂ a .expr .last .1 .0) × (c .past-comma .result .kind ≡ FOR-KW)
+  found c = let x = c .before .before in array-for (there (c₃ c)) (x .before .clauses-at .ensures) (x .if2 .taken) (c .past-comma .ensures) (first (c₃ c))
 
-pub same-length-3 : (t : ℕ) → lts.Need-same-length-3 (K t) (P t) Post Inv-loop μ-loop
-same-length-3 t c =
-    let specs′ = c .before .before .before .before .specs in
-    let expr′ = c .before .before .before .before .before .before .before .before .before .before .before .before .before .before .expr in
-    specs′ .kept .1 .0 ∙ expr′ .kept .1 .0
+  clausal : (c : lts.After-past-comma (K t) (P t) Post Inv-loop μ-loop) → let a = c₃ c in
+      So (a₂ a) (sub clauses ▸ goto array-comp-end) 1 (c .past-comma .result) (a .a .given .0 .1 .0) (x₂ a .expr .last .1 .0)
+  clausal c =
+      let a = a₂ (c₃ c) in
+      let f = c .past-comma .result in
+      Steps.known (sub clauses ▸ goto array-comp-end) (found c .0 .stands (a .pre .1 .stands)) refl (λ xs t. array-clauses (a .args .set) f xs 1 (f .kind) t) (found c .0)
 
-pub returns-3 : (t : ℕ) → lts.Need-returns-3 (K t) (P t) Post Inv-loop μ-loop
-unfolding rule choose has sight
-returns-3 t c =
-    let specs′ = c .before .before .before .before .specs in
-    let match2′ = c .before .match2 in
-    let expr′ = c .before .before .before .before .before .before .before .before .before .before .before .before .before .before .expr in
-    let a′ = c .before .before .before .before .before .before .before .before .before .before .a in
-    let pre′ = c .before .before .before .before .before .before .before .before .before .before .before .before .before .before .before .before .before .before .before .before .pre in
-    let if1′ = c .before .before .before .before .before .before .before .before .before .before .before .before .before .before .before .before .if1 in
-    let args′ = c .before .before .before .before .before .before .before .before .before .before .before .before .before .before .before .before .before .before .before .before .args in
-    let g = args′ .set in
-    let s = args′ .src .now in
-    let begin = Steps.at g s (args′ .left) (goto array) 0 (args′ .c) (args′ .w) (args′ .out .now) in
-    let entered = Steps.known (expression ▸ goto array-first) (pre′ .1 .stands) refl (λ xs t. simp (ne-eqb _ 24 (if1′ .left))) begin in
-    let first = Steps.took (expr′ .ensures) (a′ .given .1) entered in
-    let there = first .stands (pre′ .1 .stands) in
-    let clauses-at′ = c .before .before .before .before .before .before .before .before .clauses-at in
-    let if2′ = c .before .before .before .before .before .before .before .if2 in
-    let past-comma′ = c .before .before .before .before .before .past-comma in
-    let found = array-for there (clauses-at′ .ensures) (if2′ .taken) (past-comma′ .ensures) first in
-    let comp = past-comma′ .result in
-    let clauses = Steps.known (sub clauses ▸ goto array-comp-end) (found .0 .stands (pre′ .1 .stands)) refl (λ xs t. array-clauses g comp xs 1 (comp .kind) t) (found .0) in
-    Steps.passed (Steps.counts-broken (specs′ .ensures) (match2′ .keys2)) clauses
+  abbrev x₄ : lts.After-d (K t) (P t) Post Inv-loop μ-loop → lts.After-specs (K t) (P t) Post Inv-loop μ-loop
+  x₄ c = c .before .before .before .before
 
-pub array-close-requires-2 : (t : ℕ) → lts.Need-array-close-requires-2 (K t) (P t) Post Inv-loop μ-loop
-unfolding rule choose has sight
-array-close-requires-2 t c κs =
-    let pre′ = c .before .before .before .before .before .before .before .before .before .before .before .before .before .before .before .before .before .before .before .before .before .before .pre in
-    let specs′ = c .before .before .before .before .before .before .specs in
-    let d′ = c .before .before .d in
-    let list = Steps.counted (specs′ .ensures) (d′ .given .1) in
-    let expr′ = c .before .before .before .before .before .before .before .before .before .before .before .before .before .before .before .before .expr in
-    let a′ = c .before .before .before .before .before .before .before .before .before .before .before .before .a in
-    let if1′ = c .before .before .before .before .before .before .before .before .before .before .before .before .before .before .before .before .before .before .if1 in
-    let args′ = c .before .before .before .before .before .before .before .before .before .before .before .before .before .before .before .before .before .before .before .before .before .before .args in
-    let g = args′ .set in
-    let s = args′ .src .now in
-    let begin = Steps.at g s (args′ .left) (goto array) 0 (args′ .c) (args′ .w) (args′ .out .now) in
-    let entered = Steps.known (expression ▸ goto array-first) (pre′ .1 .stands) refl (λ xs t. simp (ne-eqb _ 24 (if1′ .left))) begin in
-    let first = Steps.took (expr′ .ensures) (a′ .given .1) entered in
-    let there = first .stands (pre′ .1 .stands) in
-    let clauses-at′ = c .before .before .before .before .before .before .before .before .before .before .clauses-at in
-    let if2′ = c .before .before .before .before .before .before .before .before .before .if2 in
-    let past-comma′ = c .before .before .before .before .before .before .before .past-comma in
-    let found = array-for there (clauses-at′ .ensures) (if2′ .taken) (past-comma′ .ensures) first in
-    let comp = past-comma′ .result in
-    let clauses = Steps.known (sub clauses ▸ goto array-comp-end) (found .0 .stands (pre′ .1 .stands)) refl (λ xs t. array-clauses g comp xs 1 (comp .kind) t) (found .0) in
-    let listed = Steps.took (list .0) refl clauses in
-    (Steps.ready (pre′ .1) (lit≤ tt) listed, omega (arith, list .1))
+  abbrev a₄ : lts.After-d (K t) (P t) Post Inv-loop μ-loop → Begin
+  a₄ c = a₂ (c₃ (x₄ c .before))
 
-pub same-length-4 : (t : ℕ) → lts.Need-same-length-4 (K t) (P t) Post Inv-loop μ-loop
-same-length-4 t c =
-    let array-close2′ = c .before .before .array-close2 in
-    let specs′ = c .before .before .before .before .before .before .before .before .before .specs in
-    let expr′ = c .before .before .before .before .before .before .before .before .before .before .before .before .before .before .before .before .before .before .before .expr in
-    array-close2′ .kept .1 .0 ∙ specs′ .kept .1 .0 ∙ expr′ .kept .1 .0
+  -- how many clauses
+  abbrev many : lts.After-d (K t) (P t) Post Inv-loop μ-loop → ℕ
+  many c = c .d .given .0 .1 .1 .0
 
-pub returns-4 : (t : ℕ) → lts.Need-returns-4 (K t) (P t) Post Inv-loop μ-loop
-unfolding rule choose has sight
-returns-4 t c =
-    let array-close2′ = c .before .before .array-close2 in
-    let args′ = c .before .before .before .before .before .before .before .before .before .before .before .before .before .before .before .before .before .before .before .before .before .before .before .before .before .args in
-    let g = args′ .set in
-    let d′ = c .before .before .before .before .before .d in
-    let m = d′ .given .0 .1 .1 .0 in
-    let specs′ = c .before .before .before .before .before .before .before .before .before .specs in
-    let list = Steps.counted (specs′ .ensures) (d′ .given .1) in
-    let expr′ = c .before .before .before .before .before .before .before .before .before .before .before .before .before .before .before .before .before .before .before .expr in
-    let a′ = c .before .before .before .before .before .before .before .before .before .before .before .before .before .before .before .a in
-    let pre′ = c .before .before .before .before .before .before .before .before .before .before .before .before .before .before .before .before .before .before .before .before .before .before .before .before .before .pre in
-    let if1′ = c .before .before .before .before .before .before .before .before .before .before .before .before .before .before .before .before .before .before .before .before .before .if1 in
-    let s = args′ .src .now in
-    let begin = Steps.at g s (args′ .left) (goto array) 0 (args′ .c) (args′ .w) (args′ .out .now) in
-    let entered = Steps.known (expression ▸ goto array-first) (pre′ .1 .stands) refl (λ xs t. simp (ne-eqb _ 24 (if1′ .left))) begin in
-    let first = Steps.took (expr′ .ensures) (a′ .given .1) entered in
-    let there = first .stands (pre′ .1 .stands) in
-    let clauses-at′ = c .before .before .before .before .before .before .before .before .before .before .before .before .before .clauses-at in
-    let if2′ = c .before .before .before .before .before .before .before .before .before .before .before .before .if2 in
-    let past-comma′ = c .before .before .before .before .before .before .before .before .before .before .past-comma in
-    let found = array-for there (clauses-at′ .ensures) (if2′ .taken) (past-comma′ .ensures) first in
-    let comp = past-comma′ .result in
-    let clauses = Steps.known (sub clauses ▸ goto array-comp-end) (found .0 .stands (pre′ .1 .stands)) refl (λ xs t. array-clauses g comp xs 1 (comp .kind) t) (found .0) in
-    let listed = Steps.took (list .0) refl clauses in
-    let c2 = d′ .given .0 .0 in
-    let closes = Steps.known (eat 24 ▸ close 8 (number m ∷ []) ▸ end) (listed .stands (pre′ .1 .stands)) refl (λ xs t. array-clauses-end g c2 xs m (c2 .kind) t) listed in
-    Steps.tail (lit≤ tt) (array-close2′ .ensures .ends g (args′ .left) (1 + m)) closes
+  listed : (c : lts.After-d (K t) (P t) Post Inv-loop μ-loop) → So (a₄ c) (goto array-comp-end) (1 + many c) (c .d .given .0 .0) (c .d .given .0 .1 .0) (x₄ c .specs .last .1 .0)
+  listed c = Steps.took (Steps.counted (x₄ c .specs .ensures) (c .d .given .1) .0) refl (clausal (x₄ c .before))
 
-pub loop-holds : (t : ℕ) → lts.Need-loop-holds (K t) (P t) Post Inv-loop μ-loop
-unfolding rule choose has sight
-loop-holds t c =
-    let pre′ = c .before .before .before .before .before .before .before .before .before .before .before .before .before .pre in
-    let expr′ = c .before .before .before .before .before .before .before .expr in
-    let a′ = c .before .before .before .a in
-    let if1′ = c .before .before .before .before .before .before .before .before .before .if1 in
-    let args′ = c .before .before .before .before .before .before .before .before .before .before .before .before .before .args in
-    let g = args′ .set in
-    let s = args′ .src .now in
-    let begin = Steps.at g s (args′ .left) (goto array) 0 (args′ .c) (args′ .w) (args′ .out .now) in
-    let entered = Steps.known (expression ▸ goto array-first) (pre′ .1 .stands) refl (λ xs t. simp (ne-eqb _ 24 (if1′ .left))) begin in
-    let first = Steps.took (expr′ .ensures) (a′ .given .1) entered in
-    let there = first .stands (pre′ .1 .stands) in
-    let clauses-at′ = c .before .clauses-at in
-    let if2′ = c .if2 in
-    let elems = array-no-for there (clauses-at′ .ensures) (if2′ .left) first in
-    (Steps.begun (Steps.ready (pre′ .1) (lit≤ tt) elems), omega (arith, step-grows (expr′ .ensures) (a′ .given .1)))
+  -- ── Elements ────────────────────────────────────────────────────────────────────────────────────
 
-pub array-close-requires-3 : (t : ℕ) → lts.Need-array-close-requires-3 (K t) (P t) Post Inv-loop μ-loop
-array-close-requires-3 t c κs =
-    let loop′ = c .before .before .before .loop in
-    let ok = loop′ .inv .0 .ok in
-    let many = loop′ .inv .1 in
-    (ok, many)
+  listing : (c : lts.Else2 (K t) (P t) Post Inv-loop μ-loop) → let a = c .before .before .before in So (a₂ a) (goto elements) 1 (a .a .given .0 .0) (a .a .given .0 .1 .0) (x₂ a .expr .last .1 .0)
+  listing c = let a = c .before .before .before in array-no-for (there a) (c .before .clauses-at .ensures) (c .if2 .left) (first a)
 
-pub same-length-5 : (t : ℕ) → lts.Need-same-length-5 (K t) (P t) Post Inv-loop μ-loop
-same-length-5 t c =
-    let array-close3′ = c .before .before .array-close3 in
-    let loop′ = c .before .before .before .before .before .before .loop in
-    let expr′ = c .before .before .before .before .before .before .before .before .before .before .before .before .before .before .expr in
-    array-close3′ .kept .1 .0 ∙ loop′ .inv .0 .same ∙ expr′ .kept .1 .0
+  abbrev a₅ : Turn → Begin
+  a₅ l = a₂ (l .before .before .before .before)
 
-pub returns-5 : (t : ℕ) → lts.Need-returns-5 (K t) (P t) Post Inv-loop μ-loop
-unfolding rule choose has sight
-returns-5 t c =
-    let array-close3′ = c .before .before .array-close3 in
-    let args′ = c .before .before .before .before .before .before .before .before .before .before .before .before .before .before .before .before .before .before .before .before .args in
-    let g = args′ .set in
-    let loop′ = c .before .before .before .before .before .before .loop in
-    let ok = loop′ .inv .0 .ok in
-    let if3′ = c .before .before .before .before .if3 in
-    let expr′ = c .before .before .before .before .before .before .before .before .before .before .before .before .before .before .expr in
-    let a′ = c .before .before .before .before .before .before .before .before .before .before .a in
-    let pre′ = c .before .before .before .before .before .before .before .before .before .before .before .before .before .before .before .before .before .before .before .before .pre in
-    let if1′ = c .before .before .before .before .before .before .before .before .before .before .before .before .before .before .before .before .if1 in
-    let s = args′ .src .now in
-    let begin = Steps.at g s (args′ .left) (goto array) 0 (args′ .c) (args′ .w) (args′ .out .now) in
-    let entered = Steps.known (expression ▸ goto array-first) (pre′ .1 .stands) refl (λ xs t. simp (ne-eqb _ 24 (if1′ .left))) begin in
-    let first = Steps.took (expr′ .ensures) (a′ .given .1) entered in
-    let there = first .stands (pre′ .1 .stands) in
-    let clauses-at′ = c .before .before .before .before .before .before .before .before .clauses-at in
-    let if2′ = c .before .before .before .before .before .before .before .if2 in
-    let elems = array-no-for there (clauses-at′ .ensures) (if2′ .left) first in
-    let all = Steps.then elems (loop′ .inv .0 .seg) in
-    Steps.tail (lit≤ tt) (array-close3′ .ensures .ends g (args′ .left) (loop′ .n)) (Steps.known (eat 24 ▸ close 7 (number (loop′ .n) ∷ []) ▸ end) (ok .stands) refl (λ xs t. simp (ne-eqb _ 33 (if3′ .taken))) all)
+  so-far : (l : Turn) → So (a₅ l) (goto elements) (l .loop .n) (l .loop .cur) (l .loop .at) (l .loop .out)
+  so-far l = Steps.then (listing (l .before)) (l .loop .inv .0 .seg)
 
-pub eat-any-requires : (t : ℕ) → lts.Need-eat-any-requires (K t) (P t) Post Inv-loop μ-loop
-eat-any-requires t c κs =
-    let loop′ = c .before .before .loop in
-    let ok = loop′ .inv .0 .ok in
-    ok .stands
+  -- a stretch of one turn, of which e bytes are taken
+  abbrev Go : Turn → ℕ → Body → ℕ → Cursor → ℕ → List ℕ → Type 0
+  Go l e b n c w o = let x = a₅ l .args in Seg (x .set) (x .src .now) (x .left) (state (goto elements) (l .loop .n) (l .loop .cur) (l .loop .at) (l .loop .out)) e 0 (state b n c w o)
 
-pub array-close-requires-4 : (t : ℕ) → lts.Need-array-close-requires-4 (K t) (P t) Post Inv-loop μ-loop
-unfolding rule choose has sight
-array-close-requires-4 t c κs =
-    let loop′ = c .before .before .before .before .before .before .loop in
-    let ok = loop′ .inv .0 .ok in
-    let eat-any′ = c .before .before .before .eat-any in
-    let if4′ = c .before .if4 in
-    let if3′ = c .before .before .before .before .if3 in
-    let args′ = c .before .before .before .before .before .before .before .before .before .before .before .before .before .before .before .before .before .before .before .before .args in
-    let g = args′ .set in
-    let s = args′ .src .now in
-    let here = Steps.at g s (args′ .left) (goto elements) (loop′ .n) (loop′ .cur) (loop′ .at) (loop′ .out) in
-    let comma = Steps.taken (lit< tt) (ok .stands) (eat-any′ .ensures) (if3′ .left) (Steps.known (eat 33 ▸ goto next-element) (ok .stands) (if3′ .left) (λ xs t. refl) here) in
-    let shut = Steps.known (eat 24 ▸ close 7 (number (loop′ .n) ∷ []) ▸ end) (eat-any′ .ensures .stands) (if4′ .taken) (λ xs t. refl) comma in
-    let many = loop′ .inv .1 in
-    (Steps.ready ok (lit≤ tt) shut, omega (arith, many, comma .onward))
+  abbrev l₁ : lts.After-eat-any (K t) (P t) Post Inv-loop μ-loop → Turn
+  l₁ c = c .before .before .before
 
-pub same-length-6 : (t : ℕ) → lts.Need-same-length-6 (K t) (P t) Post Inv-loop μ-loop
-same-length-6 t c =
-    let array-close4′ = c .before .before .array-close4 in
-    let loop′ = c .before .before .before .before .before .before .before .before .before .loop in
-    let expr′ = c .before .before .before .before .before .before .before .before .before .before .before .before .before .before .before .before .before .expr in
-    array-close4′ .kept .1 .0 ∙ loop′ .inv .0 .same ∙ expr′ .kept .1 .0
+  comma : (c : lts.After-eat-any (K t) (P t) Post Inv-loop μ-loop) → let l = l₁ c .loop in Go (l₁ c) 1 (goto next-element) (l .n) (c .eat-any .result) (l .at) (l .out)
+  unfolding rule choose has sight
+  comma c =
+      let st = l₁ c .loop .inv .0 .ok .stands in
+      let is = c .before .if3 .left in
+      Steps.taken (lit< tt) st (c .eat-any .ensures) is (Steps.known (eat COMMA ▸ goto next-element) st is (λ xs t. refl) Steps.here)
 
-pub returns-6 : (t : ℕ) → lts.Need-returns-6 (K t) (P t) Post Inv-loop μ-loop
-unfolding rule choose has sight
-returns-6 t c =
-    let array-close4′ = c .before .before .array-close4 in
-    let args′ = c .before .before .before .before .before .before .before .before .before .before .before .before .before .before .before .before .before .before .before .before .before .before .before .args in
-    let g = args′ .set in
-    let loop′ = c .before .before .before .before .before .before .before .before .before .loop in
-    let expr′ = c .before .before .before .before .before .before .before .before .before .before .before .before .before .before .before .before .before .expr in
-    let a′ = c .before .before .before .before .before .before .before .before .before .before .before .before .before .a in
-    let pre′ = c .before .before .before .before .before .before .before .before .before .before .before .before .before .before .before .before .before .before .before .before .before .before .before .pre in
-    let if1′ = c .before .before .before .before .before .before .before .before .before .before .before .before .before .before .before .before .before .before .before .if1 in
-    let s = args′ .src .now in
-    let begin = Steps.at g s (args′ .left) (goto array) 0 (args′ .c) (args′ .w) (args′ .out .now) in
-    let entered = Steps.known (expression ▸ goto array-first) (pre′ .1 .stands) refl (λ xs t. simp (ne-eqb _ 24 (if1′ .left))) begin in
-    let first = Steps.took (expr′ .ensures) (a′ .given .1) entered in
-    let there = first .stands (pre′ .1 .stands) in
-    let clauses-at′ = c .before .before .before .before .before .before .before .before .before .before .before .clauses-at in
-    let if2′ = c .before .before .before .before .before .before .before .before .before .before .if2 in
-    let elems = array-no-for there (clauses-at′ .ensures) (if2′ .left) first in
-    let all = Steps.then elems (loop′ .inv .0 .seg) in
-    let eat-any′ = c .before .before .before .before .before .before .eat-any in
-    let if4′ = c .before .before .before .before .if4 in
-    let ok = loop′ .inv .0 .ok in
-    let if3′ = c .before .before .before .before .before .before .before .if3 in
-    let here = Steps.at g s (args′ .left) (goto elements) (loop′ .n) (loop′ .cur) (loop′ .at) (loop′ .out) in
-    let comma = Steps.taken (lit< tt) (ok .stands) (eat-any′ .ensures) (if3′ .left) (Steps.known (eat 33 ▸ goto next-element) (ok .stands) (if3′ .left) (λ xs t. refl) here) in
-    let shut = Steps.known (eat 24 ▸ close 7 (number (loop′ .n) ∷ []) ▸ end) (eat-any′ .ensures .stands) (if4′ .taken) (λ xs t. refl) comma in
-    Steps.tail (lit≤ tt) (array-close4′ .ensures .ends g (args′ .left) (loop′ .n)) (Steps.onto all shut)
+  shut : (c : lts.Then4 (K t) (P t) Post Inv-loop μ-loop) → let e = c .before .before in let l = l₁ e .loop in Go (l₁ e) 1 (bracketed ARRAY (l .n)) (l .n) (e .eat-any .result) (l .at) (l .out)
+  unfolding rule choose has sight
+  shut c = let e = c .before .before in Steps.known (bracketed ARRAY (l₁ e .loop .n)) (e .eat-any .ensures .stands) (c .if4 .taken) (λ xs t. refl) (comma e)
 
-pub expr-requires-2 : (t : ℕ) → lts.Need-expr-requires-2 (K t) (P t) Post Inv-loop μ-loop
-unfolding rule choose has sight
-expr-requires-2 t c κs =
-    let pre′ = c .before .before .before .before .before .before .before .before .before .before .before .before .before .before .before .before .before .before .before .before .pre in
-    let loop′ = c .before .before .before .before .before .before .loop in
-    let ok = loop′ .inv .0 .ok in
-    let eat-any′ = c .before .before .before .eat-any in
-    let if4′ = c .before .if4 in
-    let if3′ = c .before .before .before .before .if3 in
-    let args′ = c .before .before .before .before .before .before .before .before .before .before .before .before .before .before .before .before .before .before .before .before .args in
-    let g = args′ .set in
-    let s = args′ .src .now in
-    let here = Steps.at g s (args′ .left) (goto elements) (loop′ .n) (loop′ .cur) (loop′ .at) (loop′ .out) in
-    let comma = Steps.taken (lit< tt) (ok .stands) (eat-any′ .ensures) (if3′ .left) (Steps.known (eat 33 ▸ goto next-element) (ok .stands) (if3′ .left) (λ xs t. refl) here) in
-    let more = Steps.known (expression ▸ goto elements) (eat-any′ .ensures .stands) refl (λ xs t. simp (ne-eqb _ 24 (if4′ .left))) comma in
-    (omega (arith, pre′ .0), Steps.ready ok (lit≤ tt) more)
+  more : (c : lts.Else4 (K t) (P t) Post Inv-loop μ-loop) → let e = c .before .before in let l = l₁ e .loop in
+      Go (l₁ e) 1 (expression ▸ goto elements) (l .n) (e .eat-any .result) (l .at) (l .out)
+  unfolding rule choose has sight
+  more c = let e = c .before .before in Steps.known (expression ▸ goto elements) (e .eat-any .ensures .stands) refl (λ xs t. simp (ne-eqb _ R-BRACK (c .if4 .left))) (comma e)
 
-pub enum-known-b : (t : ℕ) → lts.Need-enum-known-b (K t) (P t) Post Inv-loop μ-loop
-enum-known-b t c =
-    search needs
+  abbrev x₃ : lts.After-b (K t) (P t) Post Inv-loop μ-loop → lts.After-expr2 (K t) (P t) Post Inv-loop μ-loop
+  x₃ c = c .before .before .before .before
 
-pub enum-told-3 : (t : ℕ) → lts.Need-enum-told-3 (K t) (P t) Post Inv-loop μ-loop
-enum-told-3 t c =
-    search needs
+  abbrev l₃ : lts.After-b (K t) (P t) Post Inv-loop μ-loop → Turn
+  l₃ c = l₁ (x₃ c .before .before .before .before)
 
-pub same-length-7 : (t : ℕ) → lts.Need-same-length-7 (K t) (P t) Post Inv-loop μ-loop
-same-length-7 t c =
-    let expr2′ = c .before .before .before .before .expr2 in
-    let loop′ = c .before .before .before .before .before .before .before .before .before .before .before .loop in
-    let expr′ = c .before .before .before .before .before .before .before .before .before .before .before .before .before .before .before .before .before .before .before .expr in
-    expr2′ .kept .1 .0 ∙ loop′ .inv .0 .same ∙ expr′ .kept .1 .0
+  again : (c : lts.After-b (K t) (P t) Post Inv-loop μ-loop) → Go (l₃ c) 1 (goto elements) (l₃ c .loop .n + 1) (c .b .given .0 .0) (c .b .given .0 .1 .0) (x₃ c .expr2 .last .1 .0)
+  again c = Steps.took (x₃ c .expr2 .ensures) (c .b .given .1) (more (x₃ c .before .before))
 
-pub returns-7 : (t : ℕ) → lts.Need-returns-7 (K t) (P t) Post Inv-loop μ-loop
-unfolding rule choose has sight
-returns-7 t c =
-    let expr2′ = c .before .before .before .before .expr2 in
-    let match3′ = c .before .match3 in
-    let expr′ = c .before .before .before .before .before .before .before .before .before .before .before .before .before .before .before .before .before .before .before .expr in
-    let a′ = c .before .before .before .before .before .before .before .before .before .before .before .before .before .before .before .a in
-    let pre′ = c .before .before .before .before .before .before .before .before .before .before .before .before .before .before .before .before .before .before .before .before .before .before .before .before .before .pre in
-    let if1′ = c .before .before .before .before .before .before .before .before .before .before .before .before .before .before .before .before .before .before .before .before .before .if1 in
-    let args′ = c .before .before .before .before .before .before .before .before .before .before .before .before .before .before .before .before .before .before .before .before .before .before .before .before .before .args in
-    let g = args′ .set in
-    let s = args′ .src .now in
-    let begin = Steps.at g s (args′ .left) (goto array) 0 (args′ .c) (args′ .w) (args′ .out .now) in
-    let entered = Steps.known (expression ▸ goto array-first) (pre′ .1 .stands) refl (λ xs t. simp (ne-eqb _ 24 (if1′ .left))) begin in
-    let first = Steps.took (expr′ .ensures) (a′ .given .1) entered in
-    let there = first .stands (pre′ .1 .stands) in
-    let clauses-at′ = c .before .before .before .before .before .before .before .before .before .before .before .before .before .clauses-at in
-    let if2′ = c .before .before .before .before .before .before .before .before .before .before .before .before .if2 in
-    let elems = array-no-for there (clauses-at′ .ensures) (if2′ .left) first in
-    let loop′ = c .before .before .before .before .before .before .before .before .before .before .before .loop in
-    let all = Steps.then elems (loop′ .inv .0 .seg) in
-    let eat-any′ = c .before .before .before .before .before .before .before .before .eat-any in
-    let if4′ = c .before .before .before .before .before .before .if4 in
-    let ok = loop′ .inv .0 .ok in
-    let if3′ = c .before .before .before .before .before .before .before .before .before .if3 in
-    let here = Steps.at g s (args′ .left) (goto elements) (loop′ .n) (loop′ .cur) (loop′ .at) (loop′ .out) in
-    let comma = Steps.taken (lit< tt) (ok .stands) (eat-any′ .ensures) (if3′ .left) (Steps.known (eat 33 ▸ goto next-element) (ok .stands) (if3′ .left) (λ xs t. refl) here) in
-    let more = Steps.known (expression ▸ goto elements) (eat-any′ .ensures .stands) refl (λ xs t. simp (ne-eqb _ 24 (if4′ .left))) comma in
-    Steps.passed (Steps.takes-broken (expr2′ .ensures) (match3′ .keys2)) (Steps.onto all more)
+  -- ── What each call asks ─────────────────────────────────────────────────────────────────────────
 
-pub add-n : (t : ℕ) → lts.Need-add-n (K t) (P t) Post Inv-loop μ-loop
-add-n t c =
-    let loop′ = c .before .before .before .before .before .before .before .before .before .before .before .before .loop in
-    let many = loop′ .inv .1 in
-    let ok = loop′ .inv .0 .ok in
-    record { fits = omega (arith, many, ok .short, ok .stands .within) }
+  clauses-at-requires : lts.Need-clauses-at-requires (K t) (P t) Post Inv-loop μ-loop
+  clauses-at-requires c κs = there (c .before)
 
-pub loop-less : (t : ℕ) → lts.Need-loop-less (K t) (P t) Post Inv-loop μ-loop
-unfolding rule choose has sight
-loop-less t c =
-    let loop′ = c .before .before .before .before .before .before .before .before .before .before .before .before .loop in
-    let ok = loop′ .inv .0 .ok in
-    let expr2′ = c .before .before .before .before .before .expr2 in
-    let b′ = c .before .b in
-    let eat-any′ = c .before .before .before .before .before .before .before .before .before .eat-any in
-    let if4′ = c .before .before .before .before .before .before .before .if4 in
-    let if3′ = c .before .before .before .before .before .before .before .before .before .before .if3 in
-    let args′ = c .before .before .before .before .before .before .before .before .before .before .before .before .before .before .before .before .before .before .before .before .before .before .before .before .before .before .args in
-    let g = args′ .set in
-    let s = args′ .src .now in
-    let here = Steps.at g s (args′ .left) (goto elements) (loop′ .n) (loop′ .cur) (loop′ .at) (loop′ .out) in
-    let comma = Steps.taken (lit< tt) (ok .stands) (eat-any′ .ensures) (if3′ .left) (Steps.known (eat 33 ▸ goto next-element) (ok .stands) (if3′ .left) (λ xs t. refl) here) in
-    let more = Steps.known (expression ▸ goto elements) (eat-any′ .ensures .stands) refl (λ xs t. simp (ne-eqb _ 24 (if4′ .left))) comma in
-    let again = Steps.took (expr2′ .ensures) (b′ .given .1) more in
-    Steps.closer ok (lit≤ tt) again
+  past-comma-requires : lts.Need-past-comma-requires (K t) (P t) Post Inv-loop μ-loop
+  past-comma-requires c κs = there (c .before .before .before .before)
 
-pub loop-again : (t : ℕ) → lts.Need-loop-again (K t) (P t) Post Inv-loop μ-loop
-unfolding rule choose has sight
-loop-again t c =
-    let loop′ = c .before .before .before .before .before .before .before .before .before .before .before .before .loop in
-    let expr2′ = c .before .before .before .before .before .expr2 in
-    let b′ = c .before .b in
-    let eat-any′ = c .before .before .before .before .before .before .before .before .before .eat-any in
-    let if4′ = c .before .before .before .before .before .before .before .if4 in
-    let ok = loop′ .inv .0 .ok in
-    let if3′ = c .before .before .before .before .before .before .before .before .before .before .if3 in
-    let args′ = c .before .before .before .before .before .before .before .before .before .before .before .before .before .before .before .before .before .before .before .before .before .before .before .before .before .before .args in
-    let g = args′ .set in
-    let s = args′ .src .now in
-    let here = Steps.at g s (args′ .left) (goto elements) (loop′ .n) (loop′ .cur) (loop′ .at) (loop′ .out) in
-    let comma = Steps.taken (lit< tt) (ok .stands) (eat-any′ .ensures) (if3′ .left) (Steps.known (eat 33 ▸ goto next-element) (ok .stands) (if3′ .left) (λ xs t. refl) here) in
-    let more = Steps.known (expression ▸ goto elements) (eat-any′ .ensures .stands) refl (λ xs t. simp (ne-eqb _ 24 (if4′ .left))) comma in
-    let again = Steps.took (expr2′ .ensures) (b′ .given .1) more in
-    let many = loop′ .inv .1 in
-    (Steps.turned (loop′ .inv .0) (lit≤ tt) again, omega (arith, many, again .onward))
+  specs-requires : lts.Need-specs-requires (K t) (P t) Post Inv-loop μ-loop
+  specs-requires c κs = let p = a₂ (c₃ c) .pre in (omega (arith, p .0), (Steps.ready (p .1) (lit≤ tt) (found c .0), found c .1))
+
+  array-close-requires-2 : lts.Need-array-close-requires-2 (K t) (P t) Post Inv-loop μ-loop
+  array-close-requires-2 c κs = let d = c .before .before in (Steps.ready (a₄ d .pre .1) (lit≤ tt) (listed d), omega (arith, Steps.counted (x₄ d .specs .ensures) (d .d .given .1) .1))
+
+  array-close-requires-4 : lts.Need-array-close-requires-4 (K t) (P t) Post Inv-loop μ-loop
+  array-close-requires-4 c κs = let s = c .before in let i = l₁ (s .before .before) .loop .inv in (Steps.ready (i .0 .ok) (lit≤ tt) (shut s), omega (arith, i .1, shut s .onward))
+
+  expr-requires-2 : lts.Need-expr-requires-2 (K t) (P t) Post Inv-loop μ-loop
+  expr-requires-2 c κs = let l = l₁ (c .before .before .before) in (omega (arith, a₅ l .pre .0), Steps.ready (l .loop .inv .0 .ok) (lit≤ tt) (more (c .before)))
+
+  -- ── The loop, and what each return owes ─────────────────────────────────────────────────────────
+
+  loop-holds : lts.Need-loop-holds (K t) (P t) Post Inv-loop μ-loop
+  loop-holds c = let a = c .before .before .before in (Steps.begun (Steps.ready (a₂ a .pre .1) (lit≤ tt) (listing c)), omega (arith, step-grows (x₂ a .expr .ensures) (a .a .given .1)))
+
+  loop-less : lts.Need-loop-less (K t) (P t) Post Inv-loop μ-loop
+  loop-less c = Steps.closer (l₃ (c .before) .loop .inv .0 .ok) (lit≤ tt) (again (c .before))
+
+  loop-again : lts.Need-loop-again (K t) (P t) Post Inv-loop μ-loop
+  loop-again c = let b = c .before in let i = l₃ b .loop .inv in (Steps.turned (i .0) (lit≤ tt) (again b), omega (arith, i .1, again b .onward))
+
+  returns : lts.Need-returns (K t) (P t) Post Inv-loop μ-loop
+  unfolding rule choose has sight
+  returns c =
+      let x = c .before .before in
+      let e = x .before .before in
+      let st = e .before .before .before .before .pre .1 .stands in
+      Steps.tail (lit≤ tt) (x .array-close .ensures .ends _ _ _) (Steps.known (bracketed ARRAY 0) st (e .if1 .taken) (λ xs t. refl) Steps.here)
+
+  returns-2 : lts.Need-returns-2 (K t) (P t) Post Inv-loop μ-loop
+  returns-2 c = let x = c .before .before .before .before in Steps.passed (Steps.takes-broken (x .expr .ensures) (c .before .match .keys2)) (entered (x .before .before))
+
+  returns-3 : lts.Need-returns-3 (K t) (P t) Post Inv-loop μ-loop
+  returns-3 c = let x = c .before .before .before .before in Steps.passed (Steps.counts-broken (x .specs .ensures) (c .before .match2 .keys2)) (clausal (x .before))
+
+  returns-4 : lts.Need-returns-4 (K t) (P t) Post Inv-loop μ-loop
+  returns-4 c =
+      let x = c .before .before in
+      let d = x .before .before .before in
+      let c₂ = d .d .given .0 .0 in
+      let st = listed d .stands (a₄ d .pre .1 .stands) in
+      Steps.tail (lit≤ tt) (x .array-close2 .ensures .ends _ _ _)
+      (Steps.known (bracketed ARRAY-COMP (many d)) st refl (λ xs t. array-clauses-end (a₄ d .args .set) c₂ xs (many d) (c₂ .kind) t) (listed d))
+
+  returns-5 : lts.Need-returns-5 (K t) (P t) Post Inv-loop μ-loop
+  unfolding rule choose has sight
+  returns-5 c =
+      let x = c .before .before in
+      let e = x .before .before in
+      let l = e .before .before in
+      Steps.tail (lit≤ tt) (x .array-close3 .ensures .ends _ _ _)
+      (Steps.known (bracketed ARRAY (l .loop .n)) (l .loop .inv .0 .ok .stands) refl (λ xs t. simp (ne-eqb _ COMMA (e .if3 .taken))) (so-far l))
+
+  returns-6 : lts.Need-returns-6 (K t) (P t) Post Inv-loop μ-loop
+  returns-6 c = let x = c .before .before in let s = x .before .before in Steps.tail (lit≤ tt) (x .array-close4 .ensures .ends _ _ _) (Steps.onto (so-far (l₁ (s .before .before))) (shut s))
+
+  returns-7 : lts.Need-returns-7 (K t) (P t) Post Inv-loop μ-loop
+  returns-7 c =
+      let x = c .before .before .before .before in
+      let m = x .before .before in
+      Steps.passed (Steps.takes-broken (x .expr2 .ensures) (c .before .match3 .keys2)) (Steps.onto (so-far (l₁ (m .before .before))) (more m))
+
+  same-length-3 : lts.Need-same-length-3 (K t) (P t) Post Inv-loop μ-loop
+  same-length-3 c = let x = c .before .before .before .before in x .specs .kept .1 .0 ∙ Steps.same (clausal (x .before))
+
+  same-length-4 : lts.Need-same-length-4 (K t) (P t) Post Inv-loop μ-loop
+  same-length-4 c = let x = c .before .before in x .array-close2 .kept .1 .0 ∙ Steps.same (listed (x .before .before .before))
+
+  same-length-5 : lts.Need-same-length-5 (K t) (P t) Post Inv-loop μ-loop
+  same-length-5 c = let x = c .before .before in x .array-close3 .kept .1 .0 ∙ Steps.same (so-far (x .before .before .before .before))
+
+  same-length-6 : lts.Need-same-length-6 (K t) (P t) Post Inv-loop μ-loop
+  same-length-6 c = let x = c .before .before in x .array-close4 .kept .1 .0 ∙ Steps.same (so-far (l₁ (x .before .before .before .before)))
+
+  same-length-7 : lts.Need-same-length-7 (K t) (P t) Post Inv-loop μ-loop
+  same-length-7 c = let x = c .before .before .before .before in x .expr2 .kept .1 .0 ∙ Steps.same (so-far (l₁ (x .before .before .before .before)))
+
+  -- All of them, in the order of the code.
+  pub met : {M : Type 1} → lts.Closed (K t) (P t) Post M
+  met =
+      lts.spec (K t) (P t) Post Inv-loop μ-loop (λ c κs. search needs) (λ c. search needs) returns (λ c κs. search needs) (λ c. search needs)
+      (λ c. search needs) (λ c. search needs) returns-2 clauses-at-requires past-comma-requires specs-requires (λ c. search needs) (λ c. search needs)
+      same-length-3 returns-3 array-close-requires-2 same-length-4 returns-4 loop-holds (λ c κs. search needs) same-length-5 returns-5
+      (λ c κs. search needs) array-close-requires-4 same-length-6 returns-6 expr-requires-2 (λ c. search needs) (λ c. search needs) same-length-7
+      returns-7 (λ c. search needs) loop-less loop-again

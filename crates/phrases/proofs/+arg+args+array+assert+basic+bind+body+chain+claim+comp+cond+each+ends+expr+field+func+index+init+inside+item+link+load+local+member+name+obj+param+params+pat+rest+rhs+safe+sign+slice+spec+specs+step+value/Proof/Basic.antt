@@ -1,449 +1,182 @@
--- The answers of `basic`.
+-- The answers of `basic`: the stretch over the lexeme that opens each phrase and over what stands inside, and from these what each call asks and each return owes.
+-- Of a place a₀ is the start, c₁ .. an earlier place.
 use borrow.Author.Needs.{needs}
 use native.Mathlib.Omega.{arith}
 use lib.Dec.{lit<, lit≤}
-use lib.ListN.{length}
-use mathlib.Core.Path.{_≡_, refl, sym, ap, subst, _∙_}
-use mathlib.Core.Logic.{⊎-elim}
-use mathlib.Core.List.{[], _∷_}
-use Prim.Native.Nat.{ℕ, _+_, _*_, _-_, _≤_, _<_}
+use mathlib.Core.Path.{_≡_}
+use mathlib.Core.List.{List, [], _∷_}
+use Prim.Native.Nat.{ℕ, _<_}
 use Rattle.leaves.proofs.Steps
 use Rattle.phrases.proofs.basic.Reads.{Post}
 use Rattle.phrases.proofs.+arg+args+array+assert+basic+bind+body+chain+claim+comp+cond+each+ends+expr+field+func+index+init+inside+item+link+load+local+member+name+obj+param+params+pat+rest+rhs+safe+sign+slice+spec+specs+step+value.Lts-basic as lts
 use Rattle.phrases.proofs.+arg+args+array+assert+basic+bind+body+chain+claim+comp+cond+each+ends+expr+field+func+index+init+inside+item+link+load+local+member+name+obj+param+params+pat+rest+rhs+safe+sign+slice+spec+specs+step+value.Proof.Frame.{basic-claims as K, basic-at as P}
+use Rattle.lexemes.specs.Kinds.{R-PAREN, R-BRACE}
+use Rattle.grammar.specs.Tags.{ERROR}
 use Rattle.grammar.specs.Image.{entry, payload}
 use Rattle.grammar.specs.Trees.{span}
-use Rattle.grammar.specs.Productions.{goto, end, eat, sub, close, _▸_, expression, basic, array, binds, inside}
-use Rattle.leaves.specs.Lexing.{normal, string, binary}
+use Rattle.grammar.specs.Lexemes.{Lexeme, Said}
+use Rattle.grammar.specs.Productions.{Body, goto, end, eat, sub, close, _▸_, rule, expression, basic, array, binds, inside}
+use Rattle.grammar.specs.Reading.{choose}
+use Rattle.leaves.specs.Lexing.{Moved, normal, string, binary}
+use Rattle.leaves.specs.Meets.{power, state, Seg}
+use Rattle.leaves.specs.declared.Cursor.{Cursor}
+use Rattle.leaves.proofs.LexemeLaws.{sight}
 use Rattle.leaves.proofs.LeafLaws.{within}
 use Rattle.phrases.proofs.ExpressionLaws.{a-paren, an-array, an-object, a-local, an-error, imports-at}
 
-pub eat-any-requires : (t : ℕ) → lts.Need-eat-any-requires (K t) (P t) Post
-eat-any-requires t c κs =
-    let pre′ = c .before .before .before .before .pre in
-    let st = pre′ .1 .stands in
-    st
+module _ (t : ℕ) where
+  -- where the ways part
+  abbrev Fork : Type 0
+  Fork = lts.After-slice-known (K t) (P t) Post
 
-pub expr-requires : (t : ℕ) → lts.Need-expr-requires (K t) (P t) Post
-expr-requires t c κs =
-    let pre′ = c .before .before .before .before .before .pre in
-    let st = pre′ .1 .stands in
-    let eat-any′ = c .eat-any in
-    let match′ = c .before .before .match in
-    let args′ = c .before .before .before .before .before .args in
-    let g = args′ .set in
-    let s = args′ .src .now in
-    let begin = Steps.at g s (args′ .left) (goto basic) 0 (args′ .c) (args′ .w) (args′ .out .now) in
-    let paren1 = Steps.taken (lit< tt) st (eat-any′ .ensures) (match′ .keys1) (Steps.known (eat 25 ▸ expression ▸ eat 26 ▸ end) st (match′ .keys1) (λ xs t. a-paren g (args′ .c) xs 0 t) begin) in
-    (omega (arith, pre′ .0), Steps.ready (pre′ .1) (lit≤ tt) paren1)
+  abbrev a₀ : Fork → lts.Start (K t) (P t) Post
+  a₀ f = f .before .before
 
-pub enum-known-a : (t : ℕ) → lts.Need-enum-known-a (K t) (P t) Post
-enum-known-a t c =
-    search needs
+  -- a stretch from the start, which has taken a byte and owes v, to a body with n trees
+  abbrev So : Fork → ℕ → Body → ℕ → Cursor → ℕ → List ℕ → Type 0
+  So f v b n c w o = let x = a₀ f .args in Seg (x .set) (x .src .now) (x .left) (state (goto basic) 0 (x .c) (x .w) (x .out .now)) 1 v (state b n c w o)
 
-pub enum-told : (t : ℕ) → lts.Need-enum-told (K t) (P t) Post
-enum-told t c =
-    search needs
+  -- ── The lexeme that opens a phrase ──────────────────────────────────────────────────────────────
 
-pub same-length : (t : ℕ) → lts.Need-same-length (K t) (P t) Post
-same-length t c =
-    search needs
+  abbrev Opens : Fork → Body → Cursor → Type 0
+  Opens f b c = let x = a₀ f .args in So f 0 b 0 c (x .w) (x .out .now)
 
-pub returns : (t : ℕ) → lts.Need-returns (K t) (P t) Post
-returns t c =
-    let expr′ = c .before .before .before .before .expr in
-    let match2′ = c .before .match2 in
-    let pre′ = c .before .before .before .before .before .before .before .before .before .before .pre in
-    let st = pre′ .1 .stands in
-    let eat-any′ = c .before .before .before .before .before .eat-any in
-    let match′ = c .before .before .before .before .before .before .before .match in
-    let args′ = c .before .before .before .before .before .before .before .before .before .before .args in
-    let g = args′ .set in
-    let s = args′ .src .now in
-    let begin = Steps.at g s (args′ .left) (goto basic) 0 (args′ .c) (args′ .w) (args′ .out .now) in
-    let paren1 = Steps.taken (lit< tt) st (eat-any′ .ensures) (match′ .keys1) (Steps.known (eat 25 ▸ expression ▸ eat 26 ▸ end) st (match′ .keys1) (λ xs t. a-paren g (args′ .c) xs 0 t) begin) in
-    Steps.as-sub (Steps.passed (Steps.takes-broken (expr′ .ensures) (match2′ .keys2)) paren1)
+  opens : (f : Fork) {k : ℕ} {c₁ : Cursor} (b : Body) → 1 < k → Moved (a₀ f .args .src .now) (a₀ f .args .c) c₁ → a₀ f .args .c .kind ≡ k
+      → (let x = a₀ f .args in (xs : List Lexeme) (t : Said) → choose (x .set) (rule (power (x .set)) basic (sight (x .c) xs 0 k t)) ≡ eat k ▸ b) → Opens f b c₁
+  opens f {k} b h mv e i = let st = a₀ f .pre .1 .stands in Steps.taken h st mv e (Steps.known (eat k ▸ b) st e i Steps.here)
 
-pub eat-requires : (t : ℕ) → lts.Need-eat-requires (K t) (P t) Post
-eat-requires t c κs =
-    let expr′ = c .before .before .before .before .before .expr in
-    let a′ = c .before .a in
-    let pre′ = c .before .before .before .before .before .before .before .before .before .before .before .pre in
-    let st = pre′ .1 .stands in
-    let eat-any′ = c .before .before .before .before .before .before .eat-any in
-    let match′ = c .before .before .before .before .before .before .before .before .match in
-    let args′ = c .before .before .before .before .before .before .before .before .before .before .before .args in
-    let g = args′ .set in
-    let s = args′ .src .now in
-    let begin = Steps.at g s (args′ .left) (goto basic) 0 (args′ .c) (args′ .w) (args′ .out .now) in
-    let paren1 = Steps.taken (lit< tt) st (eat-any′ .ensures) (match′ .keys1) (Steps.known (eat 25 ▸ expression ▸ eat 26 ▸ end) st (match′ .keys1) (λ xs t. a-paren g (args′ .c) xs 0 t) begin) in
-    let paren2 = Steps.took (expr′ .ensures) (a′ .given .1) paren1 in
-    (lit< tt, paren2 .stands st)
+  paren : (c : lts.After-eat-any (K t) (P t) Post) → Opens (c .before .before .before) (expression ▸ eat R-PAREN ▸ end) (c .eat-any .result)
+  paren c = opens (c .before .before .before) (expression ▸ eat R-PAREN ▸ end) (lit< tt) (c .eat-any .ensures) (c .before .before .match .keys1) (λ xs t. a-paren _ _ xs 0 t)
 
-pub eat-any-requires-2 : (t : ℕ) → lts.Need-eat-any-requires-2 (K t) (P t) Post
-eat-any-requires-2 t c κs =
-    let pre′ = c .before .before .before .before .pre in
-    let st = pre′ .1 .stands in
-    st
+  bracket : (c : lts.After-eat-any2 (K t) (P t) Post) → Opens (c .before .before .before) (goto array) (c .eat-any2 .result)
+  bracket c = opens (c .before .before .before) (goto array) (lit< tt) (c .eat-any2 .ensures) (c .before .before .match .keys2) (λ xs t. an-array _ _ xs 0 t)
 
-pub array-requires : (t : ℕ) → lts.Need-array-requires (K t) (P t) Post
-array-requires t c κs =
-    let pre′ = c .before .before .before .before .before .pre in
-    let st = pre′ .1 .stands in
-    let eat-any2′ = c .eat-any2 in
-    let match′ = c .before .before .match in
-    let args′ = c .before .before .before .before .before .args in
-    let g = args′ .set in
-    let s = args′ .src .now in
-    let begin = Steps.at g s (args′ .left) (goto basic) 0 (args′ .c) (args′ .w) (args′ .out .now) in
-    let bracket1 = Steps.taken (lit< tt) st (eat-any2′ .ensures) (match′ .keys2) (Steps.known (eat 23 ▸ goto array) st (match′ .keys2) (λ xs t. an-array g (args′ .c) xs 0 t) begin) in
-    (omega (arith, pre′ .0), Steps.ready (pre′ .1) (lit≤ tt) bracket1)
+  brace : (c : lts.After-eat-any3 (K t) (P t) Post) → Opens (c .before .before .before) (sub inside ▸ eat R-BRACE ▸ end) (c .eat-any3 .result)
+  brace c = opens (c .before .before .before) (sub inside ▸ eat R-BRACE ▸ end) (lit< tt) (c .eat-any3 .ensures) (c .before .before .match .keys3) (λ xs t. an-object _ _ xs 0 t)
 
-pub eat-any-requires-3 : (t : ℕ) → lts.Need-eat-any-requires-3 (K t) (P t) Post
-eat-any-requires-3 t c κs =
-    let pre′ = c .before .before .before .before .pre in
-    let st = pre′ .1 .stands in
-    st
+  binding : (c : lts.After-eat-any4 (K t) (P t) Post) → Opens (c .before .before .before) (goto binds) (c .eat-any4 .result)
+  binding c = opens (c .before .before .before) (goto binds) (lit< tt) (c .eat-any4 .ensures) (c .before .before .match .keys4) (λ xs t. a-local _ _ xs 0 t)
 
-pub inside-requires : (t : ℕ) → lts.Need-inside-requires (K t) (P t) Post
-inside-requires t c κs =
-    let pre′ = c .before .before .before .before .before .pre in
-    let st = pre′ .1 .stands in
-    let eat-any3′ = c .eat-any3 in
-    let match′ = c .before .before .match in
-    let args′ = c .before .before .before .before .before .args in
-    let g = args′ .set in
-    let s = args′ .src .now in
-    let begin = Steps.at g s (args′ .left) (goto basic) 0 (args′ .c) (args′ .w) (args′ .out .now) in
-    let brace1 = Steps.taken (lit< tt) st (eat-any3′ .ensures) (match′ .keys3) (Steps.known (eat 27 ▸ sub inside ▸ eat 28 ▸ end) st (match′ .keys3) (λ xs t. an-object g (args′ .c) xs 0 t) begin) in
-    (omega (arith, pre′ .0), Steps.ready (pre′ .1) (lit≤ tt) brace1)
+  -- the record of an error
+  abbrev record-of : Fork → Body
+  record-of f = let x = a₀ f .args in close ERROR (span (x .c .start) (x .c .end) ∷ []) ▸ end
 
-pub enum-known-a-2 : (t : ℕ) → lts.Need-enum-known-a-2 (K t) (P t) Post
-enum-known-a-2 t c =
-    search needs
+  raising : (c : lts.After-eat-any5 (K t) (P t) Post) → let f = c .before .before .before in Opens f (expression ▸ record-of f) (c .eat-any5 .result)
+  raising c = let f = c .before .before .before in opens f (expression ▸ record-of f) (lit< tt) (c .eat-any5 .ensures) (c .before .before .match .keys8) (λ xs t. an-error _ _ xs 0 t)
 
-pub enum-told-2 : (t : ℕ) → lts.Need-enum-told-2 (K t) (P t) Post
-enum-told-2 t c =
-    search needs
+  -- ── What stands inside ──────────────────────────────────────────────────────────────────────────
 
-pub same-length-2 : (t : ℕ) → lts.Need-same-length-2 (K t) (P t) Post
-same-length-2 t c =
-    search needs
+  abbrev c₁ : lts.After-a (K t) (P t) Post → lts.After-eat-any (K t) (P t) Post
+  c₁ c = c .before .before .before .before .before
 
-pub returns-2 : (t : ℕ) → lts.Need-returns-2 (K t) (P t) Post
-returns-2 t c =
-    let inside′ = c .before .before .before .before .inside in
-    let match3′ = c .before .match3 in
-    let pre′ = c .before .before .before .before .before .before .before .before .before .before .pre in
-    let st = pre′ .1 .stands in
-    let eat-any3′ = c .before .before .before .before .before .eat-any3 in
-    let match′ = c .before .before .before .before .before .before .before .match in
-    let args′ = c .before .before .before .before .before .before .before .before .before .before .args in
-    let g = args′ .set in
-    let s = args′ .src .now in
-    let begin = Steps.at g s (args′ .left) (goto basic) 0 (args′ .c) (args′ .w) (args′ .out .now) in
-    let brace1 = Steps.taken (lit< tt) st (eat-any3′ .ensures) (match′ .keys3) (Steps.known (eat 27 ▸ sub inside ▸ eat 28 ▸ end) st (match′ .keys3) (λ xs t. an-object g (args′ .c) xs 0 t) begin) in
-    Steps.as-sub (Steps.passed (Steps.takes-broken (inside′ .ensures) (match3′ .keys2)) brace1)
+  parened : (c : lts.After-a (K t) (P t) Post)
+      → So (c₁ c .before .before .before) 0 (eat R-PAREN ▸ end) 1 (c .a .given .0 .0) (c .a .given .0 .1 .0) (c .before .before .before .before .expr .last .1 .0)
+  parened c = Steps.took (c .before .before .before .before .expr .ensures) (c .a .given .1) (paren (c₁ c))
 
-pub eat-requires-2 : (t : ℕ) → lts.Need-eat-requires-2 (K t) (P t) Post
-eat-requires-2 t c κs =
-    let inside′ = c .before .before .before .before .before .inside in
-    let a2′ = c .before .a2 in
-    let pre′ = c .before .before .before .before .before .before .before .before .before .before .before .pre in
-    let st = pre′ .1 .stands in
-    let eat-any3′ = c .before .before .before .before .before .before .eat-any3 in
-    let match′ = c .before .before .before .before .before .before .before .before .match in
-    let args′ = c .before .before .before .before .before .before .before .before .before .before .before .args in
-    let g = args′ .set in
-    let s = args′ .src .now in
-    let begin = Steps.at g s (args′ .left) (goto basic) 0 (args′ .c) (args′ .w) (args′ .out .now) in
-    let brace1 = Steps.taken (lit< tt) st (eat-any3′ .ensures) (match′ .keys3) (Steps.known (eat 27 ▸ sub inside ▸ eat 28 ▸ end) st (match′ .keys3) (λ xs t. an-object g (args′ .c) xs 0 t) begin) in
-    let brace2 = Steps.took-owing (inside′ .ensures) (a2′ .given .1) brace1 in
-    (lit< tt, brace2 .stands st)
+  abbrev c₃ : lts.After-a2 (K t) (P t) Post → lts.After-eat-any3 (K t) (P t) Post
+  c₃ c = c .before .before .before .before .before
 
-pub eat-any-requires-4 : (t : ℕ) → lts.Need-eat-any-requires-4 (K t) (P t) Post
-eat-any-requires-4 t c κs =
-    let pre′ = c .before .before .before .before .pre in
-    let st = pre′ .1 .stands in
-    st
+  braced : (c : lts.After-a2 (K t) (P t) Post)
+      → So (c₃ c .before .before .before) 7 (eat R-BRACE ▸ end) 1 (c .a2 .given .0 .0) (c .a2 .given .0 .1 .0) (c .before .before .before .before .inside .last .1 .0)
+  braced c = Steps.took-owing (c .before .before .before .before .inside .ensures) (c .a2 .given .1) (brace (c₃ c))
 
-pub local-requires : (t : ℕ) → lts.Need-local-requires (K t) (P t) Post
-local-requires t c κs =
-    let pre′ = c .before .before .before .before .before .pre in
-    let st = pre′ .1 .stands in
-    let eat-any4′ = c .eat-any4 in
-    let match′ = c .before .before .match in
-    let args′ = c .before .before .before .before .before .args in
-    let g = args′ .set in
-    let s = args′ .src .now in
-    let begin = Steps.at g s (args′ .left) (goto basic) 0 (args′ .c) (args′ .w) (args′ .out .now) in
-    let local1 = Steps.taken (lit< tt) st (eat-any4′ .ensures) (match′ .keys4) (Steps.known (eat 67 ▸ goto binds) st (match′ .keys4) (λ xs t. a-local g (args′ .c) xs 0 t) begin) in
-    (omega (arith, pre′ .0), Steps.ready (pre′ .1) (lit≤ tt) local1)
+  abbrev c₅ : lts.After-a3 (K t) (P t) Post → lts.After-eat-any5 (K t) (P t) Post
+  c₅ c = c .before .before .before .before .before
 
-pub cond-requires : (t : ℕ) → lts.Need-cond-requires (K t) (P t) Post
-cond-requires t c κs =
-    let pre′ = c .before .before .before .before .pre in
-    let match′ = c .before .match in
-    (omega (arith, pre′ .0), (pre′ .1, match′ .keys5))
+  raised : (c : lts.After-a3 (K t) (P t) Post) → let f = c₅ c .before .before .before in
+      So f 0 (record-of f) 1 (c .a3 .given .0 .0) (c .a3 .given .0 .1 .0) (c .before .before .before .before .expr2 .last .1 .0)
+  raised c = Steps.took (c .before .before .before .before .expr2 .ensures) (c .a3 .given .1) (raising (c₅ c))
 
-pub func-requires : (t : ℕ) → lts.Need-func-requires (K t) (P t) Post
-func-requires t c κs =
-    let pre′ = c .before .before .before .before .pre in
-    let match′ = c .before .match in
-    (omega (arith, pre′ .0), (pre′ .1, match′ .keys6))
+  -- ── What each call asks ─────────────────────────────────────────────────────────────────────────
 
-pub claim-requires : (t : ℕ) → lts.Need-claim-requires (K t) (P t) Post
-claim-requires t c κs =
-    let pre′ = c .before .before .before .before .pre in
-    let match′ = c .before .match in
-    (omega (arith, pre′ .0), (pre′ .1, match′ .keys7))
+  expr-requires : lts.Need-expr-requires (K t) (P t) Post
+  expr-requires c κs = let p = a₀ (c .before .before .before) .pre in (omega (arith, p .0), Steps.ready (p .1) (lit≤ tt) (paren c))
 
-pub eat-any-requires-5 : (t : ℕ) → lts.Need-eat-any-requires-5 (K t) (P t) Post
-eat-any-requires-5 t c κs =
-    let pre′ = c .before .before .before .before .pre in
-    let st = pre′ .1 .stands in
-    st
+  array-requires : lts.Need-array-requires (K t) (P t) Post
+  array-requires c κs = let p = a₀ (c .before .before .before) .pre in (omega (arith, p .0), Steps.ready (p .1) (lit≤ tt) (bracket c))
 
-pub expr-requires-2 : (t : ℕ) → lts.Need-expr-requires-2 (K t) (P t) Post
-expr-requires-2 t c κs =
-    let pre′ = c .before .before .before .before .before .pre in
-    let st = pre′ .1 .stands in
-    let eat-any5′ = c .eat-any5 in
-    let match′ = c .before .before .match in
-    let args′ = c .before .before .before .before .before .args in
-    let g = args′ .set in
-    let s = args′ .src .now in
-    let begin = Steps.at g s (args′ .left) (goto basic) 0 (args′ .c) (args′ .w) (args′ .out .now) in
-    let error1 = Steps.taken (lit< tt) st (eat-any5′ .ensures) (match′ .keys8) (Steps.known (eat 75 ▸ expression ▸ close 17 (span (args′ .c .start) (args′ .c .end) ∷ []) ▸ end) st (match′ .keys8) (λ xs t. an-error g (args′ .c) xs 0 t) begin) in
-    (omega (arith, pre′ .0), Steps.ready (pre′ .1) (lit≤ tt) error1)
+  inside-requires : lts.Need-inside-requires (K t) (P t) Post
+  inside-requires c κs = let p = a₀ (c .before .before .before) .pre in (omega (arith, p .0), Steps.ready (p .1) (lit≤ tt) (brace c))
 
-pub enum-known-a-3 : (t : ℕ) → lts.Need-enum-known-a-3 (K t) (P t) Post
-enum-known-a-3 t c =
-    search needs
+  local-requires : lts.Need-local-requires (K t) (P t) Post
+  local-requires c κs = let p = a₀ (c .before .before .before) .pre in (omega (arith, p .0), Steps.ready (p .1) (lit≤ tt) (binding c))
 
-pub enum-told-3 : (t : ℕ) → lts.Need-enum-told-3 (K t) (P t) Post
-enum-told-3 t c =
-    search needs
+  expr-requires-2 : lts.Need-expr-requires-2 (K t) (P t) Post
+  expr-requires-2 c κs = let p = a₀ (c .before .before .before) .pre in (omega (arith, p .0), Steps.ready (p .1) (lit≤ tt) (raising c))
 
-pub same-length-3 : (t : ℕ) → lts.Need-same-length-3 (K t) (P t) Post
-same-length-3 t c =
-    search needs
+  eat-requires : lts.Need-eat-requires (K t) (P t) Post
+  eat-requires c κs = let a = c .before in (lit< tt, parened a .stands (a₀ (c₁ a .before .before .before) .pre .1 .stands))
 
-pub returns-3 : (t : ℕ) → lts.Need-returns-3 (K t) (P t) Post
-returns-3 t c =
-    let expr2′ = c .before .before .before .before .expr2 in
-    let match4′ = c .before .match4 in
-    let pre′ = c .before .before .before .before .before .before .before .before .before .before .pre in
-    let st = pre′ .1 .stands in
-    let eat-any5′ = c .before .before .before .before .before .eat-any5 in
-    let match′ = c .before .before .before .before .before .before .before .match in
-    let args′ = c .before .before .before .before .before .before .before .before .before .before .args in
-    let g = args′ .set in
-    let s = args′ .src .now in
-    let begin = Steps.at g s (args′ .left) (goto basic) 0 (args′ .c) (args′ .w) (args′ .out .now) in
-    let error1 = Steps.taken (lit< tt) st (eat-any5′ .ensures) (match′ .keys8) (Steps.known (eat 75 ▸ expression ▸ close 17 (span (args′ .c .start) (args′ .c .end) ∷ []) ▸ end) st (match′ .keys8) (λ xs t. an-error g (args′ .c) xs 0 t) begin) in
-    Steps.as-sub (Steps.passed (Steps.takes-broken (expr2′ .ensures) (match4′ .keys2)) error1)
+  eat-requires-2 : lts.Need-eat-requires-2 (K t) (P t) Post
+  eat-requires-2 c κs = let a = c .before in (lit< tt, braced a .stands (a₀ (c₃ a .before .before .before) .pre .1 .stands))
 
-pub put-mark-requires : (t : ℕ) → lts.Need-put-mark-requires (K t) (P t) Post
-put-mark-requires t c κs =
-    let pre′ = c .before .before .before .before .before .before .before .before .before .before .before .before .pre in
-    let expr2′ = c .before .before .before .before .before .before .expr2 in
-    let a3′ = c .before .before .a3 in
-    let st = pre′ .1 .stands in
-    let eat-any5′ = c .before .before .before .before .before .before .before .eat-any5 in
-    let match′ = c .before .before .before .before .before .before .before .before .before .match in
-    let args′ = c .before .before .before .before .before .before .before .before .before .before .before .before .args in
-    let g = args′ .set in
-    let s = args′ .src .now in
-    let begin = Steps.at g s (args′ .left) (goto basic) 0 (args′ .c) (args′ .w) (args′ .out .now) in
-    let error1 = Steps.taken (lit< tt) st (eat-any5′ .ensures) (match′ .keys8) (Steps.known (eat 75 ▸ expression ▸ close 17 (span (args′ .c .start) (args′ .c .end) ∷ []) ▸ end) st (match′ .keys8) (λ xs t. an-error g (args′ .c) xs 0 t) begin) in
-    let error2 = Steps.took (expr2′ .ensures) (a3′ .given .1) error1 in
-    let places = within (pre′ .1) in
-    (Steps.fits (pre′ .1) (lit≤ tt) error2, places .0, places .1)
+  put-mark-requires : lts.Need-put-mark-requires (K t) (P t) Post
+  put-mark-requires c κs = let a = c .before .before in let p = a₀ (c₅ a .before .before .before) .pre .1 in (Steps.fits p (lit≤ tt) (raised a), within p .0, within p .1)
 
-pub load-requires : (t : ℕ) → lts.Need-load-requires (K t) (P t) Post
-load-requires t c κs =
-    let pre′ = c .before .before .before .before .pre in
-    let match′ = c .before .match in
-    (omega (arith, pre′ .0), (pre′ .1, imports-at (match′ .keys9) string))
+  load-requires : lts.Need-load-requires (K t) (P t) Post
+  load-requires c κs = let p = a₀ (c .before .before) .pre in (omega (arith, p .0), (p .1, imports-at (c .before .match .keys9) string))
 
-pub load-requires-2 : (t : ℕ) → lts.Need-load-requires-2 (K t) (P t) Post
-load-requires-2 t c κs =
-    let pre′ = c .before .before .before .before .pre in
-    let match′ = c .before .match in
-    (omega (arith, pre′ .0), (pre′ .1, imports-at (match′ .keys10) binary))
+  load-requires-2 : lts.Need-load-requires-2 (K t) (P t) Post
+  load-requires-2 c κs = let p = a₀ (c .before .before) .pre in (omega (arith, p .0), (p .1, imports-at (c .before .match .keys10) binary))
 
-pub load-requires-3 : (t : ℕ) → lts.Need-load-requires-3 (K t) (P t) Post
-load-requires-3 t c κs =
-    let pre′ = c .before .before .before .before .pre in
-    let match′ = c .before .match in
-    (omega (arith, pre′ .0), (pre′ .1, imports-at (match′ .keys11) normal))
+  load-requires-3 : lts.Need-load-requires-3 (K t) (P t) Post
+  load-requires-3 c κs = let p = a₀ (c .before .before) .pre in (omega (arith, p .0), (p .1, imports-at (c .before .match .keys11) normal))
 
-pub atom-requires : (t : ℕ) → lts.Need-atom-requires (K t) (P t) Post
-atom-requires t c κs =
-    search needs
+  -- ── What each return owes ───────────────────────────────────────────────────────────────────────
 
-pub same-length-4 : (t : ℕ) → lts.Need-same-length-4 (K t) (P t) Post
-same-length-4 t c =
-    search needs
+  returns : lts.Need-returns (K t) (P t) Post
+  returns c = let x = c .before .before .before .before in Steps.as-sub (Steps.passed (Steps.takes-broken (x .expr .ensures) (c .before .match2 .keys2)) (paren (x .before)))
 
-pub returns-4 : (t : ℕ) → lts.Need-returns-4 (K t) (P t) Post
-returns-4 t c =
-    let eat′ = c .eat in
-    let expr′ = c .before .before .before .before .before .before .expr in
-    let a′ = c .before .before .a in
-    let pre′ = c .before .before .before .before .before .before .before .before .before .before .before .before .pre in
-    let st = pre′ .1 .stands in
-    let eat-any′ = c .before .before .before .before .before .before .before .eat-any in
-    let match′ = c .before .before .before .before .before .before .before .before .before .match in
-    let args′ = c .before .before .before .before .before .before .before .before .before .before .before .before .args in
-    let g = args′ .set in
-    let s = args′ .src .now in
-    let begin = Steps.at g s (args′ .left) (goto basic) 0 (args′ .c) (args′ .w) (args′ .out .now) in
-    let paren1 = Steps.taken (lit< tt) st (eat-any′ .ensures) (match′ .keys1) (Steps.known (eat 25 ▸ expression ▸ eat 26 ▸ end) st (match′ .keys1) (λ xs t. a-paren g (args′ .c) xs 0 t) begin) in
-    let paren2 = Steps.took (expr′ .ensures) (a′ .given .1) paren1 in
-    Steps.as-sub (Steps.eat-last (eat′ .ensures) (lit≤ tt) paren2)
+  returns-2 : lts.Need-returns-2 (K t) (P t) Post
+  returns-2 c = let x = c .before .before .before .before in Steps.as-sub (Steps.passed (Steps.takes-broken (x .inside .ensures) (c .before .match3 .keys2)) (brace (x .before)))
 
-pub same-length-5 : (t : ℕ) → lts.Need-same-length-5 (K t) (P t) Post
-same-length-5 t c =
-    search needs
+  returns-3 : lts.Need-returns-3 (K t) (P t) Post
+  returns-3 c = let x = c .before .before .before .before in Steps.as-sub (Steps.passed (Steps.takes-broken (x .expr2 .ensures) (c .before .match4 .keys2)) (raising (x .before)))
 
-pub returns-5 : (t : ℕ) → lts.Need-returns-5 (K t) (P t) Post
-returns-5 t c =
-    let array′ = c .before .before .array in
-    let pre′ = c .before .before .before .before .before .before .before .before .pre in
-    let st = pre′ .1 .stands in
-    let eat-any2′ = c .before .before .before .eat-any2 in
-    let match′ = c .before .before .before .before .before .match in
-    let args′ = c .before .before .before .before .before .before .before .before .args in
-    let g = args′ .set in
-    let s = args′ .src .now in
-    let begin = Steps.at g s (args′ .left) (goto basic) 0 (args′ .c) (args′ .w) (args′ .out .now) in
-    let bracket1 = Steps.taken (lit< tt) st (eat-any2′ .ensures) (match′ .keys2) (Steps.known (eat 23 ▸ goto array) st (match′ .keys2) (λ xs t. an-array g (args′ .c) xs 0 t) begin) in
-    Steps.as-sub (Steps.tail (lit≤ tt) (array′ .ensures) bracket1)
+  returns-4 : lts.Need-returns-4 (K t) (P t) Post
+  returns-4 c = Steps.as-sub (Steps.eat-last (c .eat .ensures) (lit≤ tt) (parened (c .before .before)))
 
-pub same-length-6 : (t : ℕ) → lts.Need-same-length-6 (K t) (P t) Post
-same-length-6 t c =
-    search needs
+  returns-5 : lts.Need-returns-5 (K t) (P t) Post
+  returns-5 c = let x = c .before .before in Steps.as-sub (Steps.tail (lit≤ tt) (x .array .ensures) (bracket (x .before)))
 
-pub returns-6 : (t : ℕ) → lts.Need-returns-6 (K t) (P t) Post
-returns-6 t c =
-    let eat2′ = c .eat2 in
-    let inside′ = c .before .before .before .before .before .before .inside in
-    let a2′ = c .before .before .a2 in
-    let pre′ = c .before .before .before .before .before .before .before .before .before .before .before .before .pre in
-    let st = pre′ .1 .stands in
-    let eat-any3′ = c .before .before .before .before .before .before .before .eat-any3 in
-    let match′ = c .before .before .before .before .before .before .before .before .before .match in
-    let args′ = c .before .before .before .before .before .before .before .before .before .before .before .before .args in
-    let g = args′ .set in
-    let s = args′ .src .now in
-    let begin = Steps.at g s (args′ .left) (goto basic) 0 (args′ .c) (args′ .w) (args′ .out .now) in
-    let brace1 = Steps.taken (lit< tt) st (eat-any3′ .ensures) (match′ .keys3) (Steps.known (eat 27 ▸ sub inside ▸ eat 28 ▸ end) st (match′ .keys3) (λ xs t. an-object g (args′ .c) xs 0 t) begin) in
-    let brace2 = Steps.took-owing (inside′ .ensures) (a2′ .given .1) brace1 in
-    Steps.as-sub (Steps.eat-last (eat2′ .ensures) (lit≤ tt) brace2)
+  returns-6 : lts.Need-returns-6 (K t) (P t) Post
+  returns-6 c = Steps.as-sub (Steps.eat-last (c .eat2 .ensures) (lit≤ tt) (braced (c .before .before)))
 
-pub same-length-7 : (t : ℕ) → lts.Need-same-length-7 (K t) (P t) Post
-same-length-7 t c =
-    search needs
+  returns-7 : lts.Need-returns-7 (K t) (P t) Post
+  returns-7 c = let x = c .before .before in Steps.as-sub (Steps.tail (lit≤ tt) (x .local .ensures) (binding (x .before)))
 
-pub returns-7 : (t : ℕ) → lts.Need-returns-7 (K t) (P t) Post
-returns-7 t c =
-    let local′ = c .before .before .local in
-    let pre′ = c .before .before .before .before .before .before .before .before .pre in
-    let st = pre′ .1 .stands in
-    let eat-any4′ = c .before .before .before .eat-any4 in
-    let match′ = c .before .before .before .before .before .match in
-    let args′ = c .before .before .before .before .before .before .before .before .args in
-    let g = args′ .set in
-    let s = args′ .src .now in
-    let begin = Steps.at g s (args′ .left) (goto basic) 0 (args′ .c) (args′ .w) (args′ .out .now) in
-    let local1 = Steps.taken (lit< tt) st (eat-any4′ .ensures) (match′ .keys4) (Steps.known (eat 67 ▸ goto binds) st (match′ .keys4) (λ xs t. a-local g (args′ .c) xs 0 t) begin) in
-    Steps.as-sub (Steps.tail (lit≤ tt) (local′ .ensures) local1)
+  returns-8 : lts.Need-returns-8 (K t) (P t) Post
+  returns-8 c = Steps.as-sub (c .before .before .cond .ensures)
 
-pub same-length-8 : (t : ℕ) → lts.Need-same-length-8 (K t) (P t) Post
-same-length-8 t c =
-    search needs
+  returns-9 : lts.Need-returns-9 (K t) (P t) Post
+  returns-9 c = Steps.as-sub (c .before .before .func .ensures)
 
-pub returns-8 : (t : ℕ) → lts.Need-returns-8 (K t) (P t) Post
-returns-8 t c =
-    let cond′ = c .before .before .cond in
-    Steps.as-sub (cond′ .ensures)
+  returns-10 : lts.Need-returns-10 (K t) (P t) Post
+  returns-10 c = Steps.as-sub (c .before .before .claim .ensures)
 
-pub same-length-9 : (t : ℕ) → lts.Need-same-length-9 (K t) (P t) Post
-same-length-9 t c =
-    search needs
+  returns-11 : lts.Need-returns-11 (K t) (P t) Post
+  unfolding entry payload
+  returns-11 c = let x = c .before .before in Steps.as-sub (Steps.ends (lit≤ tt) (Steps.closed 7 (lit≤ tt) (x .put-mark .ensures) (raised (x .before .before .before))))
 
-pub returns-9 : (t : ℕ) → lts.Need-returns-9 (K t) (P t) Post
-returns-9 t c =
-    let func′ = c .before .before .func in
-    Steps.as-sub (func′ .ensures)
+  returns-12 : lts.Need-returns-12 (K t) (P t) Post
+  returns-12 c = Steps.as-sub (c .before .before .load .ensures)
 
-pub same-length-10 : (t : ℕ) → lts.Need-same-length-10 (K t) (P t) Post
-same-length-10 t c =
-    search needs
+  returns-13 : lts.Need-returns-13 (K t) (P t) Post
+  returns-13 c = Steps.as-sub (c .before .before .load2 .ensures)
 
-pub returns-10 : (t : ℕ) → lts.Need-returns-10 (K t) (P t) Post
-returns-10 t c =
-    let claim′ = c .before .before .claim in
-    Steps.as-sub (claim′ .ensures)
+  returns-14 : lts.Need-returns-14 (K t) (P t) Post
+  returns-14 c = Steps.as-sub (c .before .before .load3 .ensures)
 
-pub same-length-11 : (t : ℕ) → lts.Need-same-length-11 (K t) (P t) Post
-same-length-11 t c =
-    search needs
+  returns-15 : lts.Need-returns-15 (K t) (P t) Post
+  returns-15 c = Steps.as-sub (c .before .before .atom .ensures .ends _ _)
 
-pub returns-11 : (t : ℕ) → lts.Need-returns-11 (K t) (P t) Post
-unfolding entry payload
-returns-11 t c =
-    let put-mark′ = c .before .before .put-mark in
-    let expr2′ = c .before .before .before .before .before .before .before .before .before .expr2 in
-    let a3′ = c .before .before .before .before .before .a3 in
-    let pre′ = c .before .before .before .before .before .before .before .before .before .before .before .before .before .before .before .pre in
-    let st = pre′ .1 .stands in
-    let eat-any5′ = c .before .before .before .before .before .before .before .before .before .before .eat-any5 in
-    let match′ = c .before .before .before .before .before .before .before .before .before .before .before .before .match in
-    let args′ = c .before .before .before .before .before .before .before .before .before .before .before .before .before .before .before .args in
-    let g = args′ .set in
-    let s = args′ .src .now in
-    let begin = Steps.at g s (args′ .left) (goto basic) 0 (args′ .c) (args′ .w) (args′ .out .now) in
-    let error1 = Steps.taken (lit< tt) st (eat-any5′ .ensures) (match′ .keys8) (Steps.known (eat 75 ▸ expression ▸ close 17 (span (args′ .c .start) (args′ .c .end) ∷ []) ▸ end) st (match′ .keys8) (λ xs t. an-error g (args′ .c) xs 0 t) begin) in
-    let error2 = Steps.took (expr2′ .ensures) (a3′ .given .1) error1 in
-    Steps.as-sub (Steps.ends (lit≤ tt) (Steps.closed 7 (lit≤ tt) (put-mark′ .ensures) error2))
-
-pub same-length-12 : (t : ℕ) → lts.Need-same-length-12 (K t) (P t) Post
-same-length-12 t c =
-    search needs
-
-pub returns-12 : (t : ℕ) → lts.Need-returns-12 (K t) (P t) Post
-returns-12 t c =
-    let load′ = c .before .before .load in
-    Steps.as-sub (load′ .ensures)
-
-pub same-length-13 : (t : ℕ) → lts.Need-same-length-13 (K t) (P t) Post
-same-length-13 t c =
-    search needs
-
-pub returns-13 : (t : ℕ) → lts.Need-returns-13 (K t) (P t) Post
-returns-13 t c =
-    let load2′ = c .before .before .load2 in
-    Steps.as-sub (load2′ .ensures)
-
-pub same-length-14 : (t : ℕ) → lts.Need-same-length-14 (K t) (P t) Post
-same-length-14 t c =
-    search needs
-
-pub returns-14 : (t : ℕ) → lts.Need-returns-14 (K t) (P t) Post
-returns-14 t c =
-    let load3′ = c .before .before .load3 in
-    Steps.as-sub (load3′ .ensures)
-
-pub same-length-15 : (t : ℕ) → lts.Need-same-length-15 (K t) (P t) Post
-same-length-15 t c =
-    search needs
-
-pub returns-15 : (t : ℕ) → lts.Need-returns-15 (K t) (P t) Post
-returns-15 t c =
-    let atom′ = c .before .before .atom in
-    let args′ = c .before .before .before .before .before .before .before .args in
-    let g = args′ .set in
-    Steps.as-sub (atom′ .ensures .ends g (args′ .left))
+  -- All of them, in the order of the code.
+  pub met : {M : Type 1} → lts.Closed (K t) (P t) Post M
+  met =
+      lts.spec (K t) (P t) Post (λ c κs. search needs) expr-requires (λ c. search needs) (λ c. search needs) (λ c. search needs) returns eat-requires
+      (λ c κs. search needs) array-requires (λ c κs. search needs) inside-requires (λ c. search needs) (λ c. search needs) (λ c. search needs)
+      returns-2 eat-requires-2 (λ c κs. search needs) local-requires (λ c κs. search needs) (λ c κs. search needs) (λ c κs. search needs)
+      (λ c κs. search needs) expr-requires-2 (λ c. search needs) (λ c. search needs) (λ c. search needs) returns-3 put-mark-requires load-requires
+      load-requires-2 load-requires-3 (λ c κs. search needs) (λ c. search needs) returns-4 (λ c. search needs) returns-5 (λ c. search needs) returns-6
+      (λ c. search needs) returns-7 (λ c. search needs) returns-8 (λ c. search needs) returns-9 (λ c. search needs) returns-10 (λ c. search needs)
+      returns-11 (λ c. search needs) returns-12 (λ c. search needs) returns-13 (λ c. search needs) returns-14 (λ c. search needs) returns-15

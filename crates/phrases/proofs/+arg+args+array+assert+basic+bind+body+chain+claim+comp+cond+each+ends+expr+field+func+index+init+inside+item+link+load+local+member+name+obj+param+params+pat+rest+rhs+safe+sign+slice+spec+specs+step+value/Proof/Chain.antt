@@ -1,19 +1,21 @@
--- The answers of `chain`.
+-- The answers of `chain`: the stretch over the first phrase and over a turn of its loop, and from these what each call asks and each return owes.
+-- Of a place a₁ .. is the start, l₃ the turn, x₁ .. the call before it.
 use borrow.Author.Needs.{needs}
 use native.Mathlib.Omega.{arith}
-use lib.Dec.{lit<, lit≤}
+use lib.Dec.{lit≤}
 use lib.ListN.{length}
-use mathlib.Core.Path.{_≡_, refl, sym, ap, subst, _∙_}
-use mathlib.Core.Logic.{⊎-elim}
-use mathlib.Core.List.{[], _∷_}
-use Prim.Native.Nat.{ℕ, _+_, _*_, _-_, _≤_, _<_}
+use mathlib.Core.Path.{refl, subst}
+use mathlib.Core.List.{List}
+use Prim.Native.Nat.{ℕ, _-_, _≤_}
 use Rattle.leaves.proofs.Steps
 use Rattle.phrases.proofs.chain.Reads.{Post}
 use Rattle.phrases.proofs.+arg+args+array+assert+basic+bind+body+chain+claim+comp+cond+each+ends+expr+field+func+index+init+inside+item+link+load+local+member+name+obj+param+params+pat+rest+rhs+safe+sign+slice+spec+specs+step+value.Lts-chain as lts
 use Rattle.phrases.proofs.+arg+args+array+assert+basic+bind+body+chain+claim+comp+cond+each+ends+expr+field+func+index+init+inside+item+link+load+local+member+name+obj+param+params+pat+rest+rhs+safe+sign+slice+spec+specs+step+value.Proof.Frame.{chain-claims as K, chain-at as P}
-use Rattle.grammar.specs.Productions.{goto, sub, _▸_, rule, suffixed, suffix, basic}
+use Rattle.grammar.specs.Productions.{Body, goto, sub, _▸_, rule, suffixed, suffix, basic}
 use Rattle.grammar.specs.Reading.{choose, has}
 use Rattle.leaves.specs.Lexing.{Suffixed}
+use Rattle.leaves.specs.Meets.{state, Seg}
+use Rattle.leaves.specs.declared.Cursor.{Cursor}
 use Rattle.leaves.proofs.LexemeLaws.{sight}
 use Rattle.phrases.proofs.SuffixLaws.{suffix-there, no-more}
 
@@ -23,143 +25,83 @@ Inv-loop src out₀ w left set w1 cur₀ at₀ first₀ out cur at first = Steps
 abbrev pub μ-loop : lts.MeasureT-loop
 μ-loop src out₀ w left set w1 cur₀ at₀ first₀ out cur at first = length src - cur .at
 
-pub basic-requires : (t : ℕ) → lts.Need-basic-requires (K t) (P t) Post Inv-loop μ-loop
-basic-requires t c κs =
-    let pre′ = c .before .before .before .pre in
-    (omega (arith, pre′ .0), pre′ .1)
+module _ (t : ℕ) where
+  abbrev Begin : Type 0
+  Begin = lts.Start (K t) (P t) Post Inv-loop μ-loop
 
-pub enum-known-a : (t : ℕ) → lts.Need-enum-known-a (K t) (P t) Post Inv-loop μ-loop
-enum-known-a t c =
-    search needs
+  abbrev Turn : Type 0
+  Turn = lts.At-loop (K t) (P t) Post Inv-loop μ-loop
 
-pub enum-told : (t : ℕ) → lts.Need-enum-told (K t) (P t) Post Inv-loop μ-loop
-enum-told t c =
-    search needs
+  -- a stretch from the start to a body with n trees
+  abbrev So : Begin → Body → ℕ → Cursor → ℕ → List ℕ → Type 0
+  So a b n c w o = let x = a .args in Seg (x .set) (x .src .now) (x .left) (state (goto suffixed) 0 (x .c) (x .w) (x .out .now)) 0 0 (state b n c w o)
 
-pub same-length : (t : ℕ) → lts.Need-same-length (K t) (P t) Post Inv-loop μ-loop
-same-length t c =
-    search needs
+  begun : (a : Begin) → So a (sub basic ▸ goto (suffix 1)) 0 (a .args .c) (a .args .w) (a .args .out .now)
+  unfolding rule choose has sight
+  begun a = Steps.known (sub basic ▸ goto (suffix 1)) (a .pre .1 .stands) refl (λ xs t. refl) Steps.here
 
-pub returns : (t : ℕ) → lts.Need-returns (K t) (P t) Post Inv-loop μ-loop
-unfolding rule choose has sight
-returns t c =
-    let basic′ = c .before .before .before .before .basic in
-    let match′ = c .before .match in
-    let pre′ = c .before .before .before .before .before .before .before .before .pre in
-    let args′ = c .before .before .before .before .before .before .before .before .args in
-    let g = args′ .set in
-    let s = args′ .src .now in
-    let d = args′ .left in
-    let begin = Steps.known (sub basic ▸ goto (suffix 1)) (pre′ .1 .stands) refl (λ xs t. refl) (Steps.at g s d (goto suffixed) 0 (args′ .c) (args′ .w) (args′ .out .now)) in
-    Steps.as-sub (Steps.passed (Steps.takes-broken (basic′ .ensures) (match′ .keys2)) begin)
+  abbrev x₁ : lts.After-a (K t) (P t) Post Inv-loop μ-loop → lts.After-basic (K t) (P t) Post Inv-loop μ-loop
+  x₁ c = c .before .before .before .before
 
-pub loop-holds : (t : ℕ) → lts.Need-loop-holds (K t) (P t) Post Inv-loop μ-loop
-unfolding rule choose has sight
-loop-holds t c =
-    let pre′ = c .before .before .before .before .before .before .before .before .before .pre in
-    let basic′ = c .before .before .before .before .before .basic in
-    let a′ = c .before .a in
-    let args′ = c .before .before .before .before .before .before .before .before .before .args in
-    let g = args′ .set in
-    let s = args′ .src .now in
-    let d = args′ .left in
-    let begin = Steps.known (sub basic ▸ goto (suffix 1)) (pre′ .1 .stands) refl (λ xs t. refl) (Steps.at g s d (goto suffixed) 0 (args′ .c) (args′ .w) (args′ .out .now)) in
-    let base = Steps.took (basic′ .ensures) (a′ .given .1) begin in
-    (Steps.begun (Steps.ready (pre′ .1) (lit≤ tt) base), lit≤ tt)
+  abbrev a₁ : lts.After-a (K t) (P t) Post Inv-loop μ-loop → Begin
+  a₁ c = x₁ c .before .before .before .before
 
-pub suffix-at-requires : (t : ℕ) → lts.Need-suffix-at-requires (K t) (P t) Post Inv-loop μ-loop
-suffix-at-requires t c κs =
-    search needs
+  based : (c : lts.After-a (K t) (P t) Post Inv-loop μ-loop) → So (a₁ c) (goto (suffix 1)) 1 (c .a .given .0 .0) (c .a .given .0 .1 .0) (x₁ c .basic .last .1 .0)
+  based c = Steps.took (x₁ c .basic .ensures) (c .a .given .1) (begun (a₁ c))
 
-pub same-length-2 : (t : ℕ) → lts.Need-same-length-2 (K t) (P t) Post Inv-loop μ-loop
-same-length-2 t c =
-    search needs
+  abbrev a₂ : Turn → Begin
+  a₂ l = a₁ (l .before .before)
 
-pub returns-2 : (t : ℕ) → lts.Need-returns-2 (K t) (P t) Post Inv-loop μ-loop
-unfolding rule choose has sight
-returns-2 t c =
-    let loop′ = c .before .before .loop in
-    let turn = loop′ .inv .0 in
-    let st = turn .ok .stands in
-    let args′ = c .before .before .before .before .before .before .before .before .before .before .before .before .args in
-    let g = args′ .set in
-    let if1′ = c .if1 in
-    let suffix-at′ = c .before .suffix-at in
-    let basic′ = c .before .before .before .before .before .before .before .before .basic in
-    let a′ = c .before .before .before .before .a in
-    let pre′ = c .before .before .before .before .before .before .before .before .before .before .before .before .pre in
-    let s = args′ .src .now in
-    let d = args′ .left in
-    let begin = Steps.known (sub basic ▸ goto (suffix 1)) (pre′ .1 .stands) refl (λ xs t. refl) (Steps.at g s d (goto suffixed) 0 (args′ .c) (args′ .w) (args′ .out .now)) in
-    let base = Steps.took (basic′ .ensures) (a′ .given .1) begin in
-    let so-far = Steps.then base (turn .seg) in
-    Steps.as-sub (Steps.ends (lit≤ tt) (no-more st (subst (Suffixed g (loop′ .cur .kind)) (if1′ .taken) (suffix-at′ .ensures)) so-far))
+  so-far : (l : Turn) → So (a₂ l) (goto (suffix (l .loop .first))) 1 (l .loop .cur) (l .loop .at) (l .loop .out)
+  so-far l = Steps.then (based (l .before .before)) (l .loop .inv .0 .seg)
 
-pub link-requires : (t : ℕ) → lts.Need-link-requires (K t) (P t) Post Inv-loop μ-loop
-link-requires t c κs =
-    let pre′ = c .before .before .before .before .before .before .before .before .before .before .before .before .before .pre in
-    let loop′ = c .before .before .before .loop in
-    let turn = loop′ .inv .0 in
-    let suffix-at′ = c .before .before .suffix-at in
-    let if1′ = c .before .if1 in
-    (omega (arith, pre′ .0), (turn .ok, suffix-there (suffix-at′ .ensures) (if1′ .left), loop′ .inv .1))
+  abbrev x₃ : lts.After-b (K t) (P t) Post Inv-loop μ-loop → lts.After-link (K t) (P t) Post Inv-loop μ-loop
+  x₃ c = c .before .before .before .before
 
-pub enum-known-b : (t : ℕ) → lts.Need-enum-known-b (K t) (P t) Post Inv-loop μ-loop
-enum-known-b t c =
-    search needs
+  abbrev l₃ : lts.After-b (K t) (P t) Post Inv-loop μ-loop → Turn
+  l₃ c = x₃ c .before .before .before .before
 
-pub enum-told-2 : (t : ℕ) → lts.Need-enum-told-2 (K t) (P t) Post Inv-loop μ-loop
-enum-told-2 t c =
-    search needs
+  -- a turn
+  on : (c : lts.After-b (K t) (P t) Post Inv-loop μ-loop) → let l = l₃ c .loop in let x = a₂ (l₃ c) .args in
+      Seg (x .set) (x .src .now) (x .left) (state (goto (suffix (l .first))) 1 (l .cur) (l .at) (l .out)) 0 0
+      (state (goto (suffix (c .b .given .0 .1 .1 .0))) 1 (c .b .given .0 .0) (c .b .given .0 .1 .0) (x₃ c .link .last .1 .0))
+  on c = Steps.follows (x₃ c .link .ensures .tells) (c .b .given .1) Steps.here
 
-pub same-length-3 : (t : ℕ) → lts.Need-same-length-3 (K t) (P t) Post Inv-loop μ-loop
-same-length-3 t c =
-    search needs
+  -- ── What each call asks ─────────────────────────────────────────────────────────────────────────
 
-pub returns-3 : (t : ℕ) → lts.Need-returns-3 (K t) (P t) Post Inv-loop μ-loop
-unfolding rule choose has sight
-returns-3 t c =
-    let link′ = c .before .before .before .before .link in
-    let match2′ = c .before .match2 in
-    let basic′ = c .before .before .before .before .before .before .before .before .before .before .before .before .before .before .basic in
-    let a′ = c .before .before .before .before .before .before .before .before .before .before .a in
-    let pre′ = c .before .before .before .before .before .before .before .before .before .before .before .before .before .before .before .before .before .before .pre in
-    let args′ = c .before .before .before .before .before .before .before .before .before .before .before .before .before .before .before .before .before .before .args in
-    let g = args′ .set in
-    let s = args′ .src .now in
-    let d = args′ .left in
-    let begin = Steps.known (sub basic ▸ goto (suffix 1)) (pre′ .1 .stands) refl (λ xs t. refl) (Steps.at g s d (goto suffixed) 0 (args′ .c) (args′ .w) (args′ .out .now)) in
-    let base = Steps.took (basic′ .ensures) (a′ .given .1) begin in
-    let loop′ = c .before .before .before .before .before .before .before .before .loop in
-    let turn = loop′ .inv .0 in
-    let so-far = Steps.then base (turn .seg) in
-    Steps.as-sub (Steps.passed (Steps.tells-broken (link′ .ensures .tells) (match2′ .keys2)) so-far)
+  link-requires : lts.Need-link-requires (K t) (P t) Post Inv-loop μ-loop
+  link-requires c κs =
+      let l = c .before .before .before in
+      (omega (arith, a₂ l .pre .0), (l .loop .inv .0 .ok, suffix-there (c .before .before .suffix-at .ensures) (c .before .if1 .left), l .loop .inv .1))
 
-pub loop-less : (t : ℕ) → lts.Need-loop-less (K t) (P t) Post Inv-loop μ-loop
-loop-less t c =
-    let loop′ = c .before .before .before .before .before .before .before .before .before .loop in
-    let b′ = c .before .b in
-    let link′ = c .before .before .before .before .before .link in
-    let args′ = c .before .before .before .before .before .before .before .before .before .before .before .before .before .before .before .before .before .before .before .args in
-    let g = args′ .set in
-    let s = args′ .src .now in
-    let d = args′ .left in
-    let here = Steps.at g s d (goto (suffix (loop′ .first))) 1 (loop′ .cur) (loop′ .at) (loop′ .out) in
-    let on = Steps.follows (link′ .ensures .tells) (b′ .given .1) here in
-    let turn = loop′ .inv .0 in
-    let st = turn .ok .stands in
-    (let far : loop′ .cur .at < b′ .given .0 .0 .at = link′ .ensures .some _ _ _ (b′ .given .1) in let there = on .stands st in omega (arith, far, there .within))
+  -- ── The loop, and what each return owes ─────────────────────────────────────────────────────────
 
-pub loop-again : (t : ℕ) → lts.Need-loop-again (K t) (P t) Post Inv-loop μ-loop
-loop-again t c =
-    let loop′ = c .before .before .before .before .before .before .before .before .before .loop in
-    let turn = loop′ .inv .0 in
-    let link′ = c .before .before .before .before .before .link in
-    let b′ = c .before .b in
-    let args′ = c .before .before .before .before .before .before .before .before .before .before .before .before .before .before .before .before .before .before .before .args in
-    let g = args′ .set in
-    let s = args′ .src .now in
-    let d = args′ .left in
-    let here = Steps.at g s d (goto (suffix (loop′ .first))) 1 (loop′ .cur) (loop′ .at) (loop′ .out) in
-    let on = Steps.follows (link′ .ensures .tells) (b′ .given .1) here in
-    (Steps.turned turn (lit≤ tt) on, Steps.told-small (link′ .ensures .tells) (b′ .given .1))
+  returns : lts.Need-returns (K t) (P t) Post Inv-loop μ-loop
+  returns c = let x = c .before .before .before .before in Steps.as-sub (Steps.passed (Steps.takes-broken (x .basic .ensures) (c .before .match .keys2)) (begun (x .before .before .before .before)))
+
+  loop-holds : lts.Need-loop-holds (K t) (P t) Post Inv-loop μ-loop
+  loop-holds c = let a = c .before in (Steps.begun (Steps.ready (a₁ a .pre .1) (lit≤ tt) (based a)), lit≤ tt)
+
+  returns-2 : lts.Need-returns-2 (K t) (P t) Post Inv-loop μ-loop
+  returns-2 c =
+      let l = c .before .before in
+      let none = subst (Suffixed (a₂ l .args .set) (l .loop .cur .kind)) (c .if1 .taken) (c .before .suffix-at .ensures) in
+      Steps.as-sub (Steps.ends (lit≤ tt) (no-more (l .loop .inv .0 .ok .stands) none (so-far l)))
+
+  returns-3 : lts.Need-returns-3 (K t) (P t) Post Inv-loop μ-loop
+  returns-3 c =
+      let x = c .before .before .before .before in
+      Steps.as-sub (Steps.passed (Steps.tells-broken (x .link .ensures .tells) (c .before .match2 .keys2)) (so-far (x .before .before .before .before)))
+
+  loop-less : lts.Need-loop-less (K t) (P t) Post Inv-loop μ-loop
+  loop-less c = let b = c .before in omega (arith, x₃ b .link .ensures .some _ _ _ (b .b .given .1), on b .stands (l₃ b .loop .inv .0 .ok .stands) .within)
+
+  loop-again : lts.Need-loop-again (K t) (P t) Post Inv-loop μ-loop
+  loop-again c = let b = c .before in (Steps.turned (l₃ b .loop .inv .0) (lit≤ tt) (on b), Steps.told-small (x₃ b .link .ensures .tells) (b .b .given .1))
+
+  -- All of them, in the order of the code.
+  pub met : {M : Type 1} → lts.Closed (K t) (P t) Post M
+  met =
+      lts.spec (K t) (P t) Post Inv-loop μ-loop (λ c κs. search needs) (λ c. search needs) (λ c. search needs) (λ c. search needs) returns loop-holds
+      (λ c κs. search needs) (λ c. search needs) returns-2 link-requires (λ c. search needs) (λ c. search needs) (λ c. search needs) returns-3
+      loop-less loop-again

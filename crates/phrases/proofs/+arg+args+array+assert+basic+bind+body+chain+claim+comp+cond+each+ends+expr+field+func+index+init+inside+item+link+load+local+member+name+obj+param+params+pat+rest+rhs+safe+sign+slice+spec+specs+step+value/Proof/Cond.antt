@@ -1,4 +1,5 @@
 -- The answers of `cond`: the stretch from its start to each place of its code, and from these what each call asks and each return owes.
+use borrow.Author.Needs.{needs}
 use native.Mathlib.Omega.{arith}
 use lib.Dec.{lit<, lit≤}
 use mathlib.Core.Path.{refl}
@@ -80,42 +81,42 @@ module _ (t : ℕ) where
 
   -- ── What each call asks ─────────────────────────────────────────────────────────────────────────
 
-  pub eat-any-requires : lts.Need-eat-any-requires (K t) (P t) Post
+  eat-any-requires : lts.Need-eat-any-requires (K t) (P t) Post
   eat-any-requires c κs = c .before .before .before .pre .1 .0 .stands
 
-  pub expr-requires : lts.Need-expr-requires (K t) (P t) Post
+  expr-requires : lts.Need-expr-requires (K t) (P t) Post
   expr-requires c κs = let p = a₀ c .pre in (omega (arith, p .0), Steps.ready (p .1 .0) (lit≤ tt) (opened c))
 
-  pub eat-requires : lts.Need-eat-requires (K t) (P t) Post
+  eat-requires : lts.Need-eat-requires (K t) (P t) Post
   eat-requires c κs = (lit< tt, judged (c .before) .stands (a₀ (c₁ (c .before)) .pre .1 .0 .stands))
 
-  pub expr-requires-2 : lts.Need-expr-requires-2 (K t) (P t) Post
+  expr-requires-2 : lts.Need-expr-requires-2 (K t) (P t) Post
   expr-requires-2 c κs = let b = c .before .before in let p = a₀ (c₁ (c₂ b)) .pre in (omega (arith, p .0), Steps.ready (p .1 .0) (lit≤ tt) (thened b))
 
-  pub put-marked-requires : lts.Need-put-marked-requires (K t) (P t) Post
+  put-marked-requires : lts.Need-put-marked-requires (K t) (P t) Post
   put-marked-requires c κs = let d = c .before .before .before .before in let p = a₃ d .pre .1 .0 in (Steps.fits p (lit≤ tt) (chosen d), within p .0, within p .1)
 
-  pub eat-any-requires-2 : lts.Need-eat-any-requires-2 (K t) (P t) Post
+  eat-any-requires-2 : lts.Need-eat-any-requires-2 (K t) (P t) Post
   eat-any-requires-2 c κs = let d = c .before .before .before .before in chosen d .stands (a₃ d .pre .1 .0 .stands)
 
-  pub expr-requires-3 : lts.Need-expr-requires-3 (K t) (P t) Post
+  expr-requires-3 : lts.Need-expr-requires-3 (K t) (P t) Post
   expr-requires-3 c κs = let p = a₃ (c₄ c) .pre in (omega (arith, p .0), Steps.ready (p .1 .0) (lit≤ tt) (past c))
 
-  pub put-marked-requires-2 : lts.Need-put-marked-requires-2 (K t) (P t) Post
+  put-marked-requires-2 : lts.Need-put-marked-requires-2 (K t) (P t) Post
   put-marked-requires-2 c κs = let e = c .before .before in let p = a₃ (c₄ (c₅ e)) .pre .1 .0 in (Steps.fits p (lit≤ tt) (value e), within p .0, within p .1)
 
   -- ── What each return owes ───────────────────────────────────────────────────────────────────────
 
-  pub returns : lts.Need-returns (K t) (P t) Post
+  returns : lts.Need-returns (K t) (P t) Post
   returns c = let x = c .before .before .before .before in Steps.passed (Steps.takes-broken (x .expr .ensures) (c .before .match .keys2)) (opened (x .before))
 
-  pub returns-2 : lts.Need-returns-2 (K t) (P t) Post
+  returns-2 : lts.Need-returns-2 (K t) (P t) Post
   returns-2 c = let x = c .before .before in Steps.passed (Steps.eats-broken (x .eat .ensures) (c .before .match2 .keys2)) (judged (x .before .before))
 
-  pub returns-3 : lts.Need-returns-3 (K t) (P t) Post
+  returns-3 : lts.Need-returns-3 (K t) (P t) Post
   returns-3 c = let x = c .before .before .before .before in Steps.passed (Steps.takes-broken (x .expr2 .ensures) (c .before .match3 .keys2)) (thened (x .before .before .before))
 
-  pub returns-4 : lts.Need-returns-4 (K t) (P t) Post
+  returns-4 : lts.Need-returns-4 (K t) (P t) Post
   unfolding entry payload
   returns-4 c =
       let x = c .before .before in
@@ -125,18 +126,26 @@ module _ (t : ℕ) where
       let bare = Steps.known (close 22 (span (a .args .c .start) (a .args .c .end) ∷ byte 0 ∷ []) ▸ end) (chosen d .stands (a .pre .1 .0 .stands)) refl (λ xs t. no-else (a .args .set) c₆ xs 2 (a .args .c .start) (a .args .c .end) (c₆ .kind) t (x .before .before .if1 .taken)) (chosen d) in
       Steps.ends (lit≤ tt) (Steps.closed 8 (lit≤ tt) (x .put-marked .ensures) bare)
 
-  pub returns-5 : lts.Need-returns-5 (K t) (P t) Post
+  returns-5 : lts.Need-returns-5 (K t) (P t) Post
   returns-5 c = let x = c .before .before .before .before in Steps.passed (Steps.takes-broken (x .expr3 .ensures) (c .before .match4 .keys2)) (past (x .before))
 
-  pub returns-6 : lts.Need-returns-6 (K t) (P t) Post
+  returns-6 : lts.Need-returns-6 (K t) (P t) Post
   unfolding entry payload
   returns-6 c = let x = c .before .before in Steps.ends (lit≤ tt) (Steps.closed 8 (lit≤ tt) (x .put-marked2 .ensures) (value (x .before .before .before)))
 
-  pub same-length-4 : lts.Need-same-length-4 (K t) (P t) Post
+  same-length-4 : lts.Need-same-length-4 (K t) (P t) Post
   same-length-4 c = let x = c .before .before in omega (arith, Steps.same (chosen (x .before .before .before .before .before)), x .put-marked .kept)
 
-  pub same-length-5 : lts.Need-same-length-5 (K t) (P t) Post
+  same-length-5 : lts.Need-same-length-5 (K t) (P t) Post
   same-length-5 c = let x = c .before .before .before .before in omega (arith, Steps.same (past (x .before)), x .expr3 .kept)
 
-  pub same-length-6 : lts.Need-same-length-6 (K t) (P t) Post
+  same-length-6 : lts.Need-same-length-6 (K t) (P t) Post
   same-length-6 c = let x = c .before .before in omega (arith, Steps.same (value (x .before .before .before)), x .put-marked2 .kept)
+
+  -- All of them, in the order of the code.
+  pub met : {M : Type 1} → lts.Closed (K t) (P t) Post M
+  met =
+      lts.spec (K t) (P t) Post eat-any-requires expr-requires (λ c. search needs) (λ c. search needs) (λ c. search needs) returns eat-requires
+      (λ c. search needs) (λ c. search needs) (λ c. search needs) returns-2 expr-requires-2 (λ c. search needs) (λ c. search needs)
+      (λ c. search needs) returns-3 put-marked-requires same-length-4 returns-4 eat-any-requires-2 expr-requires-3 (λ c. search needs)
+      (λ c. search needs) same-length-5 returns-5 put-marked-requires-2 same-length-6 returns-6

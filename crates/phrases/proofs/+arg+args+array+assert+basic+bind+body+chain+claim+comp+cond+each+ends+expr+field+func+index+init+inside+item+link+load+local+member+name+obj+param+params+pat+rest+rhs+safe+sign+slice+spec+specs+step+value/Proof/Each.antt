@@ -1,281 +1,132 @@
--- The answers of `each`.
+-- The answers of `each`: the stretch from its start to each place of its code, and from these what each call asks and each return owes.
 use borrow.Author.Needs.{needs}
 use native.Mathlib.Omega.{arith}
 use lib.Dec.{lit<, lit≤}
-use lib.ListN.{length}
-use mathlib.Core.Path.{_≡_, refl, sym, ap, subst, _∙_}
-use mathlib.Core.Logic.{⊎-elim}
-use mathlib.Core.List.{[], _∷_}
-use Prim.Native.Nat.{ℕ, _+_, _*_, _-_, _≤_, _<_}
+use lib.Seq.{slice}
+use mathlib.Core.List.{List, [], _∷_}
+use Prim.Native.Nat.{ℕ, _+_, _-_}
 use Rattle.leaves.proofs.Steps
 use Rattle.phrases.proofs.each.Reads.{Post}
 use Rattle.phrases.proofs.+arg+args+array+assert+basic+bind+body+chain+claim+comp+cond+each+ends+expr+field+func+index+init+inside+item+link+load+local+member+name+obj+param+params+pat+rest+rhs+safe+sign+slice+spec+specs+step+value.Lts-each as lts
 use Rattle.phrases.proofs.+arg+args+array+assert+basic+bind+body+chain+claim+comp+cond+each+ends+expr+field+func+index+init+inside+item+link+load+local+member+name+obj+param+params+pat+rest+rhs+safe+sign+slice+spec+specs+step+value.Proof.Frame.{each-claims as K, each-at as P}
+use Rattle.grammar.specs.Trees.{byte, text}
+use Rattle.grammar.specs.Productions.{Body, goto, end, eat, sub, close, _▸_, expression, pattern, for-clause}
+use Rattle.leaves.specs.Lexing.{Stands}
+use Rattle.leaves.specs.Meets.{state, Seg}
+use Rattle.leaves.specs.declared.Cursor.{Cursor}
 use Rattle.leaves.proofs.LexemeLaws.{lies}
 use Rattle.leaves.proofs.PartLaws.{lent-short}
 use Rattle.phrases.proofs.ClauseLaws.{too-deep-clause, iterates, iteration-closed}
 
-pub error-requires : (t : ℕ) → lts.Need-error-requires (K t) (P t) Post
-error-requires t c κs =
-    search needs
+module _ (t : ℕ) where
+  -- past the header
+  abbrev Head : Type 0
+  Head = lts.After-visibility (K t) (P t) Post
 
-pub returns : (t : ℕ) → lts.Need-returns (K t) (P t) Post
-returns t c =
-    let if1′ = c .before .if1 in
-    let pre′ = c .before .before .before .before .pre in
-    let error′ = c .error in
-    too-deep-clause (if1′ .taken) (pre′ .1 .0 .stands) (pre′ .1 .1) (error′ .ensures)
+  abbrev a₁ : Head → lts.Start (K t) (P t) Post
+  a₁ h = h .before .before .before .before .before .before .before .before
 
-pub eat-any-requires : (t : ℕ) → lts.Need-eat-any-requires (K t) (P t) Post
-eat-any-requires t c κs =
-    let pre′ = c .before .before .before .pre in
-    pre′ .1 .0 .stands
+  abbrev key : Head → Cursor
+  key h = h .before .before .before .before .eat-any .result
 
-pub eat-any-requires-2 : (t : ℕ) → lts.Need-eat-any-requires-2 (K t) (P t) Post
-eat-any-requires-2 t c κs =
-    let eat-any′ = c .eat-any in
-    eat-any′ .ensures .stands
+  stood : (h : Head) → Stands (a₁ h .args .src .now) (key h)
+  stood h = h .before .before .before .before .eat-any .ensures .stands
 
-pub eat-any-requires-3 : (t : ℕ) → lts.Need-eat-any-requires-3 (K t) (P t) Post
-eat-any-requires-3 t c κs =
-    let eat-any2′ = c .eat-any2 in
-    eat-any2′ .ensures .stands
+  -- how many bytes are taken with the header
+  abbrev size : Head → ℕ
+  size h = key h .end - key h .start + 1
 
-pub eat-any-requires-4 : (t : ℕ) → lts.Need-eat-any-requires-4 (K t) (P t) Post
-eat-any-requires-4 t c κs =
-    let eat-any3′ = c .eat-any3 in
-    eat-any3′ .ensures .stands
+  -- the record
+  abbrev shape : Head → Body
+  shape h = close 35 (byte (h .visibility .result .byte) ∷ text (slice (key h .start) (key h .end) (a₁ h .args .src .now)) ∷ []) ▸ end
 
-pub visibility-requires : (t : ℕ) → lts.Need-visibility-requires (K t) (P t) Post
-visibility-requires t c κs =
-    search needs
+  -- a stretch from the start, of which e bytes are taken, to a body with n trees
+  abbrev So : Head → ℕ → Body → ℕ → Cursor → ℕ → List ℕ → Type 0
+  So h e b n c w o =
+      let a = a₁ h .args in
+      Seg (a .set) (a .src .now) (a .left) (state (goto for-clause) 0 (a .c) (a .w) (a .out .now)) e 0 (state b n c w o)
 
-pub pat-requires : (t : ℕ) → lts.Need-pat-requires (K t) (P t) Post
-pat-requires t c κs =
-    let pre′ = c .before .before .before .before .before .before .before .before .before .before .pre in
-    let args′ = c .before .before .before .before .before .before .before .before .before .before .args in
-    let if1′ = c .before .before .before .before .before .before .before .if1 in
-    let eat-any′ = c .before .before .before .before .before .before .eat-any in
-    let eat-any2′ = c .before .before .before .before .before .eat-any2 in
-    let eat-any3′ = c .before .before .before .before .eat-any3 in
-    let eat-any4′ = c .before .before .before .eat-any4 in
-    let visibility′ = c .before .before .visibility in
-    let begin = iterates {w = args′ .w} {o = args′ .out .now} (if1′ .left) (pre′ .1 .0 .stands) (pre′ .1 .1) (eat-any′ .ensures) (eat-any2′ .ensures) (eat-any3′ .ensures) (eat-any4′ .ensures) (visibility′ .ensures) in
-    (omega (arith, pre′ .0), Steps.ready (pre′ .1 .0) (omega arith) begin)
+  -- ── The header, a pattern, `in` e ────────────────────────────────────────────────────────────────
 
-pub enum-known-a : (t : ℕ) → lts.Need-enum-known-a (K t) (P t) Post
-enum-known-a t c =
-    search needs
+  headed : (h : Head) → So h (size h) (sub pattern ▸ eat 76 ▸ expression ▸ shape h) 0 (h .visibility .result .cursor) (a₁ h .args .w) (a₁ h .args .out .now)
+  headed h =
+      let p = a₁ h .pre .1 in let colon = h .before .before in let left = colon .before .before .before .if1 .left in
+      iterates left (p .0 .stands) (p .1) (colon .before .before .eat-any .ensures) (colon .before .eat-any2 .ensures) (colon .eat-any3 .ensures)
+      (h .before .eat-any4 .ensures) (h .visibility .ensures)
 
-pub enum-told : (t : ℕ) → lts.Need-enum-told (K t) (P t) Post
-enum-told t c =
-    search needs
+  abbrev h₂ : lts.After-a (K t) (P t) Post → Head
+  h₂ c = c .before .before .before .before .before .before .before
 
-pub same-length : (t : ℕ) → lts.Need-same-length (K t) (P t) Post
-same-length t c =
-    search needs
+  into : (c : lts.After-a (K t) (P t) Post) → let h = h₂ c in
+      So h (size h) (eat 76 ▸ expression ▸ shape h) 1 (c .a .given .0 .0) (c .a .given .0 .1 .0) (c .before .before .before .before .pat .last .1 .0)
+  into c = Steps.took (c .before .before .before .before .pat .ensures) (c .a .given .1) (headed (h₂ c))
 
-pub returns-2 : (t : ℕ) → lts.Need-returns-2 (K t) (P t) Post
-returns-2 t c =
-    let pat′ = c .before .before .before .before .pat in
-    let match′ = c .before .match in
-    let args′ = c .before .before .before .before .before .before .before .before .before .before .before .before .before .before .before .args in
-    let if1′ = c .before .before .before .before .before .before .before .before .before .before .before .before .if1 in
-    let pre′ = c .before .before .before .before .before .before .before .before .before .before .before .before .before .before .before .pre in
-    let eat-any′ = c .before .before .before .before .before .before .before .before .before .before .before .eat-any in
-    let eat-any2′ = c .before .before .before .before .before .before .before .before .before .before .eat-any2 in
-    let eat-any3′ = c .before .before .before .before .before .before .before .before .before .eat-any3 in
-    let eat-any4′ = c .before .before .before .before .before .before .before .before .eat-any4 in
-    let visibility′ = c .before .before .before .before .before .before .before .visibility in
-    let begin = iterates {w = args′ .w} {o = args′ .out .now} (if1′ .left) (pre′ .1 .0 .stands) (pre′ .1 .1) (eat-any′ .ensures) (eat-any2′ .ensures) (eat-any3′ .ensures) (eat-any4′ .ensures) (visibility′ .ensures) in
-    Steps.passed (Steps.takes-broken (pat′ .ensures) (match′ .keys2)) begin
+  opened : (c : lts.After-b (K t) (P t) Post) → let a = c .before .before .before .before in let h = h₂ a in
+      So h (size h + 1) (expression ▸ shape h) 1 (c .b .given .0 .0) (c .b .given .0 .1 .0) (a .before .before .before .before .pat .last .1 .0)
+  opened c = Steps.ate (c .before .before .eat .ensures) (c .b .given .1) (into (c .before .before .before .before))
 
-pub eat-requires : (t : ℕ) → lts.Need-eat-requires (K t) (P t) Post
-eat-requires t c κs =
-    let pat′ = c .before .before .before .before .before .pat in
-    let a′ = c .before .a in
-    let args′ = c .before .before .before .before .before .before .before .before .before .before .before .before .before .before .before .before .args in
-    let if1′ = c .before .before .before .before .before .before .before .before .before .before .before .before .before .if1 in
-    let pre′ = c .before .before .before .before .before .before .before .before .before .before .before .before .before .before .before .before .pre in
-    let eat-any′ = c .before .before .before .before .before .before .before .before .before .before .before .before .eat-any in
-    let eat-any2′ = c .before .before .before .before .before .before .before .before .before .before .before .eat-any2 in
-    let eat-any3′ = c .before .before .before .before .before .before .before .before .before .before .eat-any3 in
-    let eat-any4′ = c .before .before .before .before .before .before .before .before .before .eat-any4 in
-    let visibility′ = c .before .before .before .before .before .before .before .before .visibility in
-    let begin = iterates {w = args′ .w} {o = args′ .out .now} (if1′ .left) (pre′ .1 .0 .stands) (pre′ .1 .1) (eat-any′ .ensures) (eat-any2′ .ensures) (eat-any3′ .ensures) (eat-any4′ .ensures) (visibility′ .ensures) in
-    let into = Steps.took (pat′ .ensures) (a′ .given .1) begin in
-    (lit< tt, into .stands (pre′ .1 .0 .stands))
+  abbrev h₄ : lts.After-d (K t) (P t) Post → Head
+  h₄ c = h₂ (c .before .before .before .before .before .before .before .before .before .before .before)
 
-pub enum-known-b : (t : ℕ) → lts.Need-enum-known-b (K t) (P t) Post
-enum-known-b t c =
-    search needs
+  value : (c : lts.After-d (K t) (P t) Post) → let h = h₄ c in So h (size h + 1) (shape h) 2 (c .d .given .0 .0) (c .d .given .0 .1 .0) (c .before .before .before .before .expr .last .1 .0)
+  value c = Steps.took (c .before .before .before .before .expr .ensures) (c .d .given .1) (opened (c .before .before .before .before .before .before .before))
 
-pub enum-told-2 : (t : ℕ) → lts.Need-enum-told-2 (K t) (P t) Post
-enum-told-2 t c =
-    search needs
+  closed : (c : lts.After-put-iteration (K t) (P t) Post) → let d = c .before .before .before .before in
+      So (h₄ d) 0 end 1 (d .d .given .0 .0) (c .put-iteration .result) (c .put-iteration .last .0)
+  closed c =
+      let h = h₄ (c .before .before .before .before) in
+      iteration-closed (key h .start) (key h .end) (h .visibility .result .byte) (lies (stood h) .within) (c .put-iteration .ensures) (value (c .before .before .before .before))
 
-pub same-length-2 : (t : ℕ) → lts.Need-same-length-2 (K t) (P t) Post
-same-length-2 t c =
-    search needs
+  -- ── What each call asks ──────────────────────────────────────────────────────────────────────────
 
-pub returns-3 : (t : ℕ) → lts.Need-returns-3 (K t) (P t) Post
-returns-3 t c =
-    let eat′ = c .before .before .eat in
-    let match2′ = c .before .match2 in
-    let pat′ = c .before .before .before .before .before .before .before .before .pat in
-    let a′ = c .before .before .before .before .a in
-    let args′ = c .before .before .before .before .before .before .before .before .before .before .before .before .before .before .before .before .before .before .before .args in
-    let if1′ = c .before .before .before .before .before .before .before .before .before .before .before .before .before .before .before .before .if1 in
-    let pre′ = c .before .before .before .before .before .before .before .before .before .before .before .before .before .before .before .before .before .before .before .pre in
-    let eat-any′ = c .before .before .before .before .before .before .before .before .before .before .before .before .before .before .before .eat-any in
-    let eat-any2′ = c .before .before .before .before .before .before .before .before .before .before .before .before .before .before .eat-any2 in
-    let eat-any3′ = c .before .before .before .before .before .before .before .before .before .before .before .before .before .eat-any3 in
-    let eat-any4′ = c .before .before .before .before .before .before .before .before .before .before .before .before .eat-any4 in
-    let visibility′ = c .before .before .before .before .before .before .before .before .before .before .before .visibility in
-    let begin = iterates {w = args′ .w} {o = args′ .out .now} (if1′ .left) (pre′ .1 .0 .stands) (pre′ .1 .1) (eat-any′ .ensures) (eat-any2′ .ensures) (eat-any3′ .ensures) (eat-any4′ .ensures) (visibility′ .ensures) in
-    let into = Steps.took (pat′ .ensures) (a′ .given .1) begin in
-    Steps.passed (Steps.eats-broken (eat′ .ensures) (match2′ .keys2)) into
+  pat-requires : lts.Need-pat-requires (K t) (P t) Post
+  pat-requires c κs = let p = a₁ (c .before .before) .pre in (omega (arith, p .0), Steps.ready (p .1 .0) (omega arith) (headed (c .before .before)))
 
-pub expr-requires : (t : ℕ) → lts.Need-expr-requires (K t) (P t) Post
-expr-requires t c κs =
-    let pre′ = c .before .before .before .before .before .before .before .before .before .before .before .before .before .before .before .before .before .before .before .before .before .pre in
-    let eat′ = c .before .before .before .before .eat in
-    let b′ = c .before .before .b in
-    let pat′ = c .before .before .before .before .before .before .before .before .before .before .pat in
-    let a′ = c .before .before .before .before .before .before .a in
-    let args′ = c .before .before .before .before .before .before .before .before .before .before .before .before .before .before .before .before .before .before .before .before .before .args in
-    let if1′ = c .before .before .before .before .before .before .before .before .before .before .before .before .before .before .before .before .before .before .if1 in
-    let eat-any′ = c .before .before .before .before .before .before .before .before .before .before .before .before .before .before .before .before .before .eat-any in
-    let eat-any2′ = c .before .before .before .before .before .before .before .before .before .before .before .before .before .before .before .before .eat-any2 in
-    let eat-any3′ = c .before .before .before .before .before .before .before .before .before .before .before .before .before .before .before .eat-any3 in
-    let eat-any4′ = c .before .before .before .before .before .before .before .before .before .before .before .before .before .before .eat-any4 in
-    let visibility′ = c .before .before .before .before .before .before .before .before .before .before .before .before .before .visibility in
-    let begin = iterates {w = args′ .w} {o = args′ .out .now} (if1′ .left) (pre′ .1 .0 .stands) (pre′ .1 .1) (eat-any′ .ensures) (eat-any2′ .ensures) (eat-any3′ .ensures) (eat-any4′ .ensures) (visibility′ .ensures) in
-    let into = Steps.took (pat′ .ensures) (a′ .given .1) begin in
-    let opened = Steps.ate (eat′ .ensures) (b′ .given .1) into in
-    (omega (arith, pre′ .0), Steps.ready (pre′ .1 .0) (omega arith) opened)
+  eat-requires : lts.Need-eat-requires (K t) (P t) Post
+  eat-requires c κs = (lit< tt, into (c .before) .stands (a₁ (h₂ (c .before)) .pre .1 .0 .stands))
 
-pub enum-known-d : (t : ℕ) → lts.Need-enum-known-d (K t) (P t) Post
-enum-known-d t c =
-    search needs
+  expr-requires : lts.Need-expr-requires (K t) (P t) Post
+  expr-requires c κs = let p = a₁ (h₂ (c .before .before .before .before .before .before)) .pre in (omega (arith, p .0), Steps.ready (p .1 .0) (omega arith) (opened (c .before .before)))
 
-pub enum-told-3 : (t : ℕ) → lts.Need-enum-told-3 (K t) (P t) Post
-enum-told-3 t c =
-    search needs
+  sub-put-iteration : lts.Need-sub-put-iteration (K t) (P t) Post
+  sub-put-iteration c = lies (stood (h₄ (c .before .before))) .on
 
-pub same-length-3 : (t : ℕ) → lts.Need-same-length-3 (K t) (P t) Post
-same-length-3 t c =
-    search needs
+  part-put-iteration-start : lts.Need-part-put-iteration-start (K t) (P t) Post
+  part-put-iteration-start c = lies (stood (h₄ (c .before .before))) .on
 
-pub returns-4 : (t : ℕ) → lts.Need-returns-4 (K t) (P t) Post
-returns-4 t c =
-    let expr′ = c .before .before .before .before .expr in
-    let match3′ = c .before .match3 in
-    let eat′ = c .before .before .before .before .before .before .before .before .before .eat in
-    let b′ = c .before .before .before .before .before .before .before .b in
-    let pat′ = c .before .before .before .before .before .before .before .before .before .before .before .before .before .before .before .pat in
-    let a′ = c .before .before .before .before .before .before .before .before .before .before .before .a in
-    let args′ = c .before .before .before .before .before .before .before .before .before .before .before .before .before .before .before .before .before .before .before .before .before .before .before .before .before .before .args in
-    let if1′ = c .before .before .before .before .before .before .before .before .before .before .before .before .before .before .before .before .before .before .before .before .before .before .before .if1 in
-    let pre′ = c .before .before .before .before .before .before .before .before .before .before .before .before .before .before .before .before .before .before .before .before .before .before .before .before .before .before .pre in
-    let eat-any′ = c .before .before .before .before .before .before .before .before .before .before .before .before .before .before .before .before .before .before .before .before .before .before .eat-any in
-    let eat-any2′ = c .before .before .before .before .before .before .before .before .before .before .before .before .before .before .before .before .before .before .before .before .before .eat-any2 in
-    let eat-any3′ = c .before .before .before .before .before .before .before .before .before .before .before .before .before .before .before .before .before .before .before .before .eat-any3 in
-    let eat-any4′ = c .before .before .before .before .before .before .before .before .before .before .before .before .before .before .before .before .before .before .before .eat-any4 in
-    let visibility′ = c .before .before .before .before .before .before .before .before .before .before .before .before .before .before .before .before .before .before .visibility in
-    let begin = iterates {w = args′ .w} {o = args′ .out .now} (if1′ .left) (pre′ .1 .0 .stands) (pre′ .1 .1) (eat-any′ .ensures) (eat-any2′ .ensures) (eat-any3′ .ensures) (eat-any4′ .ensures) (visibility′ .ensures) in
-    let into = Steps.took (pat′ .ensures) (a′ .given .1) begin in
-    let opened = Steps.ate (eat′ .ensures) (b′ .given .1) into in
-    Steps.passed (Steps.takes-broken (expr′ .ensures) (match3′ .keys2)) opened
+  part-put-iteration-end : lts.Need-part-put-iteration-end (K t) (P t) Post
+  part-put-iteration-end c = lies (stood (h₄ (c .before .before))) .within
 
-pub sub-put-iteration : (t : ℕ) → lts.Need-sub-put-iteration (K t) (P t) Post
-sub-put-iteration t c =
-    let eat-any′ = c .before .before .before .before .before .before .before .before .before .before .before .before .before .before .before .before .before .before .before .before .before .before .before .before .eat-any in
-    let key = lies (eat-any′ .ensures .stands) in
-    key .on
+  put-iteration-requires : lts.Need-put-iteration-requires (K t) (P t) Post
+  put-iteration-requires c κs =
+      let h = h₄ (c .before .before .before) in let r = a₁ h .pre .1 .0 in
+      let short = lent-short (a₁ h .args .src .now) (key h .start) (key h .end) (r .short) (lies (stood h) .within) in
+      (Steps.fits r (lit≤ tt) (value (c .before .before .before)), omega (arith, short))
 
-pub part-put-iteration-start : (t : ℕ) → lts.Need-part-put-iteration-start (K t) (P t) Post
-part-put-iteration-start t c =
-    let eat-any′ = c .before .before .before .before .before .before .before .before .before .before .before .before .before .before .before .before .before .before .before .before .before .before .before .before .eat-any in
-    let key = lies (eat-any′ .ensures .stands) in
-    key .on
+  -- ── What each return owes ────────────────────────────────────────────────────────────────────────
 
-pub part-put-iteration-end : (t : ℕ) → lts.Need-part-put-iteration-end (K t) (P t) Post
-part-put-iteration-end t c =
-    let eat-any′ = c .before .before .before .before .before .before .before .before .before .before .before .before .before .before .before .before .before .before .before .before .before .before .before .before .eat-any in
-    let key = lies (eat-any′ .ensures .stands) in
-    key .within
+  returns : lts.Need-returns (K t) (P t) Post
+  returns c = let p = c .before .before .before .before .pre .1 in too-deep-clause (c .before .if1 .taken) (p .0 .stands) (p .1) (c .error .ensures)
 
-pub put-iteration-requires : (t : ℕ) → lts.Need-put-iteration-requires (K t) (P t) Post
-put-iteration-requires t c κs =
-    let pre′ = c .before .before .before .before .before .before .before .before .before .before .before .before .before .before .before .before .before .before .before .before .before .before .before .before .before .before .before .before .before .pre in
-    let expr′ = c .before .before .before .before .before .before .before .expr in
-    let d′ = c .before .before .before .d in
-    let eat′ = c .before .before .before .before .before .before .before .before .before .before .before .before .eat in
-    let b′ = c .before .before .before .before .before .before .before .before .before .before .b in
-    let pat′ = c .before .before .before .before .before .before .before .before .before .before .before .before .before .before .before .before .before .before .pat in
-    let a′ = c .before .before .before .before .before .before .before .before .before .before .before .before .before .before .a in
-    let args′ = c .before .before .before .before .before .before .before .before .before .before .before .before .before .before .before .before .before .before .before .before .before .before .before .before .before .before .before .before .before .args in
-    let if1′ = c .before .before .before .before .before .before .before .before .before .before .before .before .before .before .before .before .before .before .before .before .before .before .before .before .before .before .if1 in
-    let eat-any′ = c .before .before .before .before .before .before .before .before .before .before .before .before .before .before .before .before .before .before .before .before .before .before .before .before .before .eat-any in
-    let eat-any2′ = c .before .before .before .before .before .before .before .before .before .before .before .before .before .before .before .before .before .before .before .before .before .before .before .before .eat-any2 in
-    let eat-any3′ = c .before .before .before .before .before .before .before .before .before .before .before .before .before .before .before .before .before .before .before .before .before .before .before .eat-any3 in
-    let eat-any4′ = c .before .before .before .before .before .before .before .before .before .before .before .before .before .before .before .before .before .before .before .before .before .before .eat-any4 in
-    let visibility′ = c .before .before .before .before .before .before .before .before .before .before .before .before .before .before .before .before .before .before .before .before .before .visibility in
-    let begin = iterates {w = args′ .w} {o = args′ .out .now} (if1′ .left) (pre′ .1 .0 .stands) (pre′ .1 .1) (eat-any′ .ensures) (eat-any2′ .ensures) (eat-any3′ .ensures) (eat-any4′ .ensures) (visibility′ .ensures) in
-    let into = Steps.took (pat′ .ensures) (a′ .given .1) begin in
-    let opened = Steps.ate (eat′ .ensures) (b′ .given .1) into in
-    let value = Steps.took (expr′ .ensures) (d′ .given .1) opened in
-    let s = args′ .src .now in
-    let key = lies (eat-any′ .ensures .stands) in
-    (Steps.fits (pre′ .1 .0) (lit≤ tt) value, omega (arith, lent-short s (eat-any′ .result .start) (eat-any′ .result .end) (pre′ .1 .0 .short) (key .within)))
+  returns-2 : lts.Need-returns-2 (K t) (P t) Post
+  returns-2 c = let x = c .before .before .before .before in Steps.passed (Steps.takes-broken (x .pat .ensures) (c .before .match .keys2)) (headed (x .before .before .before))
 
-pub same-length-4 : (t : ℕ) → lts.Need-same-length-4 (K t) (P t) Post
-same-length-4 t c =
-    let eat-any′ = c .before .before .before .before .before .before .before .before .before .before .before .before .before .before .before .before .before .before .before .before .before .before .before .before .before .before .before .before .eat-any in
-    let visibility′ = c .before .before .before .before .before .before .before .before .before .before .before .before .before .before .before .before .before .before .before .before .before .before .before .before .visibility in
-    let key = lies (eat-any′ .ensures .stands) in
-    let put-iteration′ = c .before .before .put-iteration in
-    let expr′ = c .before .before .before .before .before .before .before .before .before .before .expr in
-    let d′ = c .before .before .before .before .before .before .d in
-    let eat′ = c .before .before .before .before .before .before .before .before .before .before .before .before .before .before .before .eat in
-    let b′ = c .before .before .before .before .before .before .before .before .before .before .before .before .before .b in
-    let pat′ = c .before .before .before .before .before .before .before .before .before .before .before .before .before .before .before .before .before .before .before .before .before .pat in
-    let a′ = c .before .before .before .before .before .before .before .before .before .before .before .before .before .before .before .before .before .a in
-    let args′ = c .before .before .before .before .before .before .before .before .before .before .before .before .before .before .before .before .before .before .before .before .before .before .before .before .before .before .before .before .before .before .before .before .args in
-    let if1′ = c .before .before .before .before .before .before .before .before .before .before .before .before .before .before .before .before .before .before .before .before .before .before .before .before .before .before .before .before .before .if1 in
-    let pre′ = c .before .before .before .before .before .before .before .before .before .before .before .before .before .before .before .before .before .before .before .before .before .before .before .before .before .before .before .before .before .before .before .before .pre in
-    let eat-any2′ = c .before .before .before .before .before .before .before .before .before .before .before .before .before .before .before .before .before .before .before .before .before .before .before .before .before .before .before .eat-any2 in
-    let eat-any3′ = c .before .before .before .before .before .before .before .before .before .before .before .before .before .before .before .before .before .before .before .before .before .before .before .before .before .before .eat-any3 in
-    let eat-any4′ = c .before .before .before .before .before .before .before .before .before .before .before .before .before .before .before .before .before .before .before .before .before .before .before .before .before .eat-any4 in
-    let begin = iterates {w = args′ .w} {o = args′ .out .now} (if1′ .left) (pre′ .1 .0 .stands) (pre′ .1 .1) (eat-any′ .ensures) (eat-any2′ .ensures) (eat-any3′ .ensures) (eat-any4′ .ensures) (visibility′ .ensures) in
-    let into = Steps.took (pat′ .ensures) (a′ .given .1) begin in
-    let opened = Steps.ate (eat′ .ensures) (b′ .given .1) into in
-    let value = Steps.took (expr′ .ensures) (d′ .given .1) opened in
-    let closed = iteration-closed (eat-any′ .result .start) (eat-any′ .result .end) (visibility′ .result .byte) (key .within) (put-iteration′ .ensures) value in
-    Steps.same closed
+  returns-3 : lts.Need-returns-3 (K t) (P t) Post
+  returns-3 c = let x = c .before .before in Steps.passed (Steps.eats-broken (x .eat .ensures) (c .before .match2 .keys2)) (into (x .before .before))
 
-pub returns-5 : (t : ℕ) → lts.Need-returns-5 (K t) (P t) Post
-returns-5 t c =
-    let eat-any′ = c .before .before .before .before .before .before .before .before .before .before .before .before .before .before .before .before .before .before .before .before .before .before .before .before .before .before .before .before .eat-any in
-    let visibility′ = c .before .before .before .before .before .before .before .before .before .before .before .before .before .before .before .before .before .before .before .before .before .before .before .before .visibility in
-    let key = lies (eat-any′ .ensures .stands) in
-    let put-iteration′ = c .before .before .put-iteration in
-    let expr′ = c .before .before .before .before .before .before .before .before .before .before .expr in
-    let d′ = c .before .before .before .before .before .before .d in
-    let eat′ = c .before .before .before .before .before .before .before .before .before .before .before .before .before .before .before .eat in
-    let b′ = c .before .before .before .before .before .before .before .before .before .before .before .before .before .b in
-    let pat′ = c .before .before .before .before .before .before .before .before .before .before .before .before .before .before .before .before .before .before .before .before .before .pat in
-    let a′ = c .before .before .before .before .before .before .before .before .before .before .before .before .before .before .before .before .before .a in
-    let args′ = c .before .before .before .before .before .before .before .before .before .before .before .before .before .before .before .before .before .before .before .before .before .before .before .before .before .before .before .before .before .before .before .before .args in
-    let if1′ = c .before .before .before .before .before .before .before .before .before .before .before .before .before .before .before .before .before .before .before .before .before .before .before .before .before .before .before .before .before .if1 in
-    let pre′ = c .before .before .before .before .before .before .before .before .before .before .before .before .before .before .before .before .before .before .before .before .before .before .before .before .before .before .before .before .before .before .before .before .pre in
-    let eat-any2′ = c .before .before .before .before .before .before .before .before .before .before .before .before .before .before .before .before .before .before .before .before .before .before .before .before .before .before .before .eat-any2 in
-    let eat-any3′ = c .before .before .before .before .before .before .before .before .before .before .before .before .before .before .before .before .before .before .before .before .before .before .before .before .before .before .eat-any3 in
-    let eat-any4′ = c .before .before .before .before .before .before .before .before .before .before .before .before .before .before .before .before .before .before .before .before .before .before .before .before .before .eat-any4 in
-    let begin = iterates {w = args′ .w} {o = args′ .out .now} (if1′ .left) (pre′ .1 .0 .stands) (pre′ .1 .1) (eat-any′ .ensures) (eat-any2′ .ensures) (eat-any3′ .ensures) (eat-any4′ .ensures) (visibility′ .ensures) in
-    let into = Steps.took (pat′ .ensures) (a′ .given .1) begin in
-    let opened = Steps.ate (eat′ .ensures) (b′ .given .1) into in
-    let value = Steps.took (expr′ .ensures) (d′ .given .1) opened in
-    let closed = iteration-closed (eat-any′ .result .start) (eat-any′ .result .end) (visibility′ .result .byte) (key .within) (put-iteration′ .ensures) value in
-    Steps.ends (lit≤ tt) closed
+  returns-4 : lts.Need-returns-4 (K t) (P t) Post
+  returns-4 c = let x = c .before .before .before .before in Steps.passed (Steps.takes-broken (x .expr .ensures) (c .before .match3 .keys2)) (opened (x .before .before .before))
+
+  same-length-4 : lts.Need-same-length-4 (K t) (P t) Post
+  same-length-4 c = Steps.same (closed (c .before .before))
+
+  returns-5 : lts.Need-returns-5 (K t) (P t) Post
+  returns-5 c = Steps.ends (lit≤ tt) (closed (c .before .before))
+
+  -- All of them, in the order of the code.
+  pub met : {M : Type 1} → lts.Closed (K t) (P t) Post M
+  met =
+      lts.spec (K t) (P t) Post (λ c κs. search needs) returns (λ c κs. search needs) (λ c κs. search needs) (λ c κs. search needs)
+      (λ c κs. search needs) (λ c κs. search needs) pat-requires (λ c. search needs) (λ c. search needs) (λ c. search needs) returns-2 eat-requires
+      (λ c. search needs) (λ c. search needs) (λ c. search needs) returns-3 expr-requires (λ c. search needs) (λ c. search needs) (λ c. search needs)
+      returns-4 sub-put-iteration part-put-iteration-start part-put-iteration-end put-iteration-requires same-length-4 returns-5

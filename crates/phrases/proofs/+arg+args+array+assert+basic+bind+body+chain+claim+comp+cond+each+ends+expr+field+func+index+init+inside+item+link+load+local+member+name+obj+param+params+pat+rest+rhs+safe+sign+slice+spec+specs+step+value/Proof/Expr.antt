@@ -1,19 +1,20 @@
--- The answers of `expr`.
+-- The answers of `expr`: its first operand, a turn of its loop as a stretch to each place of its code, and from these what each call asks and each return owes.
 use borrow.Author.Needs.{needs}
 use native.Mathlib.Omega.{arith}
-use lib.Dec.{lit<, lit≤}
+use lib.Dec.{lit≤}
 use lib.ListN.{length}
-use mathlib.Core.Path.{_≡_, refl, sym, ap, subst, _∙_}
-use mathlib.Core.Logic.{⊎-elim}
-use mathlib.Core.List.{[], _∷_}
-use Prim.Native.Nat.{ℕ, _+_, _*_, _-_, _≤_, _<_}
+use mathlib.Core.Path.{refl}
+use mathlib.Core.List.{List, [], _∷_}
+use Prim.Native.Nat.{ℕ, _-_}
 use Rattle.leaves.proofs.Steps
 use Rattle.phrases.proofs.expr.Reads.{Post}
 use Rattle.phrases.proofs.+arg+args+array+assert+basic+bind+body+chain+claim+comp+cond+each+ends+expr+field+func+index+init+inside+item+link+load+local+member+name+obj+param+params+pat+rest+rhs+safe+sign+slice+spec+specs+step+value.Lts-expr as lts
 use Rattle.phrases.proofs.+arg+args+array+assert+basic+bind+body+chain+claim+comp+cond+each+ends+expr+field+func+index+init+inside+item+link+load+local+member+name+obj+param+params+pat+rest+rhs+safe+sign+slice+spec+specs+step+value.Proof.Frame.{expr-claims as K, expr-at as P}
 use Rattle.grammar.specs.Image.{entry, payload}
 use Rattle.grammar.specs.Trees.{byte}
-use Rattle.grammar.specs.Productions.{goto, end, eat, deep, close, _▸_, expr, infix-tail}
+use Rattle.grammar.specs.Productions.{Body, goto, end, eat, deep, close, _▸_, expr, infix-tail}
+use Rattle.leaves.specs.Meets.{state, Seg}
+use Rattle.leaves.specs.declared.Cursor.{Cursor}
 use Rattle.phrases.proofs.ExpressionLaws.{an-operator, weak-operator, no-operator, infix-kind}
 
 abbrev pub Inv-loop : lts.InvT-loop
@@ -22,263 +23,114 @@ Inv-loop src out₀ w left set least w1 cur₀ at₀ out cur at = Steps.Turns se
 abbrev pub μ-loop : lts.MeasureT-loop
 μ-loop src out₀ w left set least w1 cur₀ at₀ out cur at = length src - cur .at
 
-pub error-requires : (t : ℕ) → lts.Need-error-requires (K t) (P t) Post Inv-loop μ-loop
-error-requires t c κs =
-    search needs
+module _ (t : ℕ) where
+  abbrev Turn : Type 0
+  Turn = lts.At-loop (K t) (P t) Post Inv-loop μ-loop
 
-pub returns : (t : ℕ) → lts.Need-returns (K t) (P t) Post Inv-loop μ-loop
-returns t c =
-    let if1′ = c .before .if1 in
-    let pre′ = c .before .before .before .before .pre in
-    let error′ = c .error in
-    record { takes = λ b n. Steps.broke (Steps.too-deep (if1′ .taken) (pre′ .1 .stands)) (error′ .ensures) }
+  -- from the start, one level deeper, to where an operator may follow
+  abbrev Headed : lts.Start (K t) (P t) Post Inv-loop μ-loop → Cursor → ℕ → List ℕ → Type 0
+  Headed a c w o =
+      let g = a .args in
+      Seg (g .set) (g .src .now) (g .left - 1) (state (goto (expr (g .least))) 0 (g .c) (g .w) (g .out .now)) 0 0 (state (goto (infix-tail (g .least))) 1 c w o)
 
-pub sub-sign : (t : ℕ) → lts.Need-sub-sign (K t) (P t) Post Inv-loop μ-loop
-sub-sign t c =
-    search needs
+  abbrev a₁ : lts.After-a (K t) (P t) Post Inv-loop μ-loop → lts.Start (K t) (P t) Post Inv-loop μ-loop
+  a₁ c = c .before .before .before .before .before .before .before .before .before
 
-pub sign-requires : (t : ℕ) → lts.Need-sign-requires (K t) (P t) Post Inv-loop μ-loop
-sign-requires t c κs =
-    let pre′ = c .before .before .before .before .pre in
-    let if1′ = c .before .if1 in
-    (omega (arith, pre′ .0, if1′ .left), pre′ .1)
+  head : (c : lts.After-a (K t) (P t) Post Inv-loop μ-loop) → Headed (a₁ c) (c .a .given .0 .0) (c .a .given .0 .1 .0) (c .before .before .before .before .sign .last .1 .0)
+  head c = Steps.went (c .before .before .before .before .sign .ensures) (c .a .given .1) Steps.here
 
-pub enum-known-a : (t : ℕ) → lts.Need-enum-known-a (K t) (P t) Post Inv-loop μ-loop
-enum-known-a t c =
-    search needs
+  -- a turn's start, and that a level is left
+  abbrev a₂ : Turn → lts.Start (K t) (P t) Post Inv-loop μ-loop
+  a₂ l = a₁ (l .before .before)
 
-pub enum-told : (t : ℕ) → lts.Need-enum-told (K t) (P t) Post Inv-loop μ-loop
-enum-told t c =
-    search needs
+  abbrev e₂ : Turn → lts.Else1 (K t) (P t) Post Inv-loop μ-loop
+  e₂ l = l .before .before .before .before .before .before .before .before
 
-pub same-length : (t : ℕ) → lts.Need-same-length (K t) (P t) Post Inv-loop μ-loop
-same-length t c =
-    search needs
+  whole : (l : Turn) → Headed (a₂ l) (l .loop .cur) (l .loop .at) (l .loop .out)
+  whole l = Steps.then (head (l .before .before)) (l .loop .inv .seg)
 
-pub returns-2 : (t : ℕ) → lts.Need-returns-2 (K t) (P t) Post Inv-loop μ-loop
-returns-2 t c =
-    let if1′ = c .before .before .before .before .before .before .if1 in
-    let sign′ = c .before .before .before .before .sign in
-    let match′ = c .before .match in
-    Steps.as-deep (if1′ .left) (Steps.passed (Steps.leads-broken (sign′ .ensures) (match′ .keys2)) Steps.here)
+  -- ── An operator and its second operand ───────────────────────────────────────────────────────────
 
-pub loop-holds : (t : ℕ) → lts.Need-loop-holds (K t) (P t) Post Inv-loop μ-loop
-loop-holds t c =
-    let pre′ = c .before .before .before .before .before .before .before .before .before .before .pre in
-    let sign′ = c .before .before .before .before .before .sign in
-    let a′ = c .before .a in
-    let args′ = c .before .before .before .before .before .before .before .before .before .before .args in
-    let g = args′ .set in
-    let s = args′ .src .now in
-    let low = args′ .left - 1 in
-    let least = args′ .least in
-    let head = Steps.went (sign′ .ensures) (a′ .given .1) (Steps.at g s low (goto (expr least)) 0 (args′ .c) (args′ .w) (args′ .out .now)) in
-    Steps.begun (Steps.ready (pre′ .1) (lit≤ tt) head)
+  -- a stretch of one turn, of which e bytes are taken and v are owed
+  abbrev So : Turn → ℕ → ℕ → Body → ℕ → Cursor → ℕ → List ℕ → Type 0
+  So l e v b n c w o =
+      let g = a₂ l .args in
+      Seg (g .set) (g .src .now) (g .left - 1) (state (goto (infix-tail (g .least))) 1 (l .loop .cur) (l .loop .at) (l .loop .out)) e v (state b n c w o)
 
-pub infix-requires : (t : ℕ) → lts.Need-infix-requires (K t) (P t) Post Inv-loop μ-loop
-infix-requires t c κs =
-    search needs
+  -- what comes after the operand
+  abbrev tail : lts.After-b (K t) (P t) Post Inv-loop μ-loop → Body
+  tail b = close 13 (byte (b .b .given .0 .0) ∷ []) ▸ goto (infix-tail (a₂ (b .before .before .before) .args .least))
 
-pub enum-known-b : (t : ℕ) → lts.Need-enum-known-b (K t) (P t) Post Inv-loop μ-loop
-enum-known-b t c =
-    search needs
+  opened : (c : lts.After-eat-any (K t) (P t) Post Inv-loop μ-loop) → let b = c .before .before .before .before in let l = b .before .before .before in
+      So l 1 0 (deep (expr (b .b .given .0 .1 .1 .0)) ▸ tail b) 1 (c .eat-any .result) (l .loop .at) (l .loop .out)
+  opened c =
+      let b = c .before .before .before .before in let l = b .before .before .before in let g = a₂ l .args in
+      let cur = l .loop .cur in let found = b .before .before .«infix» .ensures in
+      let st = l .loop .inv .ok .stands in
+      Steps.taken (infix-kind (g .set) found (b .b .given .1)) st (c .eat-any .ensures) refl
+      (Steps.known (eat (cur .kind) ▸ deep (expr (b .b .given .0 .1 .1 .0)) ▸ tail b) st refl
+      (λ xs t. an-operator (g .set) cur xs 1 (g .least) (cur .kind) t found (b .b .given .1) (c .before .before .if2 .left)) Steps.here)
 
-pub enum-told-2 : (t : ℕ) → lts.Need-enum-told-2 (K t) (P t) Post Inv-loop μ-loop
-enum-told-2 t c =
-    search needs
+  abbrev b₄ : lts.After-d (K t) (P t) Post Inv-loop μ-loop → lts.After-b (K t) (P t) Post Inv-loop μ-loop
+  b₄ c = c .before .before .before .before .before .before .before .before .before
 
-pub same-length-2 : (t : ℕ) → lts.Need-same-length-2 (K t) (P t) Post Inv-loop μ-loop
-same-length-2 t c =
-    search needs
+  value : (c : lts.After-d (K t) (P t) Post Inv-loop μ-loop) → let b = b₄ c in
+      So (b .before .before .before) 1 0 (tail b) 2 (c .d .given .0 .0) (c .d .given .0 .1 .0) (c .before .before .before .before .expr .last .1 .0)
+  value c = Steps.took (c .before .before .before .before .expr .ensures) (c .d .given .1) (opened (c .before .before .before .before .before))
 
-pub returns-3 : (t : ℕ) → lts.Need-returns-3 (K t) (P t) Post Inv-loop μ-loop
-returns-3 t c =
-    let if1′ = c .before .before .before .before .before .before .before .before .before .before .before .if1 in
-    let loop′ = c .before .before .before .loop in
-    let st = loop′ .inv .ok .stands in
-    let args′ = c .before .before .before .before .before .before .before .before .before .before .before .before .before .before .args in
-    let g = args′ .set in
-    let cur = loop′ .cur in
-    let least = args′ .least in
-    let infix′ = c .before .before .«infix» in
-    let match2′ = c .before .match2 in
-    let sign′ = c .before .before .before .before .before .before .before .before .before .sign in
-    let a′ = c .before .before .before .before .before .a in
-    let s = args′ .src .now in
-    let low = args′ .left - 1 in
-    let head = Steps.went (sign′ .ensures) (a′ .given .1) (Steps.at g s low (goto (expr least)) 0 (args′ .c) (args′ .w) (args′ .out .now)) in
-    let whole = Steps.then head (loop′ .inv .seg) in
-    Steps.as-deep (if1′ .left) (Steps.ends (lit≤ tt) (Steps.known end st refl (λ xs t. no-operator g cur xs 1 least (cur .kind) t (infix′ .ensures) (match2′ .keys2)) whole))
+  joined : (c : lts.After-put-flag (K t) (P t) Post Inv-loop μ-loop) → let d = c .before .before .before in let l = b₄ d .before .before .before in
+      So l 1 4 (goto (infix-tail (a₂ l .args .least))) 1 (d .d .given .0 .0) (c .put-flag .result) (c .put-flag .last .0)
+  unfolding entry payload
+  joined c = Steps.closed 4 (lit≤ tt) (c .put-flag .ensures) (value (c .before .before .before))
 
-pub same-length-3 : (t : ℕ) → lts.Need-same-length-3 (K t) (P t) Post Inv-loop μ-loop
-same-length-3 t c =
-    search needs
+  -- ── The loop, and what each call asks ────────────────────────────────────────────────────────────
 
-pub returns-4 : (t : ℕ) → lts.Need-returns-4 (K t) (P t) Post Inv-loop μ-loop
-returns-4 t c =
-    let if1′ = c .before .before .before .before .before .before .before .before .before .before .before .before .before .if1 in
-    let loop′ = c .before .before .before .before .before .loop in
-    let st = loop′ .inv .ok .stands in
-    let args′ = c .before .before .before .before .before .before .before .before .before .before .before .before .before .before .before .before .args in
-    let g = args′ .set in
-    let cur = loop′ .cur in
-    let least = args′ .least in
-    let infix′ = c .before .before .before .before .«infix» in
-    let b′ = c .before .before .b in
-    let if2′ = c .if2 in
-    let sign′ = c .before .before .before .before .before .before .before .before .before .before .before .sign in
-    let a′ = c .before .before .before .before .before .before .before .a in
-    let s = args′ .src .now in
-    let low = args′ .left - 1 in
-    let head = Steps.went (sign′ .ensures) (a′ .given .1) (Steps.at g s low (goto (expr least)) 0 (args′ .c) (args′ .w) (args′ .out .now)) in
-    let whole = Steps.then head (loop′ .inv .seg) in
-    Steps.as-deep (if1′ .left) (Steps.ends (lit≤ tt) (Steps.known end st refl (λ xs t. weak-operator g cur xs 1 least (cur .kind) t (infix′ .ensures) (b′ .given .1) (if2′ .taken)) whole))
+  loop-holds : lts.Need-loop-holds (K t) (P t) Post Inv-loop μ-loop
+  loop-holds c = Steps.begun (Steps.ready (a₁ (c .before) .pre .1) (lit≤ tt) (head (c .before)))
 
-pub eat-any-requires : (t : ℕ) → lts.Need-eat-any-requires (K t) (P t) Post Inv-loop μ-loop
-eat-any-requires t c κs =
-    let loop′ = c .before .before .before .before .before .before .loop in
-    let st = loop′ .inv .ok .stands in
-    st
+  expr-requires : lts.Need-expr-requires (K t) (P t) Post Inv-loop μ-loop
+  expr-requires c κs = let l = c .before .before .before .before .before .before .before in (omega (arith, a₂ l .pre .0, e₂ l .if1 .left), Steps.ready (l .loop .inv .ok) (lit≤ tt) (opened c))
 
-pub sub-expr : (t : ℕ) → lts.Need-sub-expr (K t) (P t) Post Inv-loop μ-loop
-sub-expr t c =
-    search needs
+  put-flag-requires : lts.Need-put-flag-requires (K t) (P t) Post Inv-loop μ-loop
+  put-flag-requires c κs = let d = c .before .before in Steps.fits (b₄ d .before .before .before .loop .inv .ok) (lit≤ tt) (value d)
 
-pub expr-requires : (t : ℕ) → lts.Need-expr-requires (K t) (P t) Post Inv-loop μ-loop
-expr-requires t c κs =
-    let pre′ = c .before .before .before .before .before .before .before .before .before .before .before .before .before .before .before .before .before .before .pre in
-    let if1′ = c .before .before .before .before .before .before .before .before .before .before .before .before .before .before .before .if1 in
-    let loop′ = c .before .before .before .before .before .before .before .loop in
-    let args′ = c .before .before .before .before .before .before .before .before .before .before .before .before .before .before .before .before .before .before .args in
-    let g = args′ .set in
-    let infix′ = c .before .before .before .before .before .before .«infix» in
-    let b′ = c .before .before .before .before .b in
-    let st = loop′ .inv .ok .stands in
-    let eat-any′ = c .eat-any in
-    let cur = loop′ .cur in
-    let r = b′ .given .0 .1 .1 .0 in
-    let o = b′ .given .0 .0 in
-    let least = args′ .least in
-    let if2′ = c .before .before .if2 in
-    let s = args′ .src .now in
-    let low = args′ .left - 1 in
-    let begin = Steps.at g s low (goto (infix-tail least)) 1 cur (loop′ .at) (loop′ .out) in
-    let found = Steps.known (eat (cur .kind) ▸ deep (expr r) ▸ close 13 (byte o ∷ []) ▸ goto (infix-tail least)) st refl (λ xs t. an-operator g cur xs 1 least (cur .kind) t (infix′ .ensures) (b′ .given .1) (if2′ .left)) begin in
-    let opened = Steps.taken (infix-kind g (infix′ .ensures) (b′ .given .1)) st (eat-any′ .ensures) refl found in
-    (omega (arith, pre′ .0, if1′ .left), Steps.ready (loop′ .inv .ok) (lit≤ tt) opened)
+  loop-less : lts.Need-loop-less (K t) (P t) Post Inv-loop μ-loop
+  loop-less c = let x = c .before .before in Steps.closer (b₄ (x .before .before .before) .before .before .before .loop .inv .ok) (lit≤ tt) (joined x)
 
-pub enum-known-d : (t : ℕ) → lts.Need-enum-known-d (K t) (P t) Post Inv-loop μ-loop
-enum-known-d t c =
-    search needs
+  loop-again : lts.Need-loop-again (K t) (P t) Post Inv-loop μ-loop
+  loop-again c = let x = c .before .before in Steps.turned (b₄ (x .before .before .before) .before .before .before .loop .inv) (lit≤ tt) (joined x)
 
-pub enum-told-3 : (t : ℕ) → lts.Need-enum-told-3 (K t) (P t) Post Inv-loop μ-loop
-enum-told-3 t c =
-    search needs
+  -- ── What each return owes ────────────────────────────────────────────────────────────────────────
 
-pub same-length-4 : (t : ℕ) → lts.Need-same-length-4 (K t) (P t) Post Inv-loop μ-loop
-same-length-4 t c =
-    search needs
+  returns : lts.Need-returns (K t) (P t) Post Inv-loop μ-loop
+  returns c = record { takes = λ b n. Steps.broke (Steps.too-deep (c .before .if1 .taken) (c .before .before .before .before .pre .1 .stands)) (c .error .ensures) }
 
-pub returns-5 : (t : ℕ) → lts.Need-returns-5 (K t) (P t) Post Inv-loop μ-loop
-returns-5 t c =
-    let if1′ = c .before .before .before .before .before .before .before .before .before .before .before .before .before .before .before .before .before .before .before .before .if1 in
-    let expr′ = c .before .before .before .before .expr in
-    let match3′ = c .before .match3 in
-    let sign′ = c .before .before .before .before .before .before .before .before .before .before .before .before .before .before .before .before .before .before .sign in
-    let a′ = c .before .before .before .before .before .before .before .before .before .before .before .before .before .before .a in
-    let args′ = c .before .before .before .before .before .before .before .before .before .before .before .before .before .before .before .before .before .before .before .before .before .before .before .args in
-    let g = args′ .set in
-    let s = args′ .src .now in
-    let low = args′ .left - 1 in
-    let least = args′ .least in
-    let head = Steps.went (sign′ .ensures) (a′ .given .1) (Steps.at g s low (goto (expr least)) 0 (args′ .c) (args′ .w) (args′ .out .now)) in
-    let loop′ = c .before .before .before .before .before .before .before .before .before .before .before .before .loop in
-    let whole = Steps.then head (loop′ .inv .seg) in
-    let infix′ = c .before .before .before .before .before .before .before .before .before .before .before .«infix» in
-    let b′ = c .before .before .before .before .before .before .before .before .before .b in
-    let st = loop′ .inv .ok .stands in
-    let eat-any′ = c .before .before .before .before .before .eat-any in
-    let cur = loop′ .cur in
-    let r = b′ .given .0 .1 .1 .0 in
-    let o = b′ .given .0 .0 in
-    let if2′ = c .before .before .before .before .before .before .before .if2 in
-    let begin = Steps.at g s low (goto (infix-tail least)) 1 cur (loop′ .at) (loop′ .out) in
-    let found = Steps.known (eat (cur .kind) ▸ deep (expr r) ▸ close 13 (byte o ∷ []) ▸ goto (infix-tail least)) st refl (λ xs t. an-operator g cur xs 1 least (cur .kind) t (infix′ .ensures) (b′ .given .1) (if2′ .left)) begin in
-    let opened = Steps.taken (infix-kind g (infix′ .ensures) (b′ .given .1)) st (eat-any′ .ensures) refl found in
-    Steps.as-deep (if1′ .left) (Steps.passed (Steps.takes-broken (expr′ .ensures) (match3′ .keys2)) (Steps.onto whole opened))
+  returns-2 : lts.Need-returns-2 (K t) (P t) Post Inv-loop μ-loop
+  returns-2 c = let x = c .before .before .before .before in Steps.as-deep (x .before .before .if1 .left) (Steps.passed (Steps.leads-broken (x .sign .ensures) (c .before .match .keys2)) Steps.here)
 
-pub put-flag-requires : (t : ℕ) → lts.Need-put-flag-requires (K t) (P t) Post Inv-loop μ-loop
-put-flag-requires t c κs =
-    let loop′ = c .before .before .before .before .before .before .before .before .before .before .before .before .before .before .loop in
-    let expr′ = c .before .before .before .before .before .before .expr in
-    let d′ = c .before .before .d in
-    let args′ = c .before .before .before .before .before .before .before .before .before .before .before .before .before .before .before .before .before .before .before .before .before .before .before .before .before .args in
-    let g = args′ .set in
-    let infix′ = c .before .before .before .before .before .before .before .before .before .before .before .before .before .«infix» in
-    let b′ = c .before .before .before .before .before .before .before .before .before .before .before .b in
-    let st = loop′ .inv .ok .stands in
-    let eat-any′ = c .before .before .before .before .before .before .before .eat-any in
-    let cur = loop′ .cur in
-    let r = b′ .given .0 .1 .1 .0 in
-    let o = b′ .given .0 .0 in
-    let least = args′ .least in
-    let if2′ = c .before .before .before .before .before .before .before .before .before .if2 in
-    let s = args′ .src .now in
-    let low = args′ .left - 1 in
-    let begin = Steps.at g s low (goto (infix-tail least)) 1 cur (loop′ .at) (loop′ .out) in
-    let found = Steps.known (eat (cur .kind) ▸ deep (expr r) ▸ close 13 (byte o ∷ []) ▸ goto (infix-tail least)) st refl (λ xs t. an-operator g cur xs 1 least (cur .kind) t (infix′ .ensures) (b′ .given .1) (if2′ .left)) begin in
-    let opened = Steps.taken (infix-kind g (infix′ .ensures) (b′ .given .1)) st (eat-any′ .ensures) refl found in
-    let value = Steps.took (expr′ .ensures) (d′ .given .1) opened in
-    Steps.fits (loop′ .inv .ok) (lit≤ tt) value
+  returns-3 : lts.Need-returns-3 (K t) (P t) Post Inv-loop μ-loop
+  returns-3 c =
+      let l = c .before .before .before in let g = a₂ l .args in let cur = l .loop .cur in
+      Steps.as-deep (e₂ l .if1 .left) (Steps.ends (lit≤ tt) (Steps.known end (l .loop .inv .ok .stands) refl
+      (λ xs t. no-operator (g .set) cur xs 1 (g .least) (cur .kind) t (c .before .before .«infix» .ensures) (c .before .match2 .keys2)) (whole l)))
 
-pub loop-less : (t : ℕ) → lts.Need-loop-less (K t) (P t) Post Inv-loop μ-loop
-unfolding entry payload
-loop-less t c =
-    let loop′ = c .before .before .before .before .before .before .before .before .before .before .before .before .before .before .before .before .before .loop in
-    let put-flag′ = c .before .before .put-flag in
-    let expr′ = c .before .before .before .before .before .before .before .before .before .expr in
-    let d′ = c .before .before .before .before .before .d in
-    let args′ = c .before .before .before .before .before .before .before .before .before .before .before .before .before .before .before .before .before .before .before .before .before .before .before .before .before .before .before .before .args in
-    let g = args′ .set in
-    let infix′ = c .before .before .before .before .before .before .before .before .before .before .before .before .before .before .before .before .«infix» in
-    let b′ = c .before .before .before .before .before .before .before .before .before .before .before .before .before .before .b in
-    let st = loop′ .inv .ok .stands in
-    let eat-any′ = c .before .before .before .before .before .before .before .before .before .before .eat-any in
-    let cur = loop′ .cur in
-    let r = b′ .given .0 .1 .1 .0 in
-    let o = b′ .given .0 .0 in
-    let least = args′ .least in
-    let if2′ = c .before .before .before .before .before .before .before .before .before .before .before .before .if2 in
-    let s = args′ .src .now in
-    let low = args′ .left - 1 in
-    let begin = Steps.at g s low (goto (infix-tail least)) 1 cur (loop′ .at) (loop′ .out) in
-    let found = Steps.known (eat (cur .kind) ▸ deep (expr r) ▸ close 13 (byte o ∷ []) ▸ goto (infix-tail least)) st refl (λ xs t. an-operator g cur xs 1 least (cur .kind) t (infix′ .ensures) (b′ .given .1) (if2′ .left)) begin in
-    let opened = Steps.taken (infix-kind g (infix′ .ensures) (b′ .given .1)) st (eat-any′ .ensures) refl found in
-    let value = Steps.took (expr′ .ensures) (d′ .given .1) opened in
-    Steps.closer (loop′ .inv .ok) (lit≤ tt) (Steps.closed 4 (lit≤ tt) (put-flag′ .ensures) value)
+  returns-4 : lts.Need-returns-4 (K t) (P t) Post Inv-loop μ-loop
+  returns-4 c =
+      let b = c .before .before in let l = b .before .before .before in let g = a₂ l .args in
+      let cur = l .loop .cur in
+      Steps.as-deep (e₂ l .if1 .left) (Steps.ends (lit≤ tt) (Steps.known end (l .loop .inv .ok .stands) refl
+      (λ xs t. weak-operator (g .set) cur xs 1 (g .least) (cur .kind) t (b .before .before .«infix» .ensures) (b .b .given .1) (c .if2 .taken)) (whole l)))
 
-pub loop-again : (t : ℕ) → lts.Need-loop-again (K t) (P t) Post Inv-loop μ-loop
-unfolding entry payload
-loop-again t c =
-    let loop′ = c .before .before .before .before .before .before .before .before .before .before .before .before .before .before .before .before .before .loop in
-    let put-flag′ = c .before .before .put-flag in
-    let expr′ = c .before .before .before .before .before .before .before .before .before .expr in
-    let d′ = c .before .before .before .before .before .d in
-    let args′ = c .before .before .before .before .before .before .before .before .before .before .before .before .before .before .before .before .before .before .before .before .before .before .before .before .before .before .before .before .args in
-    let g = args′ .set in
-    let infix′ = c .before .before .before .before .before .before .before .before .before .before .before .before .before .before .before .before .«infix» in
-    let b′ = c .before .before .before .before .before .before .before .before .before .before .before .before .before .before .b in
-    let st = loop′ .inv .ok .stands in
-    let eat-any′ = c .before .before .before .before .before .before .before .before .before .before .eat-any in
-    let cur = loop′ .cur in
-    let r = b′ .given .0 .1 .1 .0 in
-    let o = b′ .given .0 .0 in
-    let least = args′ .least in
-    let if2′ = c .before .before .before .before .before .before .before .before .before .before .before .before .if2 in
-    let s = args′ .src .now in
-    let low = args′ .left - 1 in
-    let begin = Steps.at g s low (goto (infix-tail least)) 1 cur (loop′ .at) (loop′ .out) in
-    let found = Steps.known (eat (cur .kind) ▸ deep (expr r) ▸ close 13 (byte o ∷ []) ▸ goto (infix-tail least)) st refl (λ xs t. an-operator g cur xs 1 least (cur .kind) t (infix′ .ensures) (b′ .given .1) (if2′ .left)) begin in
-    let opened = Steps.taken (infix-kind g (infix′ .ensures) (b′ .given .1)) st (eat-any′ .ensures) refl found in
-    let value = Steps.took (expr′ .ensures) (d′ .given .1) opened in
-    Steps.turned (loop′ .inv) (lit≤ tt) (Steps.closed 4 (lit≤ tt) (put-flag′ .ensures) value)
+  returns-5 : lts.Need-returns-5 (K t) (P t) Post Inv-loop μ-loop
+  returns-5 c =
+      let x = c .before .before .before .before in
+      let l = x .before .before .before .before .before .before .before .before in
+      Steps.as-deep (e₂ l .if1 .left) (Steps.passed (Steps.takes-broken (x .expr .ensures) (c .before .match3 .keys2)) (Steps.onto (whole l) (opened (x .before))))
+
+  -- All of them, in the order of the code.
+  pub met : {M : Type 1} → lts.Closed (K t) (P t) Post M
+  met =
+      lts.spec (K t) (P t) Post Inv-loop μ-loop (λ c κs. search needs) returns (λ c. search needs) (λ c κs. search needs) (λ c. search needs)
+      (λ c. search needs) (λ c. search needs) returns-2 loop-holds (λ c κs. search needs) (λ c. search needs) (λ c. search needs) (λ c. search needs)
+      returns-3 (λ c. search needs) returns-4 (λ c κs. search needs) (λ c. search needs) expr-requires (λ c. search needs) (λ c. search needs)
+      (λ c. search needs) returns-5 put-flag-requires loop-less loop-again

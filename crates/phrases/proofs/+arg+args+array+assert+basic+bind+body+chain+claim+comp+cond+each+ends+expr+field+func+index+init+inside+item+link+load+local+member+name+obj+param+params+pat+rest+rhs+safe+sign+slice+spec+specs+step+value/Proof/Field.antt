@@ -1,401 +1,161 @@
--- The answers of `field`.
+-- The answers of `field`: the stretch from its start to each place of its code, and from these what each call asks and each return owes.
 use borrow.Author.Needs.{needs}
 use native.Mathlib.Omega.{arith}
 use lib.Dec.{lit<, lit≤}
-use lib.ListN.{length}
-use mathlib.Core.Path.{_≡_, refl, sym, ap, subst, _∙_}
-use mathlib.Core.Logic.{⊎-elim}
-use mathlib.Core.List.{[], _∷_}
-use Prim.Native.Nat.{ℕ, _+_, _*_, _-_, _≤_, _<_}
+use mathlib.Core.Path.{_≡_, refl}
+use mathlib.Core.List.{List}
+use Prim.Native.Nat.{ℕ, _+_, _≤_, _<_}
+use borrow.Author.Tests.{ne-eqb}
 use Rattle.leaves.proofs.Steps
 use Rattle.phrases.proofs.field.Reads.{Post}
 use Rattle.phrases.proofs.+arg+args+array+assert+basic+bind+body+chain+claim+comp+cond+each+ends+expr+field+func+index+init+inside+item+link+load+local+member+name+obj+param+params+pat+rest+rhs+safe+sign+slice+spec+specs+step+value.Lts-field as lts
 use Rattle.phrases.proofs.+arg+args+array+assert+basic+bind+body+chain+claim+comp+cond+each+ends+expr+field+func+index+init+inside+item+link+load+local+member+name+obj+param+params+pat+rest+rhs+safe+sign+slice+spec+specs+step+value.Proof.Frame.{field-claims as K, field-at as P}
-use borrow.Author.Tests.{ne-eqb}
-use Rattle.grammar.specs.Productions.{goto, end, eat, leaf, sub, deep, close, _▸_, rule, expression, field, field-named, field-value, params}
+use Rattle.grammar.specs.Productions.{Body, goto, eat, sub, _▸_, rule, field, field-value, params}
 use Rattle.grammar.specs.Reading.{choose, has}
-use Rattle.leaves.specs.Meets.{titled}
+use Rattle.leaves.specs.Lexing.{Stands}
+use Rattle.leaves.specs.Meets.{state, Seg, titled}
+use Rattle.leaves.specs.declared.Cursor.{Cursor}
 use Rattle.leaves.proofs.LexemeLaws.{sight}
 use Rattle.leaves.proofs.LeafLaws.{within}
 use Rattle.phrases.proofs.FieldLaws.{place}
 
-pub name-requires : (t : ℕ) → lts.Need-name-requires (K t) (P t) Post
-name-requires t c κs =
-    let pre′ = c .before .before .before .pre in
-    (omega (arith, pre′ .0), pre′ .1)
+module _ (t : ℕ) where
+  -- a stretch from the start, of which e bytes are taken and v are owed, to a body with n trees
+  abbrev So : lts.Start (K t) (P t) Post → ℕ → ℕ → Body → ℕ → Cursor → ℕ → List ℕ → Type 0
+  So a e v b n c w o = Seg (a .args .set) (a .args .src .now) (a .args .left) (state (goto field) 0 (a .args .c) (a .args .w) (a .args .out .now)) e v (state b n c w o)
 
-pub enum-known-a : (t : ℕ) → lts.Need-enum-known-a (K t) (P t) Post
-enum-known-a t c =
-    search needs
+  -- ── The name ─────────────────────────────────────────────────────────────────────────────────────
 
-pub enum-told : (t : ℕ) → lts.Need-enum-told (K t) (P t) Post
-enum-told t c =
-    search needs
+  abbrev Name : Type 0
+  Name = lts.After-a (K t) (P t) Post
 
-pub same-length : (t : ℕ) → lts.Need-same-length (K t) (P t) Post
-same-length t c =
-    search needs
+  abbrev a₁ : Name → lts.Start (K t) (P t) Post
+  a₁ c = c .before .before .before .before .before .before .before .before
 
-pub returns : (t : ℕ) → lts.Need-returns (K t) (P t) Post
-returns t c =
-    let name′ = c .before .before .before .before .name in
-    let match′ = c .before .match in
-    let args′ = c .before .before .before .before .before .before .before .before .args in
-    let g = args′ .set in
-    let s = args′ .src .now in
-    let start = Steps.at g s (args′ .left) (goto field) 0 (args′ .c) (args′ .w) (args′ .out .now) in
-    Steps.as-sub (Steps.passed (Steps.tells-broken (name′ .ensures) (match′ .keys2)) start)
+  -- whether it is computed, and what comes after `+` or parameters
+  abbrev computed : Name → ℕ
+  computed c = c .a .given .0 .1 .1 .0
 
-pub eat-any-requires : (t : ℕ) → lts.Need-eat-any-requires (K t) (P t) Post
-eat-any-requires t c κs =
-    let name′ = c .before .before .before .before .before .before .before .before .name in
-    let a′ = c .before .before .before .before .a in
-    let args′ = c .before .before .before .before .before .before .before .before .before .before .before .before .args in
-    let g = args′ .set in
-    let s = args′ .src .now in
-    let start = Steps.at g s (args′ .left) (goto field) 0 (args′ .c) (args′ .w) (args′ .out .now) in
-    let named = Steps.follows (name′ .ensures) (a′ .given .1) start in
-    let pre′ = c .before .before .before .before .before .before .before .before .before .before .before .before .pre in
-    let st = pre′ .1 .stands in
-    let there = named .stands st in
-    there
+  abbrev worth : Name → ℕ → ℕ → Body
+  worth c plus method = goto (field-value (a₁ c .args .c .start) (c .a .given .0 .0 .at) (computed c) plus method)
 
-pub params-requires : (t : ℕ) → lts.Need-params-requires (K t) (P t) Post
-unfolding rule choose has sight
-params-requires t c κs =
-    let pre′ = c .before .before .before .before .before .before .before .before .before .before .before .before .before .pre in
-    let name′ = c .before .before .before .before .before .before .before .before .before .name in
-    let a′ = c .before .before .before .before .before .a in
-    let args′ = c .before .before .before .before .before .before .before .before .before .before .before .before .before .args in
-    let g = args′ .set in
-    let s = args′ .src .now in
-    let start = Steps.at g s (args′ .left) (goto field) 0 (args′ .c) (args′ .w) (args′ .out .now) in
-    let named = Steps.follows (name′ .ensures) (a′ .given .1) start in
-    let st = pre′ .1 .stands in
-    let there = named .stands st in
-    let eat-any′ = c .eat-any in
-    let if1′ = c .before .before .if1 in
-    let from = args′ .c .start in
-    let to = a′ .given .0 .0 .at in
-    let computed = a′ .given .0 .1 .1 .0 in
-    let opened = Steps.taken (lit< tt) there (eat-any′ .ensures) (if1′ .taken) (Steps.known (eat 25 ▸ sub params ▸ eat 26 ▸ goto (field-value from to computed 0 1)) there (if1′ .taken) (λ xs t. refl) named) in
-    (omega (arith, pre′ .0), Steps.ready (pre′ .1) (lit≤ tt) opened)
+  named : (c : Name) → So (a₁ c) 0 0 (titled (a₁ c .args .c .start) (computed c)) 1 (c .a .given .0 .0) (c .a .given .0 .1 .0) (c .before .before .before .before .name .last .1 .0)
+  named c = Steps.follows (c .before .before .before .before .name .ensures) (c .a .given .1) Steps.here
 
-pub enum-known-b : (t : ℕ) → lts.Need-enum-known-b (K t) (P t) Post
-enum-known-b t c =
-    search needs
+  there : (c : Name) → Stands (a₁ c .args .src .now) (c .a .given .0 .0)
+  there c = named c .stands (a₁ c .pre .1 .stands)
 
-pub enum-told-2 : (t : ℕ) → lts.Need-enum-told-2 (K t) (P t) Post
-enum-told-2 t c =
-    search needs
+  -- what `value` asks of it
+  title : (c : Name) → (a₁ c .args .c .start < 65536) × (c .a .given .0 .0 .at < 65536) × (computed c ≤ 4)
+  title c = let r = a₁ c .pre .1 in (within r .0, place r (there c), Steps.told-small (c .before .before .before .before .name .ensures) (c .a .given .1))
 
-pub same-length-2 : (t : ℕ) → lts.Need-same-length-2 (K t) (P t) Post
-same-length-2 t c =
-    search needs
+  -- ── `(` parameters `)` ───────────────────────────────────────────────────────────────────────────
 
-pub returns-2 : (t : ℕ) → lts.Need-returns-2 (K t) (P t) Post
-unfolding rule choose has sight
-returns-2 t c =
-    let params′ = c .before .before .before .before .params in
-    let match2′ = c .before .match2 in
-    let name′ = c .before .before .before .before .before .before .before .before .before .before .before .before .before .before .name in
-    let a′ = c .before .before .before .before .before .before .before .before .before .before .a in
-    let args′ = c .before .before .before .before .before .before .before .before .before .before .before .before .before .before .before .before .before .before .args in
-    let g = args′ .set in
-    let s = args′ .src .now in
-    let start = Steps.at g s (args′ .left) (goto field) 0 (args′ .c) (args′ .w) (args′ .out .now) in
-    let named = Steps.follows (name′ .ensures) (a′ .given .1) start in
-    let pre′ = c .before .before .before .before .before .before .before .before .before .before .before .before .before .before .before .before .before .before .pre in
-    let st = pre′ .1 .stands in
-    let there = named .stands st in
-    let eat-any′ = c .before .before .before .before .before .eat-any in
-    let if1′ = c .before .before .before .before .before .before .before .if1 in
-    let from = args′ .c .start in
-    let to = a′ .given .0 .0 .at in
-    let computed = a′ .given .0 .1 .1 .0 in
-    let opened = Steps.taken (lit< tt) there (eat-any′ .ensures) (if1′ .taken) (Steps.known (eat 25 ▸ sub params ▸ eat 26 ▸ goto (field-value from to computed 0 1)) there (if1′ .taken) (λ xs t. refl) named) in
-    Steps.as-sub (Steps.passed (Steps.counts-broken (params′ .ensures) (match2′ .keys2)) opened)
+  abbrev n₂ : lts.After-eat-any (K t) (P t) Post → Name
+  n₂ c = c .before .before .before .before .before
 
-pub eat-requires : (t : ℕ) → lts.Need-eat-requires (K t) (P t) Post
-unfolding rule choose has sight
-eat-requires t c κs =
-    let params′ = c .before .before .before .before .before .params in
-    let b′ = c .before .b in
-    let listed = Steps.counted (params′ .ensures) (b′ .given .1) in
-    let name′ = c .before .before .before .before .before .before .before .before .before .before .before .before .before .before .before .name in
-    let a′ = c .before .before .before .before .before .before .before .before .before .before .before .a in
-    let args′ = c .before .before .before .before .before .before .before .before .before .before .before .before .before .before .before .before .before .before .before .args in
-    let g = args′ .set in
-    let s = args′ .src .now in
-    let start = Steps.at g s (args′ .left) (goto field) 0 (args′ .c) (args′ .w) (args′ .out .now) in
-    let named = Steps.follows (name′ .ensures) (a′ .given .1) start in
-    let pre′ = c .before .before .before .before .before .before .before .before .before .before .before .before .before .before .before .before .before .before .before .pre in
-    let st = pre′ .1 .stands in
-    let there = named .stands st in
-    let eat-any′ = c .before .before .before .before .before .before .eat-any in
-    let if1′ = c .before .before .before .before .before .before .before .before .if1 in
-    let from = args′ .c .start in
-    let to = a′ .given .0 .0 .at in
-    let computed = a′ .given .0 .1 .1 .0 in
-    let opened = Steps.taken (lit< tt) there (eat-any′ .ensures) (if1′ .taken) (Steps.known (eat 25 ▸ sub params ▸ eat 26 ▸ goto (field-value from to computed 0 1)) there (if1′ .taken) (λ xs t. refl) named) in
-    let many = Steps.took-owing (listed .0) refl opened in
-    (lit< tt, many .stands st)
+  opened : (c : lts.After-eat-any (K t) (P t) Post) → let n = n₂ c in
+      So (a₁ n) 1 0 (sub params ▸ eat 26 ▸ worth n 0 1) 1 (c .eat-any .result) (n .a .given .0 .1 .0) (n .before .before .before .before .name .last .1 .0)
+  unfolding rule choose has sight
+  opened c =
+      let n = n₂ c in let is = c .before .before .if1 .taken in
+      Steps.taken (lit< tt) (there n) (c .eat-any .ensures) is (Steps.known (eat 25 ▸ sub params ▸ eat 26 ▸ worth n 0 1) (there n) is (λ xs t. refl) (named n))
 
-pub enum-known-d : (t : ℕ) → lts.Need-enum-known-d (K t) (P t) Post
-enum-known-d t c =
-    search needs
+  abbrev e₃ : lts.After-b (K t) (P t) Post → lts.After-eat-any (K t) (P t) Post
+  e₃ c = c .before .before .before .before .before
 
-pub enum-told-3 : (t : ℕ) → lts.Need-enum-told-3 (K t) (P t) Post
-enum-told-3 t c =
-    search needs
+  -- how many parameters there are
+  abbrev many : lts.After-b (K t) (P t) Post → ℕ
+  many c = c .b .given .0 .1 .1 .0
 
-pub same-length-3 : (t : ℕ) → lts.Need-same-length-3 (K t) (P t) Post
-unfolding rule choose has sight
-same-length-3 t c =
-    let params′ = c .before .before .before .before .before .before .before .before .params in
-    let b′ = c .before .before .before .before .b in
-    let listed = Steps.counted (params′ .ensures) (b′ .given .1) in
-    let name′ = c .before .before .before .before .before .before .before .before .before .before .before .before .before .before .before .before .before .before .name in
-    let a′ = c .before .before .before .before .before .before .before .before .before .before .before .before .before .before .a in
-    let args′ = c .before .before .before .before .before .before .before .before .before .before .before .before .before .before .before .before .before .before .before .before .before .before .args in
-    let g = args′ .set in
-    let s = args′ .src .now in
-    let start = Steps.at g s (args′ .left) (goto field) 0 (args′ .c) (args′ .w) (args′ .out .now) in
-    let named = Steps.follows (name′ .ensures) (a′ .given .1) start in
-    let pre′ = c .before .before .before .before .before .before .before .before .before .before .before .before .before .before .before .before .before .before .before .before .before .before .pre in
-    let st = pre′ .1 .stands in
-    let there = named .stands st in
-    let eat-any′ = c .before .before .before .before .before .before .before .before .before .eat-any in
-    let if1′ = c .before .before .before .before .before .before .before .before .before .before .before .if1 in
-    let from = args′ .c .start in
-    let to = a′ .given .0 .0 .at in
-    let computed = a′ .given .0 .1 .1 .0 in
-    let opened = Steps.taken (lit< tt) there (eat-any′ .ensures) (if1′ .taken) (Steps.known (eat 25 ▸ sub params ▸ eat 26 ▸ goto (field-value from to computed 0 1)) there (if1′ .taken) (λ xs t. refl) named) in
-    let many = Steps.took-owing (listed .0) refl opened in
-    Steps.same many
+  listed : (c : lts.After-b (K t) (P t) Post) → let n = n₂ (e₃ c) in
+      So (a₁ n) 1 4 (eat 26 ▸ worth n 0 1) (1 + many c) (c .b .given .0 .0) (c .b .given .0 .1 .0) (c .before .before .before .before .params .last .1 .0)
+  listed c = Steps.took-owing (Steps.counted (c .before .before .before .before .params .ensures) (c .b .given .1) .0) refl (opened (e₃ c))
 
-pub returns-3 : (t : ℕ) → lts.Need-returns-3 (K t) (P t) Post
-unfolding rule choose has sight
-returns-3 t c =
-    let eat′ = c .before .before .eat in
-    let match3′ = c .before .match3 in
-    let params′ = c .before .before .before .before .before .before .before .before .params in
-    let b′ = c .before .before .before .before .b in
-    let listed = Steps.counted (params′ .ensures) (b′ .given .1) in
-    let name′ = c .before .before .before .before .before .before .before .before .before .before .before .before .before .before .before .before .before .before .name in
-    let a′ = c .before .before .before .before .before .before .before .before .before .before .before .before .before .before .a in
-    let args′ = c .before .before .before .before .before .before .before .before .before .before .before .before .before .before .before .before .before .before .before .before .before .before .args in
-    let g = args′ .set in
-    let s = args′ .src .now in
-    let start = Steps.at g s (args′ .left) (goto field) 0 (args′ .c) (args′ .w) (args′ .out .now) in
-    let named = Steps.follows (name′ .ensures) (a′ .given .1) start in
-    let pre′ = c .before .before .before .before .before .before .before .before .before .before .before .before .before .before .before .before .before .before .before .before .before .before .pre in
-    let st = pre′ .1 .stands in
-    let there = named .stands st in
-    let eat-any′ = c .before .before .before .before .before .before .before .before .before .eat-any in
-    let if1′ = c .before .before .before .before .before .before .before .before .before .before .before .if1 in
-    let from = args′ .c .start in
-    let to = a′ .given .0 .0 .at in
-    let computed = a′ .given .0 .1 .1 .0 in
-    let opened = Steps.taken (lit< tt) there (eat-any′ .ensures) (if1′ .taken) (Steps.known (eat 25 ▸ sub params ▸ eat 26 ▸ goto (field-value from to computed 0 1)) there (if1′ .taken) (λ xs t. refl) named) in
-    let many = Steps.took-owing (listed .0) refl opened in
-    Steps.as-sub (Steps.passed (Steps.eats-broken (eat′ .ensures) (match3′ .keys2)) many)
+  shut : (c : lts.After-d (K t) (P t) Post) → let b = c .before .before .before .before in let n = n₂ (e₃ b) in
+      So (a₁ n) 2 4 (worth n 0 1) (many b + 1) (c .d .given .0 .0) (c .d .given .0 .1 .0) (b .before .before .before .before .params .last .1 .0)
+  shut c =
+      let n = many (c .before .before .before .before) in
+      Steps.count-is (let z : 1 + n ≡ n + 1 = omega arith in z) (Steps.ate (c .before .before .eat .ensures) (c .d .given .1) (listed (c .before .before .before .before)))
 
-pub value-requires : (t : ℕ) → lts.Need-value-requires (K t) (P t) Post
-unfolding rule choose has sight
-value-requires t c κs =
-    let pre′ = c .before .before .before .before .before .before .before .before .before .before .before .before .before .before .before .before .before .before .before .before .before .before .before .before .pre in
-    let eat′ = c .before .before .before .before .eat in
-    let d′ = c .before .before .d in
-    let params′ = c .before .before .before .before .before .before .before .before .before .before .params in
-    let b′ = c .before .before .before .before .before .before .b in
-    let listed = Steps.counted (params′ .ensures) (b′ .given .1) in
-    let name′ = c .before .before .before .before .before .before .before .before .before .before .before .before .before .before .before .before .before .before .before .before .name in
-    let a′ = c .before .before .before .before .before .before .before .before .before .before .before .before .before .before .before .before .a in
-    let args′ = c .before .before .before .before .before .before .before .before .before .before .before .before .before .before .before .before .before .before .before .before .before .before .before .before .args in
-    let g = args′ .set in
-    let s = args′ .src .now in
-    let start = Steps.at g s (args′ .left) (goto field) 0 (args′ .c) (args′ .w) (args′ .out .now) in
-    let named = Steps.follows (name′ .ensures) (a′ .given .1) start in
-    let st = pre′ .1 .stands in
-    let there = named .stands st in
-    let eat-any′ = c .before .before .before .before .before .before .before .before .before .before .before .eat-any in
-    let if1′ = c .before .before .before .before .before .before .before .before .before .before .before .before .before .if1 in
-    let from = args′ .c .start in
-    let to = a′ .given .0 .0 .at in
-    let computed = a′ .given .0 .1 .1 .0 in
-    let opened = Steps.taken (lit< tt) there (eat-any′ .ensures) (if1′ .taken) (Steps.known (eat 25 ▸ sub params ▸ eat 26 ▸ goto (field-value from to computed 0 1)) there (if1′ .taken) (λ xs t. refl) named) in
-    let many = Steps.took-owing (listed .0) refl opened in
-    let shut = Steps.ate (eat′ .ensures) (d′ .given .1) many in
-    let small = Steps.told-small (name′ .ensures) (a′ .given .1) in
-    (omega (arith, pre′ .0), (Steps.ready (pre′ .1) (lit≤ tt) shut, within (pre′ .1) .0, place (pre′ .1) there, small, omega (arith, listed .1, eat′ .ensures .moved _ _ _ (d′ .given .1) .0)))
+  -- ── `+`, or neither ──────────────────────────────────────────────────────────────────────────────
 
-pub same-length-4 : (t : ℕ) → lts.Need-same-length-4 (K t) (P t) Post
-unfolding rule choose has sight
-same-length-4 t c =
-    let eat′ = c .before .before .before .before .before .before .before .eat in
-    let d′ = c .before .before .before .before .before .d in
-    let params′ = c .before .before .before .before .before .before .before .before .before .before .before .before .before .params in
-    let b′ = c .before .before .before .before .before .before .before .before .before .b in
-    let listed = Steps.counted (params′ .ensures) (b′ .given .1) in
-    let name′ = c .before .before .before .before .before .before .before .before .before .before .before .before .before .before .before .before .before .before .before .before .before .before .before .name in
-    let a′ = c .before .before .before .before .before .before .before .before .before .before .before .before .before .before .before .before .before .before .before .a in
-    let args′ = c .before .before .before .before .before .before .before .before .before .before .before .before .before .before .before .before .before .before .before .before .before .before .before .before .before .before .before .args in
-    let g = args′ .set in
-    let s = args′ .src .now in
-    let start = Steps.at g s (args′ .left) (goto field) 0 (args′ .c) (args′ .w) (args′ .out .now) in
-    let named = Steps.follows (name′ .ensures) (a′ .given .1) start in
-    let pre′ = c .before .before .before .before .before .before .before .before .before .before .before .before .before .before .before .before .before .before .before .before .before .before .before .before .before .before .before .pre in
-    let st = pre′ .1 .stands in
-    let there = named .stands st in
-    let eat-any′ = c .before .before .before .before .before .before .before .before .before .before .before .before .before .before .eat-any in
-    let if1′ = c .before .before .before .before .before .before .before .before .before .before .before .before .before .before .before .before .if1 in
-    let from = args′ .c .start in
-    let to = a′ .given .0 .0 .at in
-    let computed = a′ .given .0 .1 .1 .0 in
-    let opened = Steps.taken (lit< tt) there (eat-any′ .ensures) (if1′ .taken) (Steps.known (eat 25 ▸ sub params ▸ eat 26 ▸ goto (field-value from to computed 0 1)) there (if1′ .taken) (λ xs t. refl) named) in
-    let many = Steps.took-owing (listed .0) refl opened in
-    let shut = Steps.ate (eat′ .ensures) (d′ .given .1) many in
-    let out3′ = c .before .out3 in
-    omega (arith, Steps.same shut, out3′ .given)
+  abbrev n₅ : lts.After-eat-any2 (K t) (P t) Post → Name
+  n₅ c = c .before .before .before .before .before .before .before
 
-pub returns-4 : (t : ℕ) → lts.Need-returns-4 (K t) (P t) Post
-unfolding rule choose has sight
-returns-4 t c =
-    let b′ = c .before .before .before .before .before .before .before .before .before .b in
-    let n = b′ .given .0 .1 .1 .0 in
-    let value′ = c .before .before .value in
-    let eat′ = c .before .before .before .before .before .before .before .eat in
-    let d′ = c .before .before .before .before .before .d in
-    let params′ = c .before .before .before .before .before .before .before .before .before .before .before .before .before .params in
-    let listed = Steps.counted (params′ .ensures) (b′ .given .1) in
-    let name′ = c .before .before .before .before .before .before .before .before .before .before .before .before .before .before .before .before .before .before .before .before .before .before .before .name in
-    let a′ = c .before .before .before .before .before .before .before .before .before .before .before .before .before .before .before .before .before .before .before .a in
-    let args′ = c .before .before .before .before .before .before .before .before .before .before .before .before .before .before .before .before .before .before .before .before .before .before .before .before .before .before .before .args in
-    let g = args′ .set in
-    let s = args′ .src .now in
-    let start = Steps.at g s (args′ .left) (goto field) 0 (args′ .c) (args′ .w) (args′ .out .now) in
-    let named = Steps.follows (name′ .ensures) (a′ .given .1) start in
-    let pre′ = c .before .before .before .before .before .before .before .before .before .before .before .before .before .before .before .before .before .before .before .before .before .before .before .before .before .before .before .pre in
-    let st = pre′ .1 .stands in
-    let there = named .stands st in
-    let eat-any′ = c .before .before .before .before .before .before .before .before .before .before .before .before .before .before .eat-any in
-    let if1′ = c .before .before .before .before .before .before .before .before .before .before .before .before .before .before .before .before .if1 in
-    let from = args′ .c .start in
-    let to = a′ .given .0 .0 .at in
-    let computed = a′ .given .0 .1 .1 .0 in
-    let opened = Steps.taken (lit< tt) there (eat-any′ .ensures) (if1′ .taken) (Steps.known (eat 25 ▸ sub params ▸ eat 26 ▸ goto (field-value from to computed 0 1)) there (if1′ .taken) (λ xs t. refl) named) in
-    let many = Steps.took-owing (listed .0) refl opened in
-    let shut = Steps.ate (eat′ .ensures) (d′ .given .1) many in
-    let count : 1 + n ≡ n + 1 = omega arith in
-    Steps.as-sub (Steps.tail (lit≤ tt) (value′ .ensures) (Steps.count-is count shut))
+  adds : (c : lts.After-eat-any2 (K t) (P t) Post) → let n = n₅ c in So (a₁ n) 1 0 (worth n 1 0) 1 (c .eat-any2 .result) (n .a .given .0 .1 .0) (n .before .before .before .before .name .last .1 .0)
+  unfolding rule choose has sight
+  adds c =
+      let n = n₅ c in let is = c .before .before .if2 .taken in
+      Steps.taken (lit< tt) (there n) (c .eat-any2 .ensures) is (Steps.known (eat 16 ▸ worth n 1 0) (there n) is (λ xs t. refl) (named n))
 
-pub eat-any-requires-2 : (t : ℕ) → lts.Need-eat-any-requires-2 (K t) (P t) Post
-eat-any-requires-2 t c κs =
-    let name′ = c .before .before .before .before .before .before .before .before .before .before .name in
-    let a′ = c .before .before .before .before .before .before .a in
-    let args′ = c .before .before .before .before .before .before .before .before .before .before .before .before .before .before .args in
-    let g = args′ .set in
-    let s = args′ .src .now in
-    let start = Steps.at g s (args′ .left) (goto field) 0 (args′ .c) (args′ .w) (args′ .out .now) in
-    let named = Steps.follows (name′ .ensures) (a′ .given .1) start in
-    let pre′ = c .before .before .before .before .before .before .before .before .before .before .before .before .before .before .pre in
-    let st = pre′ .1 .stands in
-    let there = named .stands st in
-    there
+  abbrev n₆ : lts.Else2 (K t) (P t) Post → Name
+  n₆ c = c .before .before .before .before .before
 
-pub value-requires-2 : (t : ℕ) → lts.Need-value-requires-2 (K t) (P t) Post
-unfolding rule choose has sight
-value-requires-2 t c κs =
-    let pre′ = c .before .before .before .before .before .before .before .before .before .before .before .before .before .before .before .pre in
-    let name′ = c .before .before .before .before .before .before .before .before .before .before .before .name in
-    let a′ = c .before .before .before .before .before .before .before .a in
-    let args′ = c .before .before .before .before .before .before .before .before .before .before .before .before .before .before .before .args in
-    let g = args′ .set in
-    let s = args′ .src .now in
-    let start = Steps.at g s (args′ .left) (goto field) 0 (args′ .c) (args′ .w) (args′ .out .now) in
-    let named = Steps.follows (name′ .ensures) (a′ .given .1) start in
-    let st = pre′ .1 .stands in
-    let there = named .stands st in
-    let eat-any2′ = c .eat-any2 in
-    let if2′ = c .before .before .if2 in
-    let from = args′ .c .start in
-    let to = a′ .given .0 .0 .at in
-    let computed = a′ .given .0 .1 .1 .0 in
-    let adds = Steps.taken (lit< tt) there (eat-any2′ .ensures) (if2′ .taken) (Steps.known (eat 16 ▸ goto (field-value from to computed 1 0)) there (if2′ .taken) (λ xs t. refl) named) in
-    let small = Steps.told-small (name′ .ensures) (a′ .given .1) in
-    (omega (arith, pre′ .0), (Steps.ready (pre′ .1) (lit≤ tt) adds, within (pre′ .1) .0, place (pre′ .1) there, small, omega arith))
+  plain : (c : lts.Else2 (K t) (P t) Post) → let n = n₆ c in So (a₁ n) 0 0 (worth n 0 0) 1 (n .a .given .0 .0) (n .a .given .0 .1 .0) (n .before .before .before .before .name .last .1 .0)
+  unfolding rule choose has sight
+  plain c = Steps.known (worth (n₆ c) 0 0) (there (n₆ c)) refl (λ xs t. simp (ne-eqb _ 25 (c .before .before .if1 .left), ne-eqb _ 16 (c .if2 .left))) (named (n₆ c))
 
-pub same-length-5 : (t : ℕ) → lts.Need-same-length-5 (K t) (P t) Post
-same-length-5 t c =
-    search needs
+  -- ── What each call asks ──────────────────────────────────────────────────────────────────────────
 
-pub returns-5 : (t : ℕ) → lts.Need-returns-5 (K t) (P t) Post
-unfolding rule choose has sight
-returns-5 t c =
-    let value2′ = c .before .before .value2 in
-    let name′ = c .before .before .before .before .before .before .before .before .before .before .before .before .before .before .name in
-    let a′ = c .before .before .before .before .before .before .before .before .before .before .a in
-    let args′ = c .before .before .before .before .before .before .before .before .before .before .before .before .before .before .before .before .before .before .args in
-    let g = args′ .set in
-    let s = args′ .src .now in
-    let start = Steps.at g s (args′ .left) (goto field) 0 (args′ .c) (args′ .w) (args′ .out .now) in
-    let named = Steps.follows (name′ .ensures) (a′ .given .1) start in
-    let pre′ = c .before .before .before .before .before .before .before .before .before .before .before .before .before .before .before .before .before .before .pre in
-    let st = pre′ .1 .stands in
-    let there = named .stands st in
-    let eat-any2′ = c .before .before .before .eat-any2 in
-    let if2′ = c .before .before .before .before .before .if2 in
-    let from = args′ .c .start in
-    let to = a′ .given .0 .0 .at in
-    let computed = a′ .given .0 .1 .1 .0 in
-    let adds = Steps.taken (lit< tt) there (eat-any2′ .ensures) (if2′ .taken) (Steps.known (eat 16 ▸ goto (field-value from to computed 1 0)) there (if2′ .taken) (λ xs t. refl) named) in
-    Steps.as-sub (Steps.tail (lit≤ tt) (value2′ .ensures) adds)
+  eat-any-requires : lts.Need-eat-any-requires (K t) (P t) Post
+  eat-any-requires c κs = there (c .before .before .before .before)
 
-pub value-requires-3 : (t : ℕ) → lts.Need-value-requires-3 (K t) (P t) Post
-unfolding rule choose has sight
-value-requires-3 t c κs =
-    let pre′ = c .before .before .before .before .before .before .before .before .before .before .before .before .before .before .pre in
-    let args′ = c .before .before .before .before .before .before .before .before .before .before .before .before .before .before .args in
-    let from = args′ .c .start in
-    let a′ = c .before .before .before .before .before .before .a in
-    let to = a′ .given .0 .0 .at in
-    let computed = a′ .given .0 .1 .1 .0 in
-    let name′ = c .before .before .before .before .before .before .before .before .before .before .name in
-    let g = args′ .set in
-    let s = args′ .src .now in
-    let start = Steps.at g s (args′ .left) (goto field) 0 (args′ .c) (args′ .w) (args′ .out .now) in
-    let named = Steps.follows (name′ .ensures) (a′ .given .1) start in
-    let st = pre′ .1 .stands in
-    let there = named .stands st in
-    let if1′ = c .before .before .before .if1 in
-    let if2′ = c .before .if2 in
-    let plain = Steps.known (goto (field-value from to computed 0 0)) there refl (λ xs t. simp (ne-eqb _ 25 (if1′ .left), ne-eqb _ 16 (if2′ .left))) named in
-    let small = Steps.told-small (name′ .ensures) (a′ .given .1) in
-    (omega (arith, pre′ .0), (Steps.ready (pre′ .1) (lit≤ tt) plain, within (pre′ .1) .0, place (pre′ .1) there, small, omega arith))
+  params-requires : lts.Need-params-requires (K t) (P t) Post
+  params-requires c κs = let p = a₁ (n₂ c) .pre in (omega (arith, p .0), Steps.ready (p .1) (lit≤ tt) (opened c))
 
-pub same-length-6 : (t : ℕ) → lts.Need-same-length-6 (K t) (P t) Post
-same-length-6 t c =
-    search needs
+  eat-requires : lts.Need-eat-requires (K t) (P t) Post
+  eat-requires c κs = let b = c .before in (lit< tt, listed b .stands (a₁ (n₂ (e₃ b)) .pre .1 .stands))
 
-pub returns-6 : (t : ℕ) → lts.Need-returns-6 (K t) (P t) Post
-unfolding rule choose has sight
-returns-6 t c =
-    let value3′ = c .before .before .value3 in
-    let args′ = c .before .before .before .before .before .before .before .before .before .before .before .before .before .before .before .before .before .args in
-    let from = args′ .c .start in
-    let a′ = c .before .before .before .before .before .before .before .before .before .a in
-    let to = a′ .given .0 .0 .at in
-    let computed = a′ .given .0 .1 .1 .0 in
-    let name′ = c .before .before .before .before .before .before .before .before .before .before .before .before .before .name in
-    let g = args′ .set in
-    let s = args′ .src .now in
-    let start = Steps.at g s (args′ .left) (goto field) 0 (args′ .c) (args′ .w) (args′ .out .now) in
-    let named = Steps.follows (name′ .ensures) (a′ .given .1) start in
-    let pre′ = c .before .before .before .before .before .before .before .before .before .before .before .before .before .before .before .before .before .pre in
-    let st = pre′ .1 .stands in
-    let there = named .stands st in
-    let if1′ = c .before .before .before .before .before .before .if1 in
-    let if2′ = c .before .before .before .before .if2 in
-    let plain = Steps.known (goto (field-value from to computed 0 0)) there refl (λ xs t. simp (ne-eqb _ 25 (if1′ .left), ne-eqb _ 16 (if2′ .left))) named in
-    Steps.as-sub (Steps.tail (lit≤ tt) (value3′ .ensures) plain)
+  value-requires : lts.Need-value-requires (K t) (P t) Post
+  value-requires c κs =
+      let d = c .before .before in let b = d .before .before .before .before in let n = n₂ (e₃ b) in
+      let p = a₁ n .pre in
+      let few = Steps.counted (b .before .before .before .before .params .ensures) (b .b .given .1) .1 in
+      let on = d .before .before .eat .ensures .moved _ _ _ (d .d .given .1) .0 in
+      (omega (arith, p .0), (Steps.ready (p .1) (lit≤ tt) (shut d), title n .0, title n .1, title n .2, omega (arith, few, on)))
+
+  eat-any-requires-2 : lts.Need-eat-any-requires-2 (K t) (P t) Post
+  eat-any-requires-2 c κs = there (c .before .before .before .before .before .before)
+
+  value-requires-2 : lts.Need-value-requires-2 (K t) (P t) Post
+  value-requires-2 c κs = let n = n₅ c in let p = a₁ n .pre in (omega (arith, p .0), (Steps.ready (p .1) (lit≤ tt) (adds c), title n .0, title n .1, title n .2, omega arith))
+
+  value-requires-3 : lts.Need-value-requires-3 (K t) (P t) Post
+  value-requires-3 c κs =
+      let n = n₆ (c .before) in let p = a₁ n .pre in
+      (omega (arith, p .0), (Steps.ready (p .1) (lit≤ tt) (plain (c .before)), title n .0, title n .1, title n .2, omega arith))
+
+  -- ── What each return owes ────────────────────────────────────────────────────────────────────────
+
+  returns : lts.Need-returns (K t) (P t) Post
+  returns c = Steps.as-sub (Steps.passed (Steps.tells-broken (c .before .before .before .before .name .ensures) (c .before .match .keys2)) Steps.here)
+
+  returns-2 : lts.Need-returns-2 (K t) (P t) Post
+  returns-2 c = let x = c .before .before .before .before in Steps.as-sub (Steps.passed (Steps.counts-broken (x .params .ensures) (c .before .match2 .keys2)) (opened (x .before)))
+
+  same-length-3 : lts.Need-same-length-3 (K t) (P t) Post
+  same-length-3 c = Steps.same (listed (c .before .before .before .before))
+
+  returns-3 : lts.Need-returns-3 (K t) (P t) Post
+  returns-3 c = let x = c .before .before in Steps.as-sub (Steps.passed (Steps.eats-broken (x .eat .ensures) (c .before .match3 .keys2)) (listed (x .before .before)))
+
+  same-length-4 : lts.Need-same-length-4 (K t) (P t) Post
+  same-length-4 c = omega (arith, Steps.same (shut (c .before .before .before .before .before)), c .before .out3 .given)
+
+  returns-4 : lts.Need-returns-4 (K t) (P t) Post
+  returns-4 c = Steps.as-sub (Steps.tail (lit≤ tt) (c .before .before .value .ensures) (shut (c .before .before .before .before .before)))
+
+  returns-5 : lts.Need-returns-5 (K t) (P t) Post
+  returns-5 c = Steps.as-sub (Steps.tail (lit≤ tt) (c .before .before .value2 .ensures) (adds (c .before .before .before)))
+
+  returns-6 : lts.Need-returns-6 (K t) (P t) Post
+  returns-6 c = Steps.as-sub (Steps.tail (lit≤ tt) (c .before .before .value3 .ensures) (plain (c .before .before .before .before)))
+
+  -- All of them, in the order of the code.
+  pub met : {M : Type 1} → lts.Closed (K t) (P t) Post M
+  met =
+      lts.spec (K t) (P t) Post (λ c κs. search needs) (λ c. search needs) (λ c. search needs) (λ c. search needs) returns eat-any-requires
+      params-requires (λ c. search needs) (λ c. search needs) (λ c. search needs) returns-2 eat-requires (λ c. search needs) (λ c. search needs)
+      same-length-3 returns-3 value-requires same-length-4 returns-4 eat-any-requires-2 value-requires-2 (λ c. search needs) returns-5
+      value-requires-3 (λ c. search needs) returns-6

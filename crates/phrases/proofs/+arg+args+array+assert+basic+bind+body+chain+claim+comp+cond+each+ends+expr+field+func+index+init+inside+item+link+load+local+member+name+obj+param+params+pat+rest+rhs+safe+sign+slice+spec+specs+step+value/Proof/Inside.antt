@@ -1,296 +1,186 @@
--- The answers of `inside`.
+-- The answers of `inside`: a turn of its loop as a stretch to each place of its code, and from these what each call asks and each return owes.
 use borrow.Author.Needs.{needs}
 use native.Mathlib.Omega.{arith}
-use lib.Dec.{lit<, lit≤}
+use lib.Dec.{lit≤}
 use lib.ListN.{length}
-use mathlib.Core.Path.{_≡_, refl, sym, ap, subst, _∙_}
-use mathlib.Core.Logic.{⊎-elim}
-use mathlib.Core.List.{[], _∷_}
-use Prim.Native.Nat.{ℕ, _+_, _*_, _-_, _≤_, _<_}
+use mathlib.Core.Path.{refl, _∙_}
+use mathlib.Core.List.{List, [], _∷_}
+use Prim.Native.Nat.{ℕ, _+_, _-_, _≤_, _<_, _^_}
+use borrow.Author.Tests.{ne-eqb}
 use Rattle.leaves.proofs.Steps
 use Rattle.phrases.proofs.inside.Reads.{Post}
 use Rattle.phrases.proofs.+arg+args+array+assert+basic+bind+body+chain+claim+comp+cond+each+ends+expr+field+func+index+init+inside+item+link+load+local+member+name+obj+param+params+pat+rest+rhs+safe+sign+slice+spec+specs+step+value.Lts-inside as lts
 use Rattle.phrases.proofs.+arg+args+array+assert+basic+bind+body+chain+claim+comp+cond+each+ends+expr+field+func+index+init+inside+item+link+load+local+member+name+obj+param+params+pat+rest+rhs+safe+sign+slice+spec+specs+step+value.Proof.Frame.{inside-claims as K, inside-at as P}
-use Rattle.phrases.proofs.CountLaws.{member-grows}
 use Rattle.grammar.specs.Trees.{number}
-use Rattle.grammar.specs.Productions.{goto, end, close, _▸_, rule, inside, member}
+use Rattle.grammar.specs.Productions.{Body, goto, end, close, _▸_, rule, inside, member, members, next-member, comprehension}
 use Rattle.grammar.specs.Reading.{choose, has}
-use borrow.Author.Tests.{ne-eqb}
-use Rattle.leaves.proofs.LeafLaws.{fits, few, past-stands}
+use Rattle.leaves.specs.Lexing.{Stands}
+use Rattle.leaves.specs.Meets.{state, Seg}
+use Rattle.leaves.specs.declared.Cursor.{Cursor}
+use Rattle.phrases.proofs.CountLaws.{member-grows}
 use Rattle.leaves.proofs.LexemeLaws.{sight}
+use Rattle.leaves.proofs.LeafLaws.{fits, few, past-stands}
 use Rattle.phrases.proofs.ClauseLaws.{members-next, members-last, members-for}
 
 abbrev pub Inv-loop : lts.InvT-loop
-Inv-loop src out₀ w left set cur₀ at₀ n₀ fault₀ out cur at n fault = Steps.Turns set src left (goto inside) 0 cur₀ at₀ out₀ (goto (member fault)) n cur at out × (n ≤ cur .at) × (fault ≤ 4)
+Inv-loop src out₀ w left set cur₀ at₀ n₀ fault₀ out cur at n fault =
+    Steps.Turns set src left (goto inside) 0 cur₀ at₀ out₀ (goto (member fault)) n cur at out × (n ≤ cur .at) × (fault ≤ 4)
 
 abbrev pub μ-loop : lts.MeasureT-loop
 μ-loop src out₀ w left set cur₀ at₀ n₀ fault₀ out cur at n fault = length src - cur .at
 
-pub members-close-requires : (t : ℕ) → lts.Need-members-close-requires (K t) (P t) Post Inv-loop μ-loop
-members-close-requires t c κs =
-    let pre′ = c .before .before .before .before .before .pre in
-    (fits (pre′ .1), lit< tt)
+module _ (t : ℕ) where
+  abbrev Turn : Type 0
+  Turn = lts.At-loop (K t) (P t) Post Inv-loop μ-loop
 
-pub same-length : (t : ℕ) → lts.Need-same-length (K t) (P t) Post Inv-loop μ-loop
-same-length t c =
-    search needs
+  abbrev a₁ : Turn → lts.Start (K t) (P t) Post Inv-loop μ-loop
+  a₁ l = l .before .before .before .before .before
 
-pub returns : (t : ℕ) → lts.Need-returns (K t) (P t) Post Inv-loop μ-loop
-unfolding rule choose has sight
-returns t c =
-    let members-close′ = c .before .before .members-close in
-    let args′ = c .before .before .before .before .before .before .before .before .args in
-    let s = args′ .src .now in
-    let g = args′ .set in
-    let pre′ = c .before .before .before .before .before .before .before .before .pre in
-    let if1′ = c .before .before .before .before .if1 in
-    let begin = Steps.at g s (args′ .left) (goto inside) 0 (args′ .c) (args′ .w) (args′ .out .now) in
-    Steps.as-sub (Steps.tail (lit≤ tt) (members-close′ .ensures .ends s .ends g (args′ .left) 0) (Steps.known (close 9 (number 0 ∷ []) ▸ end) (pre′ .1 .stands) (if1′ .taken) (λ xs t. refl) begin))
+  -- a stretch of one turn
+  abbrev So : Turn → Body → ℕ → Cursor → ℕ → List ℕ → Type 0
+  So l b n c w o =
+      let a = a₁ l .args in
+      Seg (a .set) (a .src .now) (a .left) (state (goto (member (l .loop .fault))) (l .loop .n) (l .loop .cur) (l .loop .at) (l .loop .out)) 0 0 (state b n c w o)
 
-pub loop-holds : (t : ℕ) → lts.Need-loop-holds (K t) (P t) Post Inv-loop μ-loop
-unfolding rule choose has sight
-loop-holds t c =
-    let pre′ = c .before .before .before .before .pre in
-    let if1′ = c .if1 in
-    let args′ = c .before .before .before .before .args in
-    let g = args′ .set in
-    let s = args′ .src .now in
-    let begin = Steps.at g s (args′ .left) (goto inside) 0 (args′ .c) (args′ .w) (args′ .out .now) in
-    (record { ok = pre′ .1; seg = Steps.known (goto (member 4)) (pre′ .1 .stands) refl (λ xs t. simp (ne-eqb _ 28 (if1′ .left))) begin; same = refl }, omega arith, lit≤ tt)
+  -- ── A member ─────────────────────────────────────────────────────────────────────────────────────
 
-pub member-requires : (t : ℕ) → lts.Need-member-requires (K t) (P t) Post Inv-loop μ-loop
-member-requires t c κs =
-    let pre′ = c .before .before .before .before .before .before .pre in
-    let loop′ = c .before .loop in
-    let ok = loop′ .inv .0 .ok in
-    (omega (arith, pre′ .0), (ok, loop′ .inv .2))
+  abbrev One : Type 0
+  One = lts.After-a (K t) (P t) Post Inv-loop μ-loop
 
-pub enum-known-a : (t : ℕ) → lts.Need-enum-known-a (K t) (P t) Post Inv-loop μ-loop
-enum-known-a t c =
-    search needs
+  abbrev l₁ : One → Turn
+  l₁ c = c .before .before .before .before .before .before
 
-pub enum-told : (t : ℕ) → lts.Need-enum-told (K t) (P t) Post Inv-loop μ-loop
-enum-told t c =
-    search needs
+  -- what it tells: the fault that a comprehension would have
+  abbrev told : One → ℕ
+  told c = c .a .given .0 .1 .1 .0
 
-pub same-length-2 : (t : ℕ) → lts.Need-same-length-2 (K t) (P t) Post Inv-loop μ-loop
-same-length-2 t c =
-    let member′ = c .before .before .before .before .member in
-    let loop′ = c .before .before .before .before .before .before .loop in
-    member′ .kept .1 .0 ∙ loop′ .inv .0 .same
+  joined : (c : One) → So (l₁ c) (goto (members (told c))) (l₁ c .loop .n + 1) (c .a .given .0 .0) (c .a .given .0 .1 .0) (c .before .before .before .before .member .last .1 .0)
+  joined c = Steps.follows (c .before .before .before .before .member .ensures .joins (l₁ c .loop .n)) (c .a .given .1) Steps.here
 
-pub returns-2 : (t : ℕ) → lts.Need-returns-2 (K t) (P t) Post Inv-loop μ-loop
-returns-2 t c =
-    let member′ = c .before .before .before .before .member in
-    let loop′ = c .before .before .before .before .before .before .loop in
-    let match′ = c .before .match in
-    let so-far = loop′ .inv .0 .seg in
-    Steps.as-sub (Steps.passed (Steps.tells-broken (member′ .ensures .joins (loop′ .n)) (match′ .keys2)) so-far)
+  there : (c : One) → Stands (a₁ (l₁ c) .args .src .now) (c .a .given .0 .0)
+  there c = joined c .stands (l₁ c .loop .inv .0 .ok .stands)
 
-pub add-n : (t : ℕ) → lts.Need-add-n (K t) (P t) Post Inv-loop μ-loop
-add-n t c =
-    let loop′ = c .before .before .before .before .before .before .before .loop in
-    let ok = loop′ .inv .0 .ok in
-    record { fits = omega (arith, loop′ .inv .1, ok .short, ok .stands .within) }
+  small : (c : One) → told c ≤ 4
+  small c = Steps.told-small (c .before .before .before .before .member .ensures .joins (l₁ c .loop .n)) (c .a .given .1)
 
-pub past-comma-requires : (t : ℕ) → lts.Need-past-comma-requires (K t) (P t) Post Inv-loop μ-loop
-past-comma-requires t c κs =
-    let member′ = c .before .before .before .before .before .member in
-    let loop′ = c .before .before .before .before .before .before .before .loop in
-    let a′ = c .before .a in
-    let args′ = c .before .before .before .before .before .before .before .before .before .before .before .before .args in
-    let g = args′ .set in
-    let s = args′ .src .now in
-    let here = Steps.at g s (args′ .left) (goto (member (loop′ .fault))) (loop′ .n) (loop′ .cur) (loop′ .at) (loop′ .out) in
-    let joined = Steps.follows (member′ .ensures .joins (loop′ .n)) (a′ .given .1) here in
-    let ok = loop′ .inv .0 .ok in
-    let there = joined .stands (ok .stands) in
-    there
+  -- ── Past a comma, if there is one ────────────────────────────────────────────────────────────────
 
-pub comp-requires : (t : ℕ) → lts.Need-comp-requires (K t) (P t) Post Inv-loop μ-loop
-comp-requires t c κs =
-    let pre′ = c .before .before .before .before .before .before .before .before .before .before .before .before .before .before .before .before .pre in
-    let loop′ = c .before .before .before .before .before .before .before .before .before .before .before .loop in
-    let ok = loop′ .inv .0 .ok in
-    let member′ = c .before .before .before .before .before .before .before .before .before .member in
-    let a′ = c .before .before .before .before .before .a in
-    let args′ = c .before .before .before .before .before .before .before .before .before .before .before .before .before .before .before .before .args in
-    let g = args′ .set in
-    let s = args′ .src .now in
-    let here = Steps.at g s (args′ .left) (goto (member (loop′ .fault))) (loop′ .n) (loop′ .cur) (loop′ .at) (loop′ .out) in
-    let joined = Steps.follows (member′ .ensures .joins (loop′ .n)) (a′ .given .1) here in
-    let there = joined .stands (ok .stands) in
-    let past-comma′ = c .before .before .before .past-comma in
-    let if2′ = c .before .if2 in
-    let many = loop′ .inv .1 in
-    let grew = member-grows (member′ .ensures) (a′ .given .1) in
-    let on = past-stands there (past-comma′ .ensures) in
-    (omega (arith, pre′ .0), (Steps.ready ok (lit≤ tt) (members-for there (past-comma′ .ensures) (if2′ .taken) joined), if2′ .taken, omega (arith, many, grew, on .1), Steps.told-small (member′ .ensures .joins (loop′ .n)) (a′ .given .1)))
+  abbrev Next : Type 0
+  Next = lts.After-past-comma (K t) (P t) Post Inv-loop μ-loop
 
-pub same-length-3 : (t : ℕ) → lts.Need-same-length-3 (K t) (P t) Post Inv-loop μ-loop
-same-length-3 t c =
-    let comp′ = c .before .before .comp in
-    let member′ = c .before .before .before .before .before .before .before .before .before .before .before .before .member in
-    let loop′ = c .before .before .before .before .before .before .before .before .before .before .before .before .before .before .loop in
-    comp′ .kept .1 .0 ∙ member′ .kept .1 .0 ∙ loop′ .inv .0 .same
+  -- one turn's stretch to there
+  abbrev Then : Next → Body → Type 0
+  Then x b = let m = x .before .before in So (l₁ m) b (l₁ m .loop .n + 1) (x .past-comma .result) (m .a .given .0 .1 .0) (m .before .before .before .before .member .last .1 .0)
 
-pub returns-3 : (t : ℕ) → lts.Need-returns-3 (K t) (P t) Post Inv-loop μ-loop
-returns-3 t c =
-    let comp′ = c .before .before .comp in
-    let loop′ = c .before .before .before .before .before .before .before .before .before .before .before .before .before .before .loop in
-    let so-far = loop′ .inv .0 .seg in
-    let member′ = c .before .before .before .before .before .before .before .before .before .before .before .before .member in
-    let a′ = c .before .before .before .before .before .before .before .before .a in
-    let args′ = c .before .before .before .before .before .before .before .before .before .before .before .before .before .before .before .before .before .before .before .args in
-    let g = args′ .set in
-    let s = args′ .src .now in
-    let here = Steps.at g s (args′ .left) (goto (member (loop′ .fault))) (loop′ .n) (loop′ .cur) (loop′ .at) (loop′ .out) in
-    let joined = Steps.follows (member′ .ensures .joins (loop′ .n)) (a′ .given .1) here in
-    let ok = loop′ .inv .0 .ok in
-    let there = joined .stands (ok .stands) in
-    let past-comma′ = c .before .before .before .before .before .before .past-comma in
-    let if2′ = c .before .before .before .before .if2 in
-    Steps.as-sub (Steps.tail (lit≤ tt) (comp′ .ensures) (Steps.onto so-far (members-for there (past-comma′ .ensures) (if2′ .taken) joined)))
+  stood : (c : Next) → Stands (a₁ (l₁ (c .before .before)) .args .src .now) (c .past-comma .result)
+  stood c = past-stands (there (c .before .before)) (c .past-comma .ensures) .0
 
-pub members-close-requires-2 : (t : ℕ) → lts.Need-members-close-requires-2 (K t) (P t) Post Inv-loop μ-loop
-members-close-requires-2 t c κs =
-    let loop′ = c .before .before .before .before .before .before .before .before .before .before .before .before .before .loop in
-    let ok = loop′ .inv .0 .ok in
-    let member′ = c .before .before .before .before .before .before .before .before .before .before .before .member in
-    let a′ = c .before .before .before .before .before .before .before .a in
-    let args′ = c .before .before .before .before .before .before .before .before .before .before .before .before .before .before .before .before .before .before .args in
-    let g = args′ .set in
-    let s = args′ .src .now in
-    let here = Steps.at g s (args′ .left) (goto (member (loop′ .fault))) (loop′ .n) (loop′ .cur) (loop′ .at) (loop′ .out) in
-    let joined = Steps.follows (member′ .ensures .joins (loop′ .n)) (a′ .given .1) here in
-    let there = joined .stands (ok .stands) in
-    let past-comma′ = c .before .before .before .before .before .past-comma in
-    let if3′ = c .before .if3 in
-    let if2′ = c .before .before .before .if2 in
-    let last = members-last there (past-comma′ .ensures) (if3′ .taken) (if2′ .left) joined in
-    let many = loop′ .inv .1 in
-    let grew = member-grows (member′ .ensures) (a′ .given .1) in
-    let on = past-stands there (past-comma′ .ensures) in
-    (fits (Steps.ready ok (lit≤ tt) last), few (Steps.ready ok (lit≤ tt) last) (omega (arith, many, grew, on .1)))
+  grown : (c : Next) → l₁ (c .before .before) .loop .cur .at + 1 ≤ c .past-comma .result .at
+  grown c = let m = c .before .before in omega (arith, member-grows (m .before .before .before .before .member .ensures) (m .a .given .1), past-stands (there m) (c .past-comma .ensures) .1)
 
-pub same-length-4 : (t : ℕ) → lts.Need-same-length-4 (K t) (P t) Post Inv-loop μ-loop
-same-length-4 t c =
-    let members-close2′ = c .before .before .members-close2 in
-    let member′ = c .before .before .before .before .before .before .before .before .before .before .before .before .before .before .member in
-    let loop′ = c .before .before .before .before .before .before .before .before .before .before .before .before .before .before .before .before .loop in
-    members-close2′ .kept .0 ∙ member′ .kept .1 .0 ∙ loop′ .inv .0 .same
+  many : (c : Next) → l₁ (c .before .before) .loop .n + 1 ≤ c .past-comma .result .at
+  many c = omega (arith, l₁ (c .before .before) .loop .inv .1, grown c)
 
-pub returns-4 : (t : ℕ) → lts.Need-returns-4 (K t) (P t) Post Inv-loop μ-loop
-returns-4 t c =
-    let members-close2′ = c .before .before .members-close2 in
-    let args′ = c .before .before .before .before .before .before .before .before .before .before .before .before .before .before .before .before .before .before .before .before .before .args in
-    let s = args′ .src .now in
-    let g = args′ .set in
-    let loop′ = c .before .before .before .before .before .before .before .before .before .before .before .before .before .before .before .before .loop in
-    let so-far = loop′ .inv .0 .seg in
-    let member′ = c .before .before .before .before .before .before .before .before .before .before .before .before .before .before .member in
-    let a′ = c .before .before .before .before .before .before .before .before .before .before .a in
-    let here = Steps.at g s (args′ .left) (goto (member (loop′ .fault))) (loop′ .n) (loop′ .cur) (loop′ .at) (loop′ .out) in
-    let joined = Steps.follows (member′ .ensures .joins (loop′ .n)) (a′ .given .1) here in
-    let ok = loop′ .inv .0 .ok in
-    let there = joined .stands (ok .stands) in
-    let past-comma′ = c .before .before .before .before .before .before .before .before .past-comma in
-    let if3′ = c .before .before .before .before .if3 in
-    let if2′ = c .before .before .before .before .before .before .if2 in
-    let last = members-last there (past-comma′ .ensures) (if3′ .taken) (if2′ .left) joined in
-    Steps.as-sub (Steps.tail (lit≤ tt) (members-close2′ .ensures .ends s .ends g (args′ .left) (loop′ .n + 1)) (Steps.onto so-far last))
+  -- the record of all members
+  abbrev shape : Next → Body
+  shape c = close 9 (number (l₁ (c .before .before) .loop .n + 1) ∷ []) ▸ end
 
-pub members-close-requires-3 : (t : ℕ) → lts.Need-members-close-requires-3 (K t) (P t) Post Inv-loop μ-loop
-unfolding rule choose has sight
-members-close-requires-3 t c κs =
-    let loop′ = c .before .before .before .before .before .before .before .before .before .before .before .before .before .before .before .loop in
-    let ok = loop′ .inv .0 .ok in
-    let member′ = c .before .before .before .before .before .before .before .before .before .before .before .before .before .member in
-    let a′ = c .before .before .before .before .before .before .before .before .before .a in
-    let args′ = c .before .before .before .before .before .before .before .before .before .before .before .before .before .before .before .before .before .before .before .before .args in
-    let g = args′ .set in
-    let s = args′ .src .now in
-    let here = Steps.at g s (args′ .left) (goto (member (loop′ .fault))) (loop′ .n) (loop′ .cur) (loop′ .at) (loop′ .out) in
-    let joined = Steps.follows (member′ .ensures .joins (loop′ .n)) (a′ .given .1) here in
-    let there = joined .stands (ok .stands) in
-    let past-comma′ = c .before .before .before .before .before .before .before .past-comma in
-    let on = past-stands there (past-comma′ .ensures) in
-    let if4′ = c .before .if4 in
-    let if3′ = c .before .before .before .if3 in
-    let next = members-next there (past-comma′ .ensures) (if3′ .left) joined in
-    let shut = Steps.known (close 9 (number (loop′ .n + 1) ∷ []) ▸ end) (on .0) (if4′ .taken) (λ xs t. refl) next in
-    let many = loop′ .inv .1 in
-    let grew = member-grows (member′ .ensures) (a′ .given .1) in
-    (fits (Steps.ready ok (lit≤ tt) shut), few (Steps.ready ok (lit≤ tt) shut) (omega (arith, many, grew, on .1)))
+  at-for : (c : lts.Then2 (K t) (P t) Post Inv-loop μ-loop) → let x = c .before .before in Then x (goto (comprehension (told (x .before .before))))
+  at-for c = let x = c .before .before in members-for (there (x .before .before)) (x .past-comma .ensures) (c .if2 .taken) (joined (x .before .before))
 
-pub same-length-5 : (t : ℕ) → lts.Need-same-length-5 (K t) (P t) Post Inv-loop μ-loop
-same-length-5 t c =
-    let members-close3′ = c .before .before .members-close3 in
-    let member′ = c .before .before .before .before .before .before .before .before .before .before .before .before .before .before .before .before .member in
-    let loop′ = c .before .before .before .before .before .before .before .before .before .before .before .before .before .before .before .before .before .before .loop in
-    members-close3′ .kept .0 ∙ member′ .kept .1 .0 ∙ loop′ .inv .0 .same
+  last : (c : lts.Then3 (K t) (P t) Post Inv-loop μ-loop) → let x = c .before .before .before .before in Then x (shape x)
+  last c = let x = c .before .before .before .before in members-last (there (x .before .before)) (x .past-comma .ensures) (c .if3 .taken) (c .before .before .if2 .left) (joined (x .before .before))
 
-pub returns-5 : (t : ℕ) → lts.Need-returns-5 (K t) (P t) Post Inv-loop μ-loop
-unfolding rule choose has sight
-returns-5 t c =
-    let members-close3′ = c .before .before .members-close3 in
-    let args′ = c .before .before .before .before .before .before .before .before .before .before .before .before .before .before .before .before .before .before .before .before .before .before .before .args in
-    let s = args′ .src .now in
-    let g = args′ .set in
-    let loop′ = c .before .before .before .before .before .before .before .before .before .before .before .before .before .before .before .before .before .before .loop in
-    let so-far = loop′ .inv .0 .seg in
-    let member′ = c .before .before .before .before .before .before .before .before .before .before .before .before .before .before .before .before .member in
-    let a′ = c .before .before .before .before .before .before .before .before .before .before .before .before .a in
-    let here = Steps.at g s (args′ .left) (goto (member (loop′ .fault))) (loop′ .n) (loop′ .cur) (loop′ .at) (loop′ .out) in
-    let joined = Steps.follows (member′ .ensures .joins (loop′ .n)) (a′ .given .1) here in
-    let ok = loop′ .inv .0 .ok in
-    let there = joined .stands (ok .stands) in
-    let past-comma′ = c .before .before .before .before .before .before .before .before .before .before .past-comma in
-    let on = past-stands there (past-comma′ .ensures) in
-    let if4′ = c .before .before .before .before .if4 in
-    let if3′ = c .before .before .before .before .before .before .if3 in
-    let next = members-next there (past-comma′ .ensures) (if3′ .left) joined in
-    let shut = Steps.known (close 9 (number (loop′ .n + 1) ∷ []) ▸ end) (on .0) (if4′ .taken) (λ xs t. refl) next in
-    Steps.as-sub (Steps.tail (lit≤ tt) (members-close3′ .ensures .ends s .ends g (args′ .left) (loop′ .n + 1)) (Steps.onto so-far shut))
+  abbrev x₃ : lts.Else3 (K t) (P t) Post Inv-loop μ-loop → Next
+  x₃ c = c .before .before .before .before
 
-pub loop-less : (t : ℕ) → lts.Need-loop-less (K t) (P t) Post Inv-loop μ-loop
-loop-less t c =
-    let member′ = c .before .before .before .before .before .before .before .before .before .before .before .before .member in
-    let a′ = c .before .before .before .before .before .before .before .before .a in
-    let grew = member-grows (member′ .ensures) (a′ .given .1) in
-    let loop′ = c .before .before .before .before .before .before .before .before .before .before .before .before .before .before .loop in
-    let args′ = c .before .before .before .before .before .before .before .before .before .before .before .before .before .before .before .before .before .before .before .args in
-    let g = args′ .set in
-    let s = args′ .src .now in
-    let here = Steps.at g s (args′ .left) (goto (member (loop′ .fault))) (loop′ .n) (loop′ .cur) (loop′ .at) (loop′ .out) in
-    let joined = Steps.follows (member′ .ensures .joins (loop′ .n)) (a′ .given .1) here in
-    let ok = loop′ .inv .0 .ok in
-    let there = joined .stands (ok .stands) in
-    let past-comma′ = c .before .before .before .before .before .before .past-comma in
-    let on = past-stands there (past-comma′ .ensures) in
-    omega (arith, grew, on .1, on .0 .within)
+  next : (c : lts.Else3 (K t) (P t) Post Inv-loop μ-loop) → let x = x₃ c in Then x (goto (next-member (told (x .before .before))))
+  next c = let x = x₃ c in members-next (there (x .before .before)) (x .past-comma .ensures) (c .if3 .left) (joined (x .before .before))
 
-pub loop-again : (t : ℕ) → lts.Need-loop-again (K t) (P t) Post Inv-loop μ-loop
-unfolding rule choose has sight
-loop-again t c =
-    let loop′ = c .before .before .before .before .before .before .before .before .before .before .before .before .before .before .loop in
-    let a′ = c .before .before .before .before .before .before .before .before .a in
-    let f = a′ .given .0 .1 .1 .0 in
-    let member′ = c .before .before .before .before .before .before .before .before .before .before .before .before .member in
-    let args′ = c .before .before .before .before .before .before .before .before .before .before .before .before .before .before .before .before .before .before .before .args in
-    let g = args′ .set in
-    let s = args′ .src .now in
-    let here = Steps.at g s (args′ .left) (goto (member (loop′ .fault))) (loop′ .n) (loop′ .cur) (loop′ .at) (loop′ .out) in
-    let joined = Steps.follows (member′ .ensures .joins (loop′ .n)) (a′ .given .1) here in
-    let ok = loop′ .inv .0 .ok in
-    let there = joined .stands (ok .stands) in
-    let past-comma′ = c .before .before .before .before .before .before .past-comma in
-    let on = past-stands there (past-comma′ .ensures) in
-    let if4′ = c .if4 in
-    let if2′ = c .before .before .before .before .if2 in
-    let if3′ = c .before .before .if3 in
-    let next = members-next there (past-comma′ .ensures) (if3′ .left) joined in
-    let again = Steps.known (goto (member f)) (on .0) refl (λ xs t. simp (ne-eqb _ 28 (if4′ .left), ne-eqb _ 83 (if2′ .left))) next in
-    let many = loop′ .inv .1 in
-    let grew = member-grows (member′ .ensures) (a′ .given .1) in
-    (Steps.turned (loop′ .inv .0) (lit≤ tt) again, omega (arith, many, grew, on .1), Steps.told-small (member′ .ensures .joins (loop′ .n)) (a′ .given .1))
+  shut : (c : lts.Then4 (K t) (P t) Post Inv-loop μ-loop) → let x = x₃ (c .before .before) in Then x (shape x)
+  unfolding rule choose has sight
+  shut c = let x = x₃ (c .before .before) in Steps.known (shape x) (stood x) (c .if4 .taken) (λ xs t. refl) (next (c .before .before))
+
+  again : (c : lts.Else4 (K t) (P t) Post Inv-loop μ-loop) → let x = x₃ (c .before .before) in Then x (goto (member (told (x .before .before))))
+  unfolding rule choose has sight
+  again c =
+      let x = x₃ (c .before .before) in
+      Steps.known (goto (member (told (x .before .before)))) (stood x) refl
+      (λ xs t. simp (ne-eqb _ 28 (c .if4 .left), ne-eqb _ 83 (c .before .before .before .before .if2 .left))) (next (c .before .before))
+
+  -- the record fits
+  brief : (x : Next) → Then x (shape x) → (x .before .before .a .given .0 .1 .0 < 2 ^ 40) × (l₁ (x .before .before) .loop .n + 1 < 65536)
+  brief x p = let r = Steps.ready (l₁ (x .before .before) .loop .inv .0 .ok) (lit≤ tt) p in (fits r, few r (many x))
+
+  -- ── The loop, and what each call asks ────────────────────────────────────────────────────────────
+
+  loop-holds : lts.Need-loop-holds (K t) (P t) Post Inv-loop μ-loop
+  unfolding rule choose has sight
+  loop-holds c =
+      let r = c .before .before .before .before .pre .1 in
+      (record { ok = r; seg = Steps.known (goto (member 4)) (r .stands) refl (λ xs t. simp (ne-eqb _ 28 (c .if1 .left))) Steps.here; same = refl }, omega arith, lit≤ tt)
+
+  past-comma-requires : lts.Need-past-comma-requires (K t) (P t) Post Inv-loop μ-loop
+  past-comma-requires c κs = there (c .before)
+
+  comp-requires : lts.Need-comp-requires (K t) (P t) Post Inv-loop μ-loop
+  comp-requires c κs =
+      let e = c .before in let x = e .before .before in
+      (omega (arith, a₁ (l₁ (x .before .before)) .pre .0), (Steps.ready (l₁ (x .before .before) .loop .inv .0 .ok) (lit≤ tt) (at-for e), e .if2 .taken, many x, small (x .before .before)))
+
+  members-close-requires-2 : lts.Need-members-close-requires-2 (K t) (P t) Post Inv-loop μ-loop
+  members-close-requires-2 c κs = let e = c .before in brief (e .before .before .before .before) (last e)
+
+  members-close-requires-3 : lts.Need-members-close-requires-3 (K t) (P t) Post Inv-loop μ-loop
+  members-close-requires-3 c κs = let e = c .before in brief (x₃ (e .before .before)) (shut e)
+
+  loop-less : lts.Need-loop-less (K t) (P t) Post Inv-loop μ-loop
+  loop-less c = let x = x₃ (c .before .before) in omega (arith, grown x, stood x .within)
+
+  loop-again : lts.Need-loop-again (K t) (P t) Post Inv-loop μ-loop
+  loop-again c = let x = x₃ (c .before .before) in (Steps.turned (l₁ (x .before .before) .loop .inv .0) (lit≤ tt) (again c), many x, small (x .before .before))
+
+  -- ── What each return owes ────────────────────────────────────────────────────────────────────────
+
+  returns : lts.Need-returns (K t) (P t) Post Inv-loop μ-loop
+  unfolding rule choose has sight
+  returns c =
+      let a = c .before .before .before .before .before .before .before .before in
+      Steps.as-sub (Steps.tail (lit≤ tt) (c .before .before .members-close .ensures .ends (a .args .src .now) .ends (a .args .set) (a .args .left) 0)
+      (Steps.known (close 9 (number 0 ∷ []) ▸ end) (a .pre .1 .stands) (c .before .before .before .before .if1 .taken) (λ xs t. refl) Steps.here))
+
+  returns-2 : lts.Need-returns-2 (K t) (P t) Post Inv-loop μ-loop
+  returns-2 c =
+      let x = c .before .before .before .before in let l = x .before .before in
+      Steps.as-sub (Steps.passed (Steps.tells-broken (x .member .ensures .joins (l .loop .n)) (c .before .match .keys2)) (l .loop .inv .0 .seg))
+
+  returns-3 : lts.Need-returns-3 (K t) (P t) Post Inv-loop μ-loop
+  returns-3 c =
+      let e = c .before .before .before .before in
+      Steps.as-sub (Steps.tail (lit≤ tt) (c .before .before .comp .ensures) (Steps.onto (l₁ (e .before .before .before .before) .loop .inv .0 .seg) (at-for e)))
+
+  returns-4 : lts.Need-returns-4 (K t) (P t) Post Inv-loop μ-loop
+  returns-4 c =
+      let e = c .before .before .before .before in
+      let l = l₁ (e .before .before .before .before .before .before) in let a = a₁ l .args in
+      Steps.as-sub (Steps.tail (lit≤ tt) (c .before .before .members-close2 .ensures .ends (a .src .now) .ends (a .set) (a .left) (l .loop .n + 1))
+      (Steps.onto (l .loop .inv .0 .seg) (last e)))
+
+  same-length-5 : lts.Need-same-length-5 (K t) (P t) Post Inv-loop μ-loop
+  same-length-5 c =
+      let m = x₃ (c .before .before .before .before .before .before) .before .before in
+      c .before .before .members-close3 .kept .0 ∙ m .before .before .before .before .member .kept .1 .0 ∙ l₁ m .loop .inv .0 .same
+
+  returns-5 : lts.Need-returns-5 (K t) (P t) Post Inv-loop μ-loop
+  returns-5 c =
+      let e = c .before .before .before .before in let l = l₁ (x₃ (e .before .before) .before .before) in
+      let a = a₁ l .args in
+      Steps.as-sub (Steps.tail (lit≤ tt) (c .before .before .members-close3 .ensures .ends (a .src .now) .ends (a .set) (a .left) (l .loop .n + 1))
+      (Steps.onto (l .loop .inv .0 .seg) (shut e)))
+
+  -- All of them, in the order of the code.
+  pub met : {M : Type 1} → lts.Closed (K t) (P t) Post M
+  met =
+      lts.spec (K t) (P t) Post Inv-loop μ-loop (λ c κs. search needs) (λ c. search needs) returns loop-holds (λ c κs. search needs)
+      (λ c. search needs) (λ c. search needs) (λ c. search needs) returns-2 (λ c. search needs) past-comma-requires comp-requires (λ c. search needs)
+      returns-3 members-close-requires-2 (λ c. search needs) returns-4 members-close-requires-3 same-length-5 returns-5 loop-less loop-again

@@ -1,97 +1,68 @@
--- The answers of `load`.
+-- The answers of `load`: the stretch from its start to each place of its code, and from these what each call asks and each return owes.
 use borrow.Author.Needs.{needs}
 use native.Mathlib.Omega.{arith}
-use lib.Dec.{lit<, lit≤}
-use lib.ListN.{length}
-use mathlib.Core.Path.{_≡_, refl, sym, ap, subst, _∙_}
-use mathlib.Core.Logic.{⊎-elim}
-use mathlib.Core.List.{[], _∷_}
-use Prim.Native.Nat.{ℕ, _+_, _*_, _-_, _≤_, _<_}
+use lib.Dec.{lit≤}
+use mathlib.Core.Path.{refl}
+use mathlib.Core.List.{List, [], _∷_}
+use Prim.Native.Nat.{ℕ}
 use Rattle.leaves.proofs.Steps
 use Rattle.phrases.proofs.load.Reads.{Post}
 use Rattle.phrases.proofs.+arg+args+array+assert+basic+bind+body+chain+claim+comp+cond+each+ends+expr+field+func+index+init+inside+item+link+load+local+member+name+obj+param+params+pat+rest+rhs+safe+sign+slice+spec+specs+step+value.Lts-load as lts
 use Rattle.phrases.proofs.+arg+args+array+assert+basic+bind+body+chain+claim+comp+cond+each+ends+expr+field+func+index+init+inside+item+link+load+local+member+name+obj+param+params+pat+rest+rhs+safe+sign+slice+spec+specs+step+value.Proof.Frame.{load-claims as K, load-at as P}
 use Rattle.grammar.specs.Image.{entry, payload}
 use Rattle.grammar.specs.Trees.{byte, span}
-use Rattle.grammar.specs.Productions.{goto, end, eat, close, _▸_, expression, basic}
+use Rattle.grammar.specs.Productions.{Body, goto, end, eat, close, _▸_, expression, basic}
+use Rattle.leaves.specs.Meets.{state, Seg}
+use Rattle.leaves.specs.declared.Cursor.{Cursor}
 use Rattle.leaves.proofs.LeafLaws.{within}
 use Rattle.phrases.proofs.KeywordLaws.{import-some, imports-on}
 
-pub eat-any-requires : (t : ℕ) → lts.Need-eat-any-requires (K t) (P t) Post
-eat-any-requires t c κs =
-    let pre′ = c .before .before .before .pre in
-    pre′ .1 .0 .stands
+module _ (t : ℕ) where
+  -- a stretch from the start over the keyword, to a body with n trees
+  abbrev So : lts.Start (K t) (P t) Post → Body → ℕ → Cursor → ℕ → List ℕ → Type 0
+  So a b n c w o = Seg (a .args .set) (a .args .src .now) (a .args .left) (state (goto basic) 0 (a .args .c) (a .args .w) (a .args .out .now)) 1 0 (state b n c w o)
 
-pub expr-requires : (t : ℕ) → lts.Need-expr-requires (K t) (P t) Post
-expr-requires t c κs =
-    let pre′ = c .before .before .before .before .pre in
-    let st = pre′ .1 .0 .stands in
-    let eat-any′ = c .eat-any in
-    let args′ = c .before .before .before .before .args in
-    let g = args′ .set in
-    let s = args′ .src .now in
-    let begin = Steps.known (eat (args′ .c .kind) ▸ expression ▸ close 16 (byte (args′ .which) ∷ span (args′ .c .start) (args′ .c .end) ∷ []) ▸ end) st refl (λ xs t. imports-on g (args′ .c) xs 0 t (pre′ .1 .1)) (Steps.at g s (args′ .left) (goto basic) 0 (args′ .c) (args′ .w) (args′ .out .now)) in
-    let opened = Steps.taken (import-some (pre′ .1 .1)) st (eat-any′ .ensures) refl begin in
-    (omega (arith, pre′ .0), Steps.ready (pre′ .1 .0) (lit≤ tt) opened)
+  -- the record
+  abbrev shut : lts.Start (K t) (P t) Post → Body
+  shut a = close 16 (byte (a .args .which) ∷ span (a .args .c .start) (a .args .c .end) ∷ []) ▸ end
 
-pub enum-known-a : (t : ℕ) → lts.Need-enum-known-a (K t) (P t) Post
-enum-known-a t c =
-    search needs
+  abbrev a₀ : lts.After-eat-any (K t) (P t) Post → lts.Start (K t) (P t) Post
+  a₀ c = c .before .before .before .before
 
-pub enum-told : (t : ℕ) → lts.Need-enum-told (K t) (P t) Post
-enum-told t c =
-    search needs
+  opened : (c : lts.After-eat-any (K t) (P t) Post) → So (a₀ c) (expression ▸ shut (a₀ c)) 0 (c .eat-any .result) (a₀ c .args .w) (a₀ c .args .out .now)
+  opened c =
+      let a = a₀ c in let st = a .pre .1 .0 .stands in
+      Steps.taken (import-some (a .pre .1 .1)) st (c .eat-any .ensures) refl
+      (Steps.known (eat (a .args .c .kind) ▸ expression ▸ shut a) st refl (λ xs t. imports-on (a .args .set) (a .args .c) xs 0 t (a .pre .1 .1)) Steps.here)
 
-pub same-length : (t : ℕ) → lts.Need-same-length (K t) (P t) Post
-same-length t c =
-    search needs
+  abbrev c₁ : lts.After-a (K t) (P t) Post → lts.After-expr (K t) (P t) Post
+  c₁ c = c .before .before .before .before
 
-pub returns : (t : ℕ) → lts.Need-returns (K t) (P t) Post
-returns t c =
-    let expr′ = c .before .before .before .before .expr in
-    let match′ = c .before .match in
-    let pre′ = c .before .before .before .before .before .before .before .before .before .pre in
-    let st = pre′ .1 .0 .stands in
-    let eat-any′ = c .before .before .before .before .before .eat-any in
-    let args′ = c .before .before .before .before .before .before .before .before .before .args in
-    let g = args′ .set in
-    let s = args′ .src .now in
-    let begin = Steps.known (eat (args′ .c .kind) ▸ expression ▸ close 16 (byte (args′ .which) ∷ span (args′ .c .start) (args′ .c .end) ∷ []) ▸ end) st refl (λ xs t. imports-on g (args′ .c) xs 0 t (pre′ .1 .1)) (Steps.at g s (args′ .left) (goto basic) 0 (args′ .c) (args′ .w) (args′ .out .now)) in
-    let opened = Steps.taken (import-some (pre′ .1 .1)) st (eat-any′ .ensures) refl begin in
-    Steps.passed (Steps.takes-broken (expr′ .ensures) (match′ .keys2)) opened
+  abbrev a₁ : lts.After-a (K t) (P t) Post → lts.Start (K t) (P t) Post
+  a₁ c = a₀ (c₁ c .before)
 
-pub put-kind-requires : (t : ℕ) → lts.Need-put-kind-requires (K t) (P t) Post
-put-kind-requires t c κs =
-    let pre′ = c .before .before .before .before .before .before .before .before .before .before .before .pre in
-    let expr′ = c .before .before .before .before .before .before .expr in
-    let a′ = c .before .before .a in
-    let st = pre′ .1 .0 .stands in
-    let eat-any′ = c .before .before .before .before .before .before .before .eat-any in
-    let args′ = c .before .before .before .before .before .before .before .before .before .before .before .args in
-    let g = args′ .set in
-    let s = args′ .src .now in
-    let begin = Steps.known (eat (args′ .c .kind) ▸ expression ▸ close 16 (byte (args′ .which) ∷ span (args′ .c .start) (args′ .c .end) ∷ []) ▸ end) st refl (λ xs t. imports-on g (args′ .c) xs 0 t (pre′ .1 .1)) (Steps.at g s (args′ .left) (goto basic) 0 (args′ .c) (args′ .w) (args′ .out .now)) in
-    let opened = Steps.taken (import-some (pre′ .1 .1)) st (eat-any′ .ensures) refl begin in
-    let value = Steps.took (expr′ .ensures) (a′ .given .1) opened in
-    (Steps.fits (pre′ .1 .0) (lit≤ tt) value, within (pre′ .1 .0) .0, within (pre′ .1 .0) .1)
+  value : (c : lts.After-a (K t) (P t) Post) → So (a₁ c) (shut (a₁ c)) 1 (c .a .given .0 .0) (c .a .given .0 .1 .0) (c₁ c .expr .last .1 .0)
+  value c = Steps.took (c₁ c .expr .ensures) (c .a .given .1) (opened (c₁ c .before))
 
-pub same-length-2 : (t : ℕ) → lts.Need-same-length-2 (K t) (P t) Post
-same-length-2 t c =
-    search needs
+  -- ── What each call asks ─────────────────────────────────────────────────────────────────────────
 
-pub returns-2 : (t : ℕ) → lts.Need-returns-2 (K t) (P t) Post
-unfolding entry payload
-returns-2 t c =
-    let put-kind′ = c .before .before .put-kind in
-    let expr′ = c .before .before .before .before .before .before .before .before .before .expr in
-    let a′ = c .before .before .before .before .before .a in
-    let pre′ = c .before .before .before .before .before .before .before .before .before .before .before .before .before .before .pre in
-    let st = pre′ .1 .0 .stands in
-    let eat-any′ = c .before .before .before .before .before .before .before .before .before .before .eat-any in
-    let args′ = c .before .before .before .before .before .before .before .before .before .before .before .before .before .before .args in
-    let g = args′ .set in
-    let s = args′ .src .now in
-    let begin = Steps.known (eat (args′ .c .kind) ▸ expression ▸ close 16 (byte (args′ .which) ∷ span (args′ .c .start) (args′ .c .end) ∷ []) ▸ end) st refl (λ xs t. imports-on g (args′ .c) xs 0 t (pre′ .1 .1)) (Steps.at g s (args′ .left) (goto basic) 0 (args′ .c) (args′ .w) (args′ .out .now)) in
-    let opened = Steps.taken (import-some (pre′ .1 .1)) st (eat-any′ .ensures) refl begin in
-    let value = Steps.took (expr′ .ensures) (a′ .given .1) opened in
-    Steps.ends (lit≤ tt) (Steps.closed 8 (lit≤ tt) (put-kind′ .ensures) value)
+  expr-requires : lts.Need-expr-requires (K t) (P t) Post
+  expr-requires c κs = let p = a₀ c .pre in (omega (arith, p .0), Steps.ready (p .1 .0) (lit≤ tt) (opened c))
+
+  put-kind-requires : lts.Need-put-kind-requires (K t) (P t) Post
+  put-kind-requires c κs = let a = c .before .before in let p = a₁ a .pre .1 .0 in (Steps.fits p (lit≤ tt) (value a), within p .0, within p .1)
+
+  -- ── What each return owes ───────────────────────────────────────────────────────────────────────
+
+  returns : lts.Need-returns (K t) (P t) Post
+  returns c = let x = c .before .before .before .before in Steps.passed (Steps.takes-broken (x .expr .ensures) (c .before .match .keys2)) (opened (x .before))
+
+  returns-2 : lts.Need-returns-2 (K t) (P t) Post
+  unfolding entry payload
+  returns-2 c = let x = c .before .before in Steps.ends (lit≤ tt) (Steps.closed 8 (lit≤ tt) (x .put-kind .ensures) (value (x .before .before .before)))
+
+  -- All of them, in the order of the code.
+  pub met : {M : Type 1} → lts.Closed (K t) (P t) Post M
+  met =
+      lts.spec (K t) (P t) Post (λ c κs. search needs) expr-requires (λ c. search needs) (λ c. search needs) (λ c. search needs) returns
+      put-kind-requires (λ c. search needs) returns-2

@@ -1,229 +1,98 @@
--- The answers of `member`.
+-- The answers of `member`: the stretch from its start to each place of its code, whatever trees it had, and from these what each call asks and each return owes.
 use borrow.Author.Needs.{needs}
 use native.Mathlib.Omega.{arith}
 use lib.Dec.{lit<, lit≤}
-use lib.ListN.{length}
-use mathlib.Core.Path.{_≡_, refl, sym, ap, subst, _∙_}
-use mathlib.Core.Logic.{⊎-elim}
-use mathlib.Core.List.{[], _∷_}
-use Prim.Native.Nat.{ℕ, _+_, _*_, _-_, _≤_, _<_}
+use mathlib.Core.Path.{refl, sym, ap}
+use Prim.Native.Nat.{ℕ}
+use borrow.Author.Tests.{ne-eqb}
 use Rattle.leaves.proofs.Steps
 use Rattle.phrases.proofs.member.Reads.{Post}
 use Rattle.phrases.proofs.+arg+args+array+assert+basic+bind+body+chain+claim+comp+cond+each+ends+expr+field+func+index+init+inside+item+link+load+local+member+name+obj+param+params+pat+rest+rhs+safe+sign+slice+spec+specs+step+value.Lts-member as lts
 use Rattle.phrases.proofs.+arg+args+array+assert+basic+bind+body+chain+claim+comp+cond+each+ends+expr+field+func+index+init+inside+item+link+load+local+member+name+obj+param+params+pat+rest+rhs+safe+sign+slice+spec+specs+step+value.Proof.Frame.{member-claims as K, member-at as P}
-use borrow.Author.Tests.{ne-eqb}
-use Rattle.grammar.specs.Productions.{Body, goto, end, eat, leaf, sub, deep, close, _▸_, rule, bind, assertion, field, member, members, with-field, with-assert}
+use Rattle.grammar.specs.Productions.{Body, goto, eat, sub, _▸_, rule, bind, assertion, field, member, members, with-field, with-assert}
 use Rattle.grammar.specs.Reading.{choose, has}
-use Rattle.leaves.specs.Meets.{joined}
+use Rattle.leaves.specs.Meets.{state, Seg, joined}
+use Rattle.leaves.specs.declared.Cursor.{Cursor}
 use Rattle.leaves.proofs.LexemeLaws.{sight}
 
-pub eat-any-requires : (t : ℕ) → lts.Need-eat-any-requires (K t) (P t) Post
-eat-any-requires t c κs =
-    let pre′ = c .before .before .before .before .before .pre in
-    let st = pre′ .1 .0 .stands in
-    st
+module _ (t : ℕ) where
+  -- a stretch from the start with n trees, of which e bytes are taken and nothing is written
+  abbrev So : lts.Start (K t) (P t) Post → ℕ → ℕ → Body → Cursor → Type 0
+  So a n e b c = let x = a .args in Seg (x .set) (x .src .now) (x .left) (state (goto (member (x .fault))) n (x .c) (x .w) (x .out .now)) e 0 (state b n c (x .w) (x .out .now))
 
-pub bind-requires : (t : ℕ) → lts.Need-bind-requires (K t) (P t) Post
-unfolding rule choose has sight
-bind-requires t c κs =
-    let pre′ = c .before .before .before .before .before .before .pre in
-    let st = pre′ .1 .0 .stands in
-    let eat-any′ = c .eat-any in
-    let if1′ = c .before .before .if1 in
-    let args′ = c .before .before .before .before .before .before .args in
-    let fault = args′ .fault in
-    let g = args′ .set in
-    let s = args′ .src .now in
-    let begin = Steps.at g s (args′ .left) (goto (member fault)) 0 (args′ .c) (args′ .w) (args′ .out .now) in
-    let local = Steps.taken (lit< tt) st (eat-any′ .ensures) (if1′ .taken) (Steps.known (eat 67 ▸ sub bind ▸ goto (members fault)) st (if1′ .taken) (λ xs t. refl) begin) in
-    (omega (arith, pre′ .0), Steps.ready (pre′ .1 .0) (lit≤ tt) local)
+  -- ── The three kinds of members ──────────────────────────────────────────────────────────────────
 
-pub enum-known-a : (t : ℕ) → lts.Need-enum-known-a (K t) (P t) Post
-enum-known-a t c =
-    search needs
+  abbrev a₀ : lts.After-eat-any (K t) (P t) Post → lts.Start (K t) (P t) Post
+  a₀ c = c .before .before .before .before .before .before
 
-pub enum-told : (t : ℕ) → lts.Need-enum-told (K t) (P t) Post
-enum-told t c =
-    search needs
+  local : (n : ℕ) (c : lts.After-eat-any (K t) (P t) Post) → So (a₀ c) n 1 (sub bind ▸ goto (members (a₀ c .args .fault))) (c .eat-any .result)
+  unfolding rule choose has sight
+  local n c =
+      let st = a₀ c .pre .1 .0 .stands in let at-local = c .before .before .if1 .taken in
+      Steps.taken (lit< tt) st (c .eat-any .ensures) at-local
+      (Steps.known (eat 67 ▸ sub bind ▸ goto (members (a₀ c .args .fault))) st at-local (λ xs t. refl) Steps.here)
 
-pub same-length : (t : ℕ) → lts.Need-same-length (K t) (P t) Post
-same-length t c =
-    search needs
+  abbrev a₁ : lts.Then2 (K t) (P t) Post → lts.Start (K t) (P t) Post
+  a₁ c = c .before .before .before .before .before .before
 
-pub returns : (t : ℕ) → lts.Need-returns (K t) (P t) Post
-unfolding rule choose has sight
-returns t c =
-    let args′ = c .before .before .before .before .before .before .before .before .before .before .before .args in
-    let g = args′ .set in
-    let s = args′ .src .now in
-    let fault = args′ .fault in
-    let pre′ = c .before .before .before .before .before .before .before .before .before .before .before .pre in
-    let st = pre′ .1 .0 .stands in
-    let eat-any′ = c .before .before .before .before .before .eat-any in
-    let if1′ = c .before .before .before .before .before .before .before .if1 in
-    let bind′ = c .before .before .before .before .bind in
-    let match′ = c .before .match in
-    record {
-      joins = λ n.
-          let begin = Steps.at g s (args′ .left) (goto (member fault)) n (args′ .c) (args′ .w) (args′ .out .now) in
-          let local = Steps.taken (lit< tt) st (eat-any′ .ensures) (if1′ .taken) (Steps.known (eat 67 ▸ sub bind ▸ goto (members fault)) st (if1′ .taken) (λ xs t. refl) begin) in
-          Steps.passed-telling (Steps.takes-broken (bind′ .ensures) (match′ .keys2)) local;
-    }
+  claim : (n : ℕ) (c : lts.Then2 (K t) (P t) Post) → So (a₁ c) n 0 (sub assertion ▸ goto (members (with-assert (a₁ c .args .fault)))) (a₁ c .args .c)
+  unfolding rule choose has sight
+  claim n c = Steps.known (sub assertion ▸ goto (members (with-assert (a₁ c .args .fault)))) (a₁ c .pre .1 .0 .stands) (c .if2 .taken) (λ xs t. refl) Steps.here
 
-pub same-length-2 : (t : ℕ) → lts.Need-same-length-2 (K t) (P t) Post
-same-length-2 t c =
-    search needs
+  abbrev a₂ : lts.Else2 (K t) (P t) Post → lts.Start (K t) (P t) Post
+  a₂ c = c .before .before .before .before .before .before
 
-pub returns-2 : (t : ℕ) → lts.Need-returns-2 (K t) (P t) Post
-unfolding rule choose has sight
-returns-2 t c =
-    let args′ = c .before .before .before .before .before .before .before .before .before .before .before .before .args in
-    let g = args′ .set in
-    let s = args′ .src .now in
-    let fault = args′ .fault in
-    let pre′ = c .before .before .before .before .before .before .before .before .before .before .before .before .pre in
-    let st = pre′ .1 .0 .stands in
-    let eat-any′ = c .before .before .before .before .before .before .eat-any in
-    let if1′ = c .before .before .before .before .before .before .before .before .if1 in
-    let bind′ = c .before .before .before .before .before .bind in
-    let a′ = c .before .a in
-    record {
-      joins = λ n.
-          let begin = Steps.at g s (args′ .left) (goto (member fault)) n (args′ .c) (args′ .w) (args′ .out .now) in
-          let local = Steps.taken (lit< tt) st (eat-any′ .ensures) (if1′ .taken) (Steps.known (eat 67 ▸ sub bind ▸ goto (members fault)) st (if1′ .taken) (λ xs t. refl) begin) in
-          Steps.says-on (pre′ .1 .1) (lit≤ tt) (Steps.took (bind′ .ensures) (a′ .given .1) local);
-    }
+  one : (n : ℕ) (c : lts.Else2 (K t) (P t) Post) → So (a₂ c) n 0 (sub field ▸ goto (members (with-field (a₂ c .args .fault)))) (a₂ c .args .c)
+  unfolding rule choose has sight
+  one n c =
+      Steps.known (sub field ▸ goto (members (with-field (a₂ c .args .fault)))) (a₂ c .pre .1 .0 .stands) refl
+      (λ xs t. simp (ne-eqb _ 67 (c .before .before .if1 .left), ne-eqb _ 84 (c .if2 .left))) Steps.here
 
-pub assert-requires : (t : ℕ) → lts.Need-assert-requires (K t) (P t) Post
-assert-requires t c κs =
-    let pre′ = c .before .before .before .before .before .before .before .pre in
-    (omega (arith, pre′ .0), pre′ .1 .0)
+  -- ── What each call asks ─────────────────────────────────────────────────────────────────────────
 
-pub enum-known-a-2 : (t : ℕ) → lts.Need-enum-known-a-2 (K t) (P t) Post
-enum-known-a-2 t c =
-    search needs
+  bind-requires : lts.Need-bind-requires (K t) (P t) Post
+  bind-requires c κs = let p = a₀ c .pre in (omega (arith, p .0), Steps.ready (p .1 .0) (lit≤ tt) (local 0 c))
 
-pub enum-told-2 : (t : ℕ) → lts.Need-enum-told-2 (K t) (P t) Post
-enum-told-2 t c =
-    search needs
+  assert-requires : lts.Need-assert-requires (K t) (P t) Post
+  assert-requires c κs = let p = a₁ (c .before) .pre in (omega (arith, p .0), p .1 .0)
 
-pub same-length-3 : (t : ℕ) → lts.Need-same-length-3 (K t) (P t) Post
-same-length-3 t c =
-    search needs
+  field-requires : lts.Need-field-requires (K t) (P t) Post
+  field-requires c κs = let p = a₂ (c .before) .pre in (omega (arith, p .0), p .1 .0)
 
-pub returns-3 : (t : ℕ) → lts.Need-returns-3 (K t) (P t) Post
-unfolding rule choose has sight
-returns-3 t c =
-    let args′ = c .before .before .before .before .before .before .before .before .before .before .before .before .args in
-    let g = args′ .set in
-    let s = args′ .src .now in
-    let fault = args′ .fault in
-    let pre′ = c .before .before .before .before .before .before .before .before .before .before .before .before .pre in
-    let st = pre′ .1 .0 .stands in
-    let if2′ = c .before .before .before .before .before .before .if2 in
-    let assert′ = c .before .before .before .before .assert in
-    let match2′ = c .before .match2 in
-    record {
-      joins = λ n.
-          let begin = Steps.at g s (args′ .left) (goto (member fault)) n (args′ .c) (args′ .w) (args′ .out .now) in
-          let claim = Steps.known (sub assertion ▸ goto (members (with-assert fault))) st (if2′ .taken) (λ xs t. refl) begin in
-          Steps.passed-telling (Steps.takes-broken (assert′ .ensures) (match2′ .keys2)) claim;
-    }
+  -- ── What each return owes ───────────────────────────────────────────────────────────────────────
 
-pub with-assert-requires : (t : ℕ) → lts.Need-with-assert-requires (K t) (P t) Post
-with-assert-requires t c κs =
-    let pre′ = c .before .before .before .before .before .before .before .before .before .before .before .before .before .pre in
-    pre′ .1 .1
+  returns : lts.Need-returns (K t) (P t) Post
+  returns c = let x = c .before .before .before .before in record { joins = λ n. Steps.passed-telling (Steps.takes-broken (x .bind .ensures) (c .before .match .keys2)) (local n (x .before)) }
 
-pub same-length-4 : (t : ℕ) → lts.Need-same-length-4 (K t) (P t) Post
-same-length-4 t c =
-    search needs
+  returns-2 : lts.Need-returns-2 (K t) (P t) Post
+  returns-2 c =
+      let x = c .before .before .before .before .before in
+      record { joins = λ n. Steps.says-on (a₀ (x .before) .pre .1 .1) (lit≤ tt) (Steps.took (x .bind .ensures) (c .before .a .given .1) (local n (x .before))) }
 
-pub returns-4 : (t : ℕ) → lts.Need-returns-4 (K t) (P t) Post
-unfolding rule choose has sight
-returns-4 t c =
-    let args′ = c .before .before .before .before .before .before .before .before .before .before .before .before .before .before .args in
-    let g = args′ .set in
-    let s = args′ .src .now in
-    let fault = args′ .fault in
-    let pre′ = c .before .before .before .before .before .before .before .before .before .before .before .before .before .before .pre in
-    let st = pre′ .1 .0 .stands in
-    let if2′ = c .before .before .before .before .before .before .before .before .if2 in
-    let assert′ = c .before .before .before .before .before .before .assert in
-    let a2′ = c .before .before .a2 in
-    let with-assert′ = c .with-assert in
-    record {
-      joins = λ n.
-          let begin = Steps.at g s (args′ .left) (goto (member fault)) n (args′ .c) (args′ .w) (args′ .out .now) in
-          let claim = Steps.known (sub assertion ▸ goto (members (with-assert fault))) st (if2′ .taken) (λ xs t. refl) begin in
-          let claimed = Steps.took (assert′ .ensures) (a2′ .given .1) claim in
-          Steps.says-on (with-assert′ .ensures .1) (lit≤ tt) (Steps.body-is (ap joined (sym (with-assert′ .ensures .0))) claimed);
-    }
+  returns-3 : lts.Need-returns-3 (K t) (P t) Post
+  returns-3 c =
+      let x = c .before .before .before .before in
+      record { joins = λ n. Steps.passed-telling (Steps.takes-broken (x .assert .ensures) (c .before .match2 .keys2)) (claim n (x .before .before)) }
 
-pub field-requires : (t : ℕ) → lts.Need-field-requires (K t) (P t) Post
-field-requires t c κs =
-    let pre′ = c .before .before .before .before .before .before .before .pre in
-    (omega (arith, pre′ .0), pre′ .1 .0)
+  returns-4 : lts.Need-returns-4 (K t) (P t) Post
+  returns-4 c =
+      let f = c .with-assert .ensures in let a = c .before .before in let x = a .before .before .before .before in
+      record { joins = λ n. Steps.says-on (f .1) (lit≤ tt) (Steps.body-is (ap joined (sym (f .0))) (Steps.took (x .assert .ensures) (a .a2 .given .1) (claim n (x .before .before)))) }
 
-pub enum-known-a-3 : (t : ℕ) → lts.Need-enum-known-a-3 (K t) (P t) Post
-enum-known-a-3 t c =
-    search needs
+  returns-5 : lts.Need-returns-5 (K t) (P t) Post
+  returns-5 c =
+      let x = c .before .before .before .before in
+      record { joins = λ n. Steps.passed-telling (Steps.takes-broken (x .field .ensures) (c .before .match3 .keys2)) (one n (x .before .before)) }
 
-pub enum-told-3 : (t : ℕ) → lts.Need-enum-told-3 (K t) (P t) Post
-enum-told-3 t c =
-    search needs
+  returns-6 : lts.Need-returns-6 (K t) (P t) Post
+  returns-6 c =
+      let f = c .with-field .ensures in let a = c .before .before in let x = a .before .before .before .before in
+      record { joins = λ n. Steps.says-on (f .1) (lit≤ tt) (Steps.body-is (ap joined (sym (f .0))) (Steps.took (x .field .ensures) (a .a3 .given .1) (one n (x .before .before)))) }
 
-pub same-length-5 : (t : ℕ) → lts.Need-same-length-5 (K t) (P t) Post
-same-length-5 t c =
-    search needs
-
-pub returns-5 : (t : ℕ) → lts.Need-returns-5 (K t) (P t) Post
-unfolding rule choose has sight
-returns-5 t c =
-    let args′ = c .before .before .before .before .before .before .before .before .before .before .before .before .args in
-    let g = args′ .set in
-    let s = args′ .src .now in
-    let fault = args′ .fault in
-    let pre′ = c .before .before .before .before .before .before .before .before .before .before .before .before .pre in
-    let st = pre′ .1 .0 .stands in
-    let if1′ = c .before .before .before .before .before .before .before .before .if1 in
-    let if2′ = c .before .before .before .before .before .before .if2 in
-    let field′ = c .before .before .before .before .field in
-    let match3′ = c .before .match3 in
-    record {
-      joins = λ n.
-          let begin = Steps.at g s (args′ .left) (goto (member fault)) n (args′ .c) (args′ .w) (args′ .out .now) in
-          let one = Steps.known (sub field ▸ goto (members (with-field fault))) st refl (λ xs t. simp (ne-eqb _ 67 (if1′ .left), ne-eqb _ 84 (if2′ .left))) begin in
-          Steps.passed-telling (Steps.takes-broken (field′ .ensures) (match3′ .keys2)) one;
-    }
-
-pub with-field-requires : (t : ℕ) → lts.Need-with-field-requires (K t) (P t) Post
-with-field-requires t c κs =
-    let pre′ = c .before .before .before .before .before .before .before .before .before .before .before .before .before .pre in
-    pre′ .1 .1
-
-pub same-length-6 : (t : ℕ) → lts.Need-same-length-6 (K t) (P t) Post
-same-length-6 t c =
-    search needs
-
-pub returns-6 : (t : ℕ) → lts.Need-returns-6 (K t) (P t) Post
-unfolding rule choose has sight
-returns-6 t c =
-    let args′ = c .before .before .before .before .before .before .before .before .before .before .before .before .before .before .args in
-    let g = args′ .set in
-    let s = args′ .src .now in
-    let fault = args′ .fault in
-    let pre′ = c .before .before .before .before .before .before .before .before .before .before .before .before .before .before .pre in
-    let st = pre′ .1 .0 .stands in
-    let if1′ = c .before .before .before .before .before .before .before .before .before .before .if1 in
-    let if2′ = c .before .before .before .before .before .before .before .before .if2 in
-    let field′ = c .before .before .before .before .before .before .field in
-    let a3′ = c .before .before .a3 in
-    let with-field′ = c .with-field in
-    record {
-      joins = λ n.
-          let begin = Steps.at g s (args′ .left) (goto (member fault)) n (args′ .c) (args′ .w) (args′ .out .now) in
-          let one = Steps.known (sub field ▸ goto (members (with-field fault))) st refl (λ xs t. simp (ne-eqb _ 67 (if1′ .left), ne-eqb _ 84 (if2′ .left))) begin in
-          let titled = Steps.took (field′ .ensures) (a3′ .given .1) one in
-          Steps.says-on (with-field′ .ensures .1) (lit≤ tt) (Steps.body-is (ap joined (sym (with-field′ .ensures .0))) titled);
-    }
+  -- All of them, in the order of the code.
+  pub met : {M : Type 1} → lts.Closed (K t) (P t) Post M
+  met =
+      lts.spec (K t) (P t) Post (λ c κs. search needs) bind-requires (λ c. search needs) (λ c. search needs) (λ c. search needs) returns
+      (λ c. search needs) returns-2 assert-requires (λ c. search needs) (λ c. search needs) (λ c. search needs) returns-3 (λ c κs. search needs)
+      (λ c. search needs) returns-4 field-requires (λ c. search needs) (λ c. search needs) (λ c. search needs) returns-5 (λ c κs. search needs)
+      (λ c. search needs) returns-6

@@ -1,12 +1,10 @@
--- The answers of `param`.
+-- The answers of `param`: the stretch from its start to each place of its code, and from these what each call asks and each return owes.
 use borrow.Author.Needs.{needs}
 use native.Mathlib.Omega.{arith}
 use lib.Dec.{lit<, lit≤}
-use lib.ListN.{length}
-use mathlib.Core.Path.{_≡_, refl, sym, ap, subst, _∙_}
-use mathlib.Core.Logic.{⊎-elim}
-use mathlib.Core.List.{[], _∷_}
-use Prim.Native.Nat.{ℕ, _+_, _*_, _-_, _≤_, _<_}
+use mathlib.Core.Path.{refl}
+use mathlib.Core.List.{List, [], _∷_}
+use Prim.Native.Nat.{ℕ}
 use Rattle.leaves.proofs.Steps
 use Rattle.phrases.proofs.param.Reads.{Post}
 use Rattle.phrases.proofs.+arg+args+array+assert+basic+bind+body+chain+claim+comp+cond+each+ends+expr+field+func+index+init+inside+item+link+load+local+member+name+obj+param+params+pat+rest+rhs+safe+sign+slice+spec+specs+step+value.Lts-param as lts
@@ -14,185 +12,98 @@ use Rattle.phrases.proofs.+arg+args+array+assert+basic+bind+body+chain+
 use Rattle.phrases.proofs.CountLaws.{step-grows}
 use Rattle.grammar.specs.Image.{entry, payload}
 use Rattle.grammar.specs.Trees.{byte}
-use Rattle.grammar.specs.Productions.{goto, end, eat, sub, close, _▸_, expression, param, param-default, pattern}
+use Rattle.grammar.specs.Productions.{Body, goto, end, eat, sub, close, _▸_, expression, param, param-default, pattern}
+use Rattle.leaves.specs.Meets.{state, Seg}
+use Rattle.leaves.specs.declared.Cursor.{Cursor}
 use Rattle.phrases.proofs.KeywordLaws.{parameters, with-default, no-default}
 
-pub pat-requires : (t : ℕ) → lts.Need-pat-requires (K t) (P t) Post
-pat-requires t c κs =
-    let pre′ = c .before .before .before .pre in
-    (omega (arith, pre′ .0), pre′ .1)
+module _ (t : ℕ) where
+  -- a stretch from the start, of which e bytes are taken, to a body with n trees
+  abbrev So : lts.Start (K t) (P t) Post → ℕ → Body → ℕ → Cursor → ℕ → List ℕ → Type 0
+  So a e b n c w o = Seg (a .args .set) (a .args .src .now) (a .args .left) (state (goto param) 0 (a .args .c) (a .args .w) (a .args .out .now)) e 0 (state b n c w o)
 
-pub enum-known-a : (t : ℕ) → lts.Need-enum-known-a (K t) (P t) Post
-enum-known-a t c =
-    search needs
+  begun : (a : lts.Start (K t) (P t) Post) → So a 0 (sub pattern ▸ goto param-default) 0 (a .args .c) (a .args .w) (a .args .out .now)
+  begun a = let x = a .args in Steps.known (sub pattern ▸ goto param-default) (a .pre .1 .stands) refl (λ xs t. parameters (x .set) (x .c) xs 0 (x .c .kind) t) Steps.here
 
-pub enum-told : (t : ℕ) → lts.Need-enum-told (K t) (P t) Post
-enum-told t c =
-    search needs
+  abbrev c₁ : lts.After-a (K t) (P t) Post → lts.After-pat (K t) (P t) Post
+  c₁ c = c .before .before .before .before
 
-pub same-length : (t : ℕ) → lts.Need-same-length (K t) (P t) Post
-same-length t c =
-    search needs
+  abbrev a₁ : lts.After-a (K t) (P t) Post → lts.Start (K t) (P t) Post
+  a₁ c = c₁ c .before .before .before .before
 
-pub returns : (t : ℕ) → lts.Need-returns (K t) (P t) Post
-returns t c =
-    let match′ = c .before .match in
-    let pat′ = c .before .before .before .before .pat in
-    let pre′ = c .before .before .before .before .before .before .before .before .pre in
-    let st = pre′ .1 .stands in
-    let args′ = c .before .before .before .before .before .before .before .before .args in
-    let g = args′ .set in
-    let s = args′ .src .now in
-    let begin = Steps.known (sub pattern ▸ goto param-default) st refl (λ xs t. parameters g (args′ .c) xs 0 (args′ .c .kind) t) (Steps.at g s (args′ .left) (goto param) 0 (args′ .c) (args′ .w) (args′ .out .now)) in
-    Steps.taking-none (Steps.no-done _ (match′ .keys2) .1) (Steps.as-sub (Steps.passed (Steps.takes-broken (pat′ .ensures) (match′ .keys2)) begin))
+  into : (c : lts.After-a (K t) (P t) Post) → So (a₁ c) 0 (goto param-default) 1 (c .a .given .0 .0) (c .a .given .0 .1 .0) (c₁ c .pat .last .1 .0)
+  into c = Steps.took (c₁ c .pat .ensures) (c .a .given .1) (begun (a₁ c))
 
-pub put-flag-requires : (t : ℕ) → lts.Need-put-flag-requires (K t) (P t) Post
-put-flag-requires t c κs =
-    let pre′ = c .before .before .before .before .before .before .before .before .before .before .before .before .pre in
-    let pat′ = c .before .before .before .before .before .before .before .before .pat in
-    let a′ = c .before .before .before .before .a in
-    let st = pre′ .1 .stands in
-    let args′ = c .before .before .before .before .before .before .before .before .before .before .before .before .args in
-    let g = args′ .set in
-    let s = args′ .src .now in
-    let begin = Steps.known (sub pattern ▸ goto param-default) st refl (λ xs t. parameters g (args′ .c) xs 0 (args′ .c .kind) t) (Steps.at g s (args′ .left) (goto param) 0 (args′ .c) (args′ .w) (args′ .out .now)) in
-    let into = Steps.took (pat′ .ensures) (a′ .given .1) begin in
-    Steps.fits (pre′ .1) (lit≤ tt) into
+  -- ── `=` e ───────────────────────────────────────────────────────────────────────────────────────
 
-pub same-length-2 : (t : ℕ) → lts.Need-same-length-2 (K t) (P t) Post
-same-length-2 t c =
-    search needs
+  abbrev c₂ : lts.After-eat-any (K t) (P t) Post → lts.After-a (K t) (P t) Post
+  c₂ c = c .before .before .before .before .before
 
-pub returns-2 : (t : ℕ) → lts.Need-returns-2 (K t) (P t) Post
-unfolding entry payload
-returns-2 t c =
-    let put-flag′ = c .before .before .put-flag in
-    let pat′ = c .before .before .before .before .before .before .before .before .before .before .before .pat in
-    let a′ = c .before .before .before .before .before .before .before .a in
-    let pre′ = c .before .before .before .before .before .before .before .before .before .before .before .before .before .before .before .pre in
-    let st = pre′ .1 .stands in
-    let args′ = c .before .before .before .before .before .before .before .before .before .before .before .before .before .before .before .args in
-    let g = args′ .set in
-    let s = args′ .src .now in
-    let begin = Steps.known (sub pattern ▸ goto param-default) st refl (λ xs t. parameters g (args′ .c) xs 0 (args′ .c .kind) t) (Steps.at g s (args′ .left) (goto param) 0 (args′ .c) (args′ .w) (args′ .out .now)) in
-    let into = Steps.took (pat′ .ensures) (a′ .given .1) begin in
-    let there = into .stands st in
-    let c1 = a′ .given .0 .0 in
-    let if1′ = c .before .before .before .before .if1 in
-    let plain = Steps.known (close 30 (byte 0 ∷ []) ▸ end) there refl (λ xs t. no-default g c1 xs 1 (c1 .kind) t (if1′ .taken)) into in
-    Steps.taking (Steps.as-sub (Steps.owes (lit≤ tt) (Steps.closed 4 (lit≤ tt) (put-flag′ .ensures) plain))) (step-grows (pat′ .ensures) (a′ .given .1))
+  opened : (c : lts.After-eat-any (K t) (P t) Post)
+      → So (a₁ (c₂ c)) 1 (expression ▸ close 30 (byte 1 ∷ []) ▸ end) 1 (c .eat-any .result) (c₂ c .a .given .0 .1 .0) (c₁ (c₂ c) .pat .last .1 .0)
+  opened c =
+      let a = c₂ c in let st = into a .stands (a₁ a .pre .1 .stands) in let assign = c .before .before .if1 .left in
+      Steps.taken (lit< tt) st (c .eat-any .ensures) assign
+      (Steps.known (eat 35 ▸ expression ▸ close 30 (byte 1 ∷ []) ▸ end) st assign (λ xs t. with-default (a₁ a .args .set) (a .a .given .0 .0) xs 1 t) (into a))
 
-pub eat-any-requires : (t : ℕ) → lts.Need-eat-any-requires (K t) (P t) Post
-eat-any-requires t c κs =
-    let pat′ = c .before .before .before .before .before .before .before .before .pat in
-    let a′ = c .before .before .before .before .a in
-    let pre′ = c .before .before .before .before .before .before .before .before .before .before .before .before .pre in
-    let st = pre′ .1 .stands in
-    let args′ = c .before .before .before .before .before .before .before .before .before .before .before .before .args in
-    let g = args′ .set in
-    let s = args′ .src .now in
-    let begin = Steps.known (sub pattern ▸ goto param-default) st refl (λ xs t. parameters g (args′ .c) xs 0 (args′ .c .kind) t) (Steps.at g s (args′ .left) (goto param) 0 (args′ .c) (args′ .w) (args′ .out .now)) in
-    let into = Steps.took (pat′ .ensures) (a′ .given .1) begin in
-    let there = into .stands st in
-    there
+  abbrev c₃ : lts.After-b (K t) (P t) Post → lts.After-expr (K t) (P t) Post
+  c₃ c = c .before .before .before .before
 
-pub expr-requires : (t : ℕ) → lts.Need-expr-requires (K t) (P t) Post
-expr-requires t c κs =
-    let pre′ = c .before .before .before .before .before .before .before .before .before .before .before .before .before .pre in
-    let pat′ = c .before .before .before .before .before .before .before .before .before .pat in
-    let a′ = c .before .before .before .before .before .a in
-    let st = pre′ .1 .stands in
-    let args′ = c .before .before .before .before .before .before .before .before .before .before .before .before .before .args in
-    let g = args′ .set in
-    let s = args′ .src .now in
-    let begin = Steps.known (sub pattern ▸ goto param-default) st refl (λ xs t. parameters g (args′ .c) xs 0 (args′ .c .kind) t) (Steps.at g s (args′ .left) (goto param) 0 (args′ .c) (args′ .w) (args′ .out .now)) in
-    let into = Steps.took (pat′ .ensures) (a′ .given .1) begin in
-    let there = into .stands st in
-    let eat-any′ = c .eat-any in
-    let if1′ = c .before .before .if1 in
-    let c1 = a′ .given .0 .0 in
-    let opened = Steps.taken (lit< tt) there (eat-any′ .ensures) (if1′ .left) (Steps.known (eat 35 ▸ expression ▸ close 30 (byte 1 ∷ []) ▸ end) there (if1′ .left) (λ xs t. with-default g c1 xs 1 t) into) in
-    (omega (arith, pre′ .0), Steps.ready (pre′ .1) (lit≤ tt) opened)
+  abbrev a₃ : lts.After-b (K t) (P t) Post → lts.Start (K t) (P t) Post
+  a₃ c = a₁ (c₂ (c₃ c .before))
 
-pub enum-known-b : (t : ℕ) → lts.Need-enum-known-b (K t) (P t) Post
-enum-known-b t c =
-    search needs
+  value : (c : lts.After-b (K t) (P t) Post) → So (a₃ c) 1 (close 30 (byte 1 ∷ []) ▸ end) 2 (c .b .given .0 .0) (c .b .given .0 .1 .0) (c₃ c .expr .last .1 .0)
+  value c = Steps.took (c₃ c .expr .ensures) (c .b .given .1) (opened (c₃ c .before))
 
-pub enum-told-2 : (t : ℕ) → lts.Need-enum-told-2 (K t) (P t) Post
-enum-told-2 t c =
-    search needs
+  -- ── What each call asks ─────────────────────────────────────────────────────────────────────────
 
-pub same-length-3 : (t : ℕ) → lts.Need-same-length-3 (K t) (P t) Post
-same-length-3 t c =
-    search needs
+  pat-requires : lts.Need-pat-requires (K t) (P t) Post
+  pat-requires c κs = let p = c .before .before .before .pre in (omega (arith, p .0), p .1)
 
-pub returns-3 : (t : ℕ) → lts.Need-returns-3 (K t) (P t) Post
-returns-3 t c =
-    let match2′ = c .before .match2 in
-    let expr′ = c .before .before .before .before .expr in
-    let pat′ = c .before .before .before .before .before .before .before .before .before .before .before .before .before .before .pat in
-    let a′ = c .before .before .before .before .before .before .before .before .before .before .a in
-    let pre′ = c .before .before .before .before .before .before .before .before .before .before .before .before .before .before .before .before .before .before .pre in
-    let st = pre′ .1 .stands in
-    let args′ = c .before .before .before .before .before .before .before .before .before .before .before .before .before .before .before .before .before .before .args in
-    let g = args′ .set in
-    let s = args′ .src .now in
-    let begin = Steps.known (sub pattern ▸ goto param-default) st refl (λ xs t. parameters g (args′ .c) xs 0 (args′ .c .kind) t) (Steps.at g s (args′ .left) (goto param) 0 (args′ .c) (args′ .w) (args′ .out .now)) in
-    let into = Steps.took (pat′ .ensures) (a′ .given .1) begin in
-    let there = into .stands st in
-    let eat-any′ = c .before .before .before .before .before .eat-any in
-    let if1′ = c .before .before .before .before .before .before .before .if1 in
-    let c1 = a′ .given .0 .0 in
-    let opened = Steps.taken (lit< tt) there (eat-any′ .ensures) (if1′ .left) (Steps.known (eat 35 ▸ expression ▸ close 30 (byte 1 ∷ []) ▸ end) there (if1′ .left) (λ xs t. with-default g c1 xs 1 t) into) in
-    Steps.taking-none (Steps.no-done _ (match2′ .keys2) .1) (Steps.as-sub (Steps.passed (Steps.takes-broken (expr′ .ensures) (match2′ .keys2)) opened))
+  put-flag-requires : lts.Need-put-flag-requires (K t) (P t) Post
+  put-flag-requires c κs = let a = c .before .before .before .before in Steps.fits (a₁ a .pre .1) (lit≤ tt) (into a)
 
-pub put-flag-requires-2 : (t : ℕ) → lts.Need-put-flag-requires-2 (K t) (P t) Post
-put-flag-requires-2 t c κs =
-    let pre′ = c .before .before .before .before .before .before .before .before .before .before .before .before .before .before .before .before .before .before .before .before .pre in
-    let expr′ = c .before .before .before .before .before .before .expr in
-    let b′ = c .before .before .b in
-    let pat′ = c .before .before .before .before .before .before .before .before .before .before .before .before .before .before .before .before .pat in
-    let a′ = c .before .before .before .before .before .before .before .before .before .before .before .before .a in
-    let st = pre′ .1 .stands in
-    let args′ = c .before .before .before .before .before .before .before .before .before .before .before .before .before .before .before .before .before .before .before .before .args in
-    let g = args′ .set in
-    let s = args′ .src .now in
-    let begin = Steps.known (sub pattern ▸ goto param-default) st refl (λ xs t. parameters g (args′ .c) xs 0 (args′ .c .kind) t) (Steps.at g s (args′ .left) (goto param) 0 (args′ .c) (args′ .w) (args′ .out .now)) in
-    let into = Steps.took (pat′ .ensures) (a′ .given .1) begin in
-    let there = into .stands st in
-    let eat-any′ = c .before .before .before .before .before .before .before .eat-any in
-    let if1′ = c .before .before .before .before .before .before .before .before .before .if1 in
-    let c1 = a′ .given .0 .0 in
-    let opened = Steps.taken (lit< tt) there (eat-any′ .ensures) (if1′ .left) (Steps.known (eat 35 ▸ expression ▸ close 30 (byte 1 ∷ []) ▸ end) there (if1′ .left) (λ xs t. with-default g c1 xs 1 t) into) in
-    let value = Steps.took (expr′ .ensures) (b′ .given .1) opened in
-    Steps.fits (pre′ .1) (lit≤ tt) value
+  eat-any-requires : lts.Need-eat-any-requires (K t) (P t) Post
+  eat-any-requires c κs = let a = c .before .before .before .before in into a .stands (a₁ a .pre .1 .stands)
 
-pub same-length-4 : (t : ℕ) → lts.Need-same-length-4 (K t) (P t) Post
-same-length-4 t c =
-    let pat′ = c .before .before .before .before .before .before .before .before .before .before .before .before .before .before .before .before .before .before .before .pat in
-    let expr′ = c .before .before .before .before .before .before .before .before .before .expr in
-    let put-flag2′ = c .before .before .put-flag2 in
-    omega (arith, pat′ .kept, expr′ .kept, put-flag2′ .kept)
+  expr-requires : lts.Need-expr-requires (K t) (P t) Post
+  expr-requires c κs = let p = a₁ (c₂ c) .pre in (omega (arith, p .0), Steps.ready (p .1) (lit≤ tt) (opened c))
 
-pub returns-4 : (t : ℕ) → lts.Need-returns-4 (K t) (P t) Post
-unfolding entry payload
-returns-4 t c =
-    let put-flag2′ = c .before .before .put-flag2 in
-    let expr′ = c .before .before .before .before .before .before .before .before .before .expr in
-    let b′ = c .before .before .before .before .before .b in
-    let pat′ = c .before .before .before .before .before .before .before .before .before .before .before .before .before .before .before .before .before .before .before .pat in
-    let a′ = c .before .before .before .before .before .before .before .before .before .before .before .before .before .before .before .a in
-    let pre′ = c .before .before .before .before .before .before .before .before .before .before .before .before .before .before .before .before .before .before .before .before .before .before .before .pre in
-    let st = pre′ .1 .stands in
-    let args′ = c .before .before .before .before .before .before .before .before .before .before .before .before .before .before .before .before .before .before .before .before .before .before .before .args in
-    let g = args′ .set in
-    let s = args′ .src .now in
-    let begin = Steps.known (sub pattern ▸ goto param-default) st refl (λ xs t. parameters g (args′ .c) xs 0 (args′ .c .kind) t) (Steps.at g s (args′ .left) (goto param) 0 (args′ .c) (args′ .w) (args′ .out .now)) in
-    let into = Steps.took (pat′ .ensures) (a′ .given .1) begin in
-    let there = into .stands st in
-    let eat-any′ = c .before .before .before .before .before .before .before .before .before .before .eat-any in
-    let if1′ = c .before .before .before .before .before .before .before .before .before .before .before .before .if1 in
-    let c1 = a′ .given .0 .0 in
-    let opened = Steps.taken (lit< tt) there (eat-any′ .ensures) (if1′ .left) (Steps.known (eat 35 ▸ expression ▸ close 30 (byte 1 ∷ []) ▸ end) there (if1′ .left) (λ xs t. with-default g c1 xs 1 t) into) in
-    let value = Steps.took (expr′ .ensures) (b′ .given .1) opened in
-    Steps.taking (Steps.as-sub (Steps.owes (lit≤ tt) (Steps.closed 4 (lit≤ tt) (put-flag2′ .ensures) value))) (omega (arith, value .onward))
+  put-flag-requires-2 : lts.Need-put-flag-requires-2 (K t) (P t) Post
+  put-flag-requires-2 c κs = let b = c .before .before in Steps.fits (a₃ b .pre .1) (lit≤ tt) (value b)
+
+  -- ── What each return owes ───────────────────────────────────────────────────────────────────────
+
+  returns : lts.Need-returns (K t) (P t) Post
+  returns c =
+      let x = c .before .before .before .before in let broken = c .before .match .keys2 in
+      Steps.taking-none (Steps.no-done _ broken .1) (Steps.as-sub (Steps.passed (Steps.takes-broken (x .pat .ensures) broken) (begun (x .before .before .before .before))))
+
+  returns-2 : lts.Need-returns-2 (K t) (P t) Post
+  unfolding entry payload
+  returns-2 c =
+      let x = c .before .before in let no-assign = x .before .before in let a = no-assign .before .before .before in
+      let c₁′ = a .a .given .0 .0 in let st = into a .stands (a₁ a .pre .1 .stands) in
+      let plain = Steps.known (close 30 (byte 0 ∷ []) ▸ end) st refl (λ xs t. no-default (a₁ a .args .set) c₁′ xs 1 (c₁′ .kind) t (no-assign .if1 .taken)) (into a) in
+      Steps.taking (Steps.as-sub (Steps.owes (lit≤ tt) (Steps.closed 4 (lit≤ tt) (x .put-flag .ensures) plain))) (step-grows (c₁ a .pat .ensures) (a .a .given .1))
+
+  returns-3 : lts.Need-returns-3 (K t) (P t) Post
+  returns-3 c =
+      let x = c .before .before .before .before in let broken = c .before .match2 .keys2 in
+      Steps.taking-none (Steps.no-done _ broken .1) (Steps.as-sub (Steps.passed (Steps.takes-broken (x .expr .ensures) broken) (opened (x .before))))
+
+  returns-4 : lts.Need-returns-4 (K t) (P t) Post
+  unfolding entry payload
+  returns-4 c =
+      let x = c .before .before in let v = value (x .before .before .before) in
+      Steps.taking (Steps.as-sub (Steps.owes (lit≤ tt) (Steps.closed 4 (lit≤ tt) (x .put-flag2 .ensures) v))) (omega (arith, v .onward))
+
+  same-length-4 : lts.Need-same-length-4 (K t) (P t) Post
+  same-length-4 c = let x = c .before .before in omega (arith, Steps.same (value (x .before .before .before)), x .put-flag2 .kept)
+
+  -- All of them, in the order of the code.
+  pub met : {M : Type 1} → lts.Closed (K t) (P t) Post M
+  met =
+      lts.spec (K t) (P t) Post pat-requires (λ c. search needs) (λ c. search needs) (λ c. search needs) returns put-flag-requires (λ c. search needs)
+      returns-2 eat-any-requires expr-requires (λ c. search needs) (λ c. search needs) (λ c. search needs) returns-3 put-flag-requires-2 same-length-4
+      returns-4

@@ -1,4 +1,5 @@
 -- The answers of `params`: a turn of its loop as a stretch to each place of its code, and from these what each call asks and each return owes.
+use borrow.Author.Needs.{needs}
 use native.Mathlib.Omega.{arith}
 use lib.Dec.{lit<, lit≤}
 use lib.ListN.{length}
@@ -56,23 +57,23 @@ module _ (t : ℕ) where
       let st = took a .stands (l₃ a .loop .inv .0 .ok .stands) in
       Steps.taken (lit< tt) st (c .eat-any .ensures) (c .before .if2 .left) (Steps.known (eat 33 ▸ goto params) st (c .before .if2 .left) (λ xs t. refl) (took a))
 
-  pub loop-holds : lts.Need-loop-holds (K t) (P t) Post Inv-loop μ-loop
+  loop-holds : lts.Need-loop-holds (K t) (P t) Post Inv-loop μ-loop
   loop-holds c = (Steps.begun (c .before .before .pre .1), omega arith)
 
-  pub returns : lts.Need-returns (K t) (P t) Post Inv-loop μ-loop
+  returns : lts.Need-returns (K t) (P t) Post Inv-loop μ-loop
   unfolding rule choose has sight
   returns c = let i = c .before .before .loop .inv in counts-on (lit≤ tt) (i .1) (Steps.known end (i .0 .ok .stands) (c .if1 .taken) (λ xs t. refl) (i .0 .seg))
 
-  pub param-requires : lts.Need-param-requires (K t) (P t) Post Inv-loop μ-loop
+  param-requires : lts.Need-param-requires (K t) (P t) Post Inv-loop μ-loop
   param-requires c κs = let l = l₁ (c .before) in (omega (arith, l .before .before .before .pre .0), l .loop .inv .0 .ok)
 
-  pub returns-2 : lts.Need-returns-2 (K t) (P t) Post Inv-loop μ-loop
+  returns-2 : lts.Need-returns-2 (K t) (P t) Post Inv-loop μ-loop
   returns-2 c = let p = c .before .before .before .before in let e = p .before .before in passed-counting (Steps.takes-broken (p .param .ensures .takes) (c .before .match .keys2)) (Steps.then (l₁ e .loop .inv .0 .seg) (one e))
 
-  pub add-n : lts.Need-add-n (K t) (P t) Post Inv-loop μ-loop
+  add-n : lts.Need-add-n (K t) (P t) Post Inv-loop μ-loop
   add-n c = let i = l₃ (c .before) .loop .inv in omega (arith, i .1, i .0 .ok .stands .within, i .0 .ok .short)
 
-  pub returns-3 : lts.Need-returns-3 (K t) (P t) Post Inv-loop μ-loop
+  returns-3 : lts.Need-returns-3 (K t) (P t) Post Inv-loop μ-loop
   unfolding rule choose has sight
   returns-3 c =
       let a = c .before .before .before in
@@ -80,11 +81,17 @@ module _ (t : ℕ) where
       let last = Steps.known end (took a .stands (i .0 .ok .stands)) refl (λ xs t. simp (ne-eqb _ 33 (c .if2 .taken))) (took a) in
       counts-on (lit≤ tt) (omega (arith, i .1, l₂ a .param .ensures .some _ _ _ (a .a .given .1))) (Steps.onto (i .0 .seg) last)
 
-  pub eat-any-requires : lts.Need-eat-any-requires (K t) (P t) Post Inv-loop μ-loop
+  eat-any-requires : lts.Need-eat-any-requires (K t) (P t) Post Inv-loop μ-loop
   eat-any-requires c κs = let a = c .before .before .before in took a .stands (l₃ a .loop .inv .0 .ok .stands)
 
-  pub loop-less : lts.Need-loop-less (K t) (P t) Post Inv-loop μ-loop
+  loop-less : lts.Need-loop-less (K t) (P t) Post Inv-loop μ-loop
   loop-less c = Steps.closer (l₃ (c .before .before .before .before) .loop .inv .0 .ok) (lit≤ tt) (next c)
 
-  pub loop-again : lts.Need-loop-again (K t) (P t) Post Inv-loop μ-loop
+  loop-again : lts.Need-loop-again (K t) (P t) Post Inv-loop μ-loop
   loop-again c = let i = l₃ (c .before .before .before .before) .loop .inv in (Steps.turned (i .0) (lit≤ tt) (next c), omega (arith, i .1, next c .onward))
+
+  -- All of them, in the order of the code.
+  pub met : {M : Type 1} → lts.Closed (K t) (P t) Post M
+  met =
+      lts.spec (K t) (P t) Post Inv-loop μ-loop loop-holds (λ c. search needs) returns param-requires (λ c. search needs) (λ c. search needs)
+      (λ c. search needs) returns-2 add-n (λ c. search needs) returns-3 eat-any-requires loop-less loop-again

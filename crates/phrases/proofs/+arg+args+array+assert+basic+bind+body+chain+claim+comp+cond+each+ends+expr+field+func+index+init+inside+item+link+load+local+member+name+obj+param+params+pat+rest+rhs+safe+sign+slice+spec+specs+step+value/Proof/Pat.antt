@@ -1,394 +1,203 @@
--- The answers of `pat`.
+-- The answers of `pat`: a turn of its loop as a stretch to each place of its code, the pattern around it, and from these what each call asks and each return owes.
 use borrow.Author.Needs.{needs}
 use native.Mathlib.Omega.{arith}
 use lib.Dec.{lit<, lit≤}
 use lib.ListN.{length}
-use mathlib.Core.Path.{_≡_, refl, sym, ap, subst, _∙_}
-use mathlib.Core.Logic.{⊎-elim}
-use mathlib.Core.List.{[], _∷_}
-use Prim.Native.Nat.{ℕ, _+_, _*_, _-_, _≤_, _<_}
+use mathlib.Core.Path.{_≡_, refl}
+use mathlib.Core.Logic.{_⊎_, inl, inr, ⊎-elim}
+use mathlib.Core.List.{List, []}
+use Prim.Native.Nat.{ℕ, _+_, _-_, _≤_}
+use borrow.Author.Tests.{eqb-true, eqb-false, not-true, not-false}
 use Rattle.leaves.proofs.Steps
 use Rattle.phrases.proofs.pat.Reads.{Post}
 use Rattle.phrases.proofs.+arg+args+array+assert+basic+bind+body+chain+claim+comp+cond+each+ends+expr+field+func+index+init+inside+item+link+load+local+member+name+obj+param+params+pat+rest+rhs+safe+sign+slice+spec+specs+step+value.Lts-pat as lts
 use Rattle.phrases.proofs.+arg+args+array+assert+basic+bind+body+chain+claim+comp+cond+each+ends+expr+field+func+index+init+inside+item+link+load+local+member+name+obj+param+params+pat+rest+rhs+safe+sign+slice+spec+specs+step+value.Proof.Frame.{pat-claims as K, pat-at as P}
 use Rattle.phrases.proofs.CountLaws.{step-grows}
-use mathlib.Core.List.{List}
-use mathlib.Core.Logic.{_⊎_, inl, inr}
-use borrow.Author.Tests.{eqb-true, eqb-false, not-true, not-false}
-use Rattle.grammar.specs.Productions.{goto, end, eat, sub, _▸_, pattern, pattern-starts, pattern-starts-end, array-pattern-close, array-rest}
-use Rattle.leaves.specs.Meets.{sorted}
+use Rattle.grammar.specs.Productions.{Body, goto, end, eat, sub, _▸_, pattern, pattern-starts, pattern-starts-end, array-pattern-close, array-rest}
+use Rattle.leaves.specs.Meets.{Ready, state, Seg, sorted, Leads, Takes}
+use Rattle.leaves.specs.declared.Cursor.{Cursor}
+use Rattle.leaves.specs.declared.Answer.{Answer}
 use Rattle.leaves.proofs.LeafLaws.{moved-on, onward, one-fault}
 use Rattle.leaves.proofs.LeafRules.{no-pattern}
 use Rattle.phrases.proofs.PatternLaws.{starts-close, starts-rest, starts-one, starts-more, starts-over, in-brackets, in-braces, none-deeper, no-name}
 
 abbrev pub Inv-loop : lts.InvT-loop
-Inv-loop src out₀ w left set object cur₀ at₀ n₀ out cur at n = Steps.Turns set src (left - 1) (goto pattern-starts) 0 cur₀ at₀ out₀ (goto pattern-starts) n cur at out × (n ≤ cur .at)
+Inv-loop src out₀ w left set object cur₀ at₀ n₀ out cur at n =
+    Steps.Turns set src (left - 1) (goto pattern-starts) 0 cur₀ at₀ out₀ (goto pattern-starts) n cur at out × (n ≤ cur .at)
 
 abbrev pub μ-loop : lts.MeasureT-loop
 μ-loop src out₀ w left set object cur₀ at₀ n₀ out cur at n = length src - cur .at
 
-pub pattern-atom-requires : (t : ℕ) → lts.Need-pattern-atom-requires (K t) (P t) Post Inv-loop μ-loop
-pattern-atom-requires t c κs =
-    let pre′ = c .before .before .before .before .before .before .before .pre in
-    let if1′ = c .before .before .if1 in
-    let args′ = c .before .before .before .before .before .before .before .args in
-    let kind = args′ .c .kind in
-    let if2′ = c .before .if2 in
-    (pre′ .1, if1′ .taken, eqb-false kind 27 (not-true _ (if2′ .taken)))
+module _ (t : ℕ) where
+  -- ── Around the loop ─────────────────────────────────────────────────────────────────────────────
 
-pub same-length : (t : ℕ) → lts.Need-same-length (K t) (P t) Post Inv-loop μ-loop
-same-length t c =
-    search needs
+  abbrev Begin : Type 0
+  Begin = lts.Start (K t) (P t) Post Inv-loop μ-loop
 
-pub returns : (t : ℕ) → lts.Need-returns (K t) (P t) Post Inv-loop μ-loop
-returns t c =
-    let pattern-atom′ = c .before .before .pattern-atom in
-    let args′ = c .before .before .before .before .before .before .before .before .before .before .args in
-    Steps.as-sub (pattern-atom′ .ensures .ends (args′ .left))
+  abbrev a₀ : lts.Joined1 (K t) (P t) Post Inv-loop μ-loop → Begin
+  a₀ c = c .before .before .before .before .before
 
-pub error-requires : (t : ℕ) → lts.Need-error-requires (K t) (P t) Post Inv-loop μ-loop
-error-requires t c κs =
-    search needs
+  -- a bracket or a brace stands there
+  either : (c : lts.Joined1 (K t) (P t) Post Inv-loop μ-loop) → let k = a₀ c .args .c .kind in (k ≡ 23) ⊎ (k ≡ 27)
+  either c = ⊎-elim (λ x. inr (eqb-true (a₀ c .args .c .kind) 27 (not-false _ (x .1 .left)))) (λ y. inl (y .left)) (c .if1 .came)
 
-pub returns-2 : (t : ℕ) → lts.Need-returns-2 (K t) (P t) Post Inv-loop μ-loop
-unfolding sorted
-returns-2 t c =
-    let pre′ = c .before .before .before .before .before .before .before .pre in
-    let first = pre′ .1 .stands in
-    let args′ = c .before .before .before .before .before .before .before .args in
-    let g = args′ .set in
-    let kind = args′ .c .kind in
-    let if1′ = c .before .before .if1 in
-    let either = ⊎-elim (λ x. inr (eqb-true kind 27 (not-false _ (x .1 .left)))) (λ y. inl (y .left)) (if1′ .came) in
-    let if3′ = c .before .if3 in
-    let error′ = c .error in
-    Steps.as-sub (one-fault first refl (λ xs t. no-pattern g (args′ .c) xs 0 kind t (no-name either) (if3′ .taken)) (error′ .ensures))
+  abbrev a₁ : lts.After-eat-any (K t) (P t) Post Inv-loop μ-loop → lts.Joined1 (K t) (P t) Post Inv-loop μ-loop
+  a₁ c = c .before .before .before
 
-pub error-requires-2 : (t : ℕ) → lts.Need-error-requires-2 (K t) (P t) Post Inv-loop μ-loop
-error-requires-2 t c κs =
-    search needs
+  -- one may read on behind it
+  inner : (c : lts.After-eat-any (K t) (P t) Post Inv-loop μ-loop) → let a = a₀ (a₁ c) .args in Ready (a .src .now) (c .eat-any .result) (a .w)
+  inner c = let r = a₀ (a₁ c) .pre .1 in onward r (c .eat-any .ensures .stands) (moved-on (r .stands) (c .eat-any .ensures))
 
-pub returns-3 : (t : ℕ) → lts.Need-returns-3 (K t) (P t) Post Inv-loop μ-loop
-returns-3 t c =
-    let pre′ = c .before .before .before .before .before .before .before .before .pre in
-    let first = pre′ .1 .stands in
-    let args′ = c .before .before .before .before .before .before .before .before .args in
-    let kind = args′ .c .kind in
-    let if1′ = c .before .before .before .if1 in
-    let either = ⊎-elim (λ x. inr (eqb-true kind 27 (not-false _ (x .1 .left)))) (λ y. inl (y .left)) (if1′ .came) in
-    let if3′ = c .before .before .if3 in
-    let if4′ = c .before .if4 in
-    let error2′ = c .error2 in
-    Steps.as-sub (Steps.broke (none-deeper first either (if3′ .left) (if4′ .taken)) (error2′ .ensures))
+  abbrev Turn : Type 0
+  Turn = lts.At-loop (K t) (P t) Post Inv-loop μ-loop
 
-pub eat-any-requires : (t : ℕ) → lts.Need-eat-any-requires (K t) (P t) Post Inv-loop μ-loop
-eat-any-requires t c κs =
-    let pre′ = c .before .before .before .before .before .before .before .pre in
-    let first = pre′ .1 .stands in
-    first
+  abbrev a₂ : Turn → lts.After-eat-any (K t) (P t) Post Inv-loop μ-loop
+  a₂ l = l .before .before
 
-pub sub-obj : (t : ℕ) → lts.Need-sub-obj (K t) (P t) Post Inv-loop μ-loop
-sub-obj t c =
-    search needs
+  abbrev b₀ : Turn → Begin
+  b₀ l = a₀ (a₁ (a₂ l))
 
-pub obj-requires : (t : ℕ) → lts.Need-obj-requires (K t) (P t) Post Inv-loop μ-loop
-obj-requires t c κs =
-    let pre′ = c .before .before .before .before .before .before .before .before .before .before .pre in
-    let if4′ = c .before .before .before .if4 in
-    let eat-any′ = c .before .before .eat-any in
-    let first = pre′ .1 .stands in
-    (omega (arith, pre′ .0, if4′ .left), onward (pre′ .1) (eat-any′ .ensures .stands) (moved-on first (eat-any′ .ensures)))
+  -- at the loop it was a bracket
+  bracket : (l : Turn) → b₀ l .args .c .kind ≡ 23
+  bracket l = let k = b₀ l .args .c .kind in ⊎-elim (λ x. absurd (eqb-false k 27 (l .before .if5 .left) (eqb-true k 27 (not-false _ (x .1 .left))))) (λ y. y .left) (a₁ (a₂ l) .if1 .came)
 
-pub same-length-2 : (t : ℕ) → lts.Need-same-length-2 (K t) (P t) Post Inv-loop μ-loop
-same-length-2 t c =
-    search needs
+  -- where what stands inside the brackets leads is the pattern
+  whole : (l : Turn) {r : Answer} {o : List ℕ} → let a = b₀ l .args in
+      Leads (a .set) (a .src .now) (a .left - 1) (state (goto pattern-starts) 0 (a₂ l .eat-any .result) (a .w) (a .out .now)) 0 end 1 r o
+      → Takes (a .set) (a .src .now) (sub pattern) 1 0 (a .left) (a .c) (a .w) (a .out .now) r o
+  whole l m = let e = a₂ l in in-brackets (b₀ l .pre .1 .stands) (bracket l) (e .before .before .if3 .left) (e .before .if4 .left) (e .eat-any .ensures) m
 
-pub returns-4 : (t : ℕ) → lts.Need-returns-4 (K t) (P t) Post Inv-loop μ-loop
-returns-4 t c =
-    let pre′ = c .before .before .before .before .before .before .before .before .before .before .before .before .before .pre in
-    let first = pre′ .1 .stands in
-    let args′ = c .before .before .before .before .before .before .before .before .before .before .before .before .before .args in
-    let kind = args′ .c .kind in
-    let if5′ = c .before .before .before .before .if5 in
-    let if3′ = c .before .before .before .before .before .before .before .if3 in
-    let if4′ = c .before .before .before .before .before .before .if4 in
-    let eat-any′ = c .before .before .before .before .before .eat-any in
-    let obj′ = c .before .before .obj in
-    in-braces first (eqb-true kind 27 (if5′ .taken)) (if3′ .left) (if4′ .left) (eat-any′ .ensures) (obj′ .ensures)
+  -- ── A turn ──────────────────────────────────────────────────────────────────────────────────────
 
-pub loop-holds : (t : ℕ) → lts.Need-loop-holds (K t) (P t) Post Inv-loop μ-loop
-loop-holds t c =
-    let pre′ = c .before .before .before .before .before .before .before .before .before .pre in
-    let eat-any′ = c .before .eat-any in
-    let first = pre′ .1 .stands in
-    (Steps.begun (onward (pre′ .1) (eat-any′ .ensures .stands) (moved-on first (eat-any′ .ensures))), omega arith)
+  -- a stretch of one turn, of which e bytes are taken
+  abbrev So : Turn → ℕ → Body → ℕ → Cursor → ℕ → List ℕ → Type 0
+  So l e b n c w o = let a = b₀ l .args in Seg (a .set) (a .src .now) (a .left - 1) (state (goto pattern-starts) (l .loop .n) (l .loop .cur) (l .loop .at) (l .loop .out)) e 0 (state b n c w o)
 
-pub array-pattern-close-requires : (t : ℕ) → lts.Need-array-pattern-close-requires (K t) (P t) Post Inv-loop μ-loop
-array-pattern-close-requires t c κs =
-    let loop′ = c .before .before .before .loop in
-    let turns = loop′ .inv .0 in
-    let ok = turns .ok in
-    let few = loop′ .inv .1 in
-    (ok, few, omega arith, omega arith, omega arith)
+  abbrev l₀ : lts.After-eat-any2 (K t) (P t) Post Inv-loop μ-loop → Turn
+  l₀ c = c .before .before .before .before .before .before
 
-pub same-length-3 : (t : ℕ) → lts.Need-same-length-3 (K t) (P t) Post Inv-loop μ-loop
-same-length-3 t c =
-    let loop′ = c .before .before .before .before .before .before .loop in
-    let turns = loop′ .inv .0 in
-    search (needs, turns .same)
+  -- past `...`
+  rested : (c : lts.After-eat-any2 (K t) (P t) Post Inv-loop μ-loop) → let l = l₀ c .loop in So (l₀ c) 1 (goto (array-rest (l .n))) (l .n) (c .eat-any2 .result) (l .at) (l .out)
+  rested c =
+      let l = l₀ c .loop in let st = l .inv .0 .ok .stands in let dots = c .before .before .if7 .taken in
+      Steps.taken (lit< tt) st (c .eat-any2 .ensures) dots
+      (Steps.known (eat 32 ▸ goto (array-rest (l .n))) st dots (λ xs t. starts-rest (b₀ (l₀ c) .args .set) _ xs _ t) Steps.here)
 
-pub returns-5 : (t : ℕ) → lts.Need-returns-5 (K t) (P t) Post Inv-loop μ-loop
-returns-5 t c =
-    let pre′ = c .before .before .before .before .before .before .before .before .before .before .before .before .before .before .before .before .pre in
-    let first = pre′ .1 .stands in
-    let args′ = c .before .before .before .before .before .before .before .before .before .before .before .before .before .before .before .before .args in
-    let kind = args′ .c .kind in
-    let if5′ = c .before .before .before .before .before .before .before .if5 in
-    let if1′ = c .before .before .before .before .before .before .before .before .before .before .before .if1 in
-    let array = ⊎-elim (λ x. absurd (eqb-false kind 27 (if5′ .left) (eqb-true kind 27 (not-false _ (x .1 .left))))) (λ y. y .left) (if1′ .came) in
-    let if3′ = c .before .before .before .before .before .before .before .before .before .before .if3 in
-    let if4′ = c .before .before .before .before .before .before .before .before .before .if4 in
-    let eat-any′ = c .before .before .before .before .before .before .before .before .eat-any in
-    let array-pattern-close′ = c .before .before .array-pattern-close in
-    let g = args′ .set in
-    let d = args′ .left - 1 in
-    let loop′ = c .before .before .before .before .before .before .loop in
-    let turns = loop′ .inv .0 in
-    let st = turns .ok .stands in
-    let if6′ = c .before .before .before .before .if6 in
-    in-brackets first array (if3′ .left) (if4′ .left) (eat-any′ .ensures) (Steps.tail (omega arith) (array-pattern-close′ .ensures .ends g d) (Steps.count-is (let z : loop′ .n ≡ loop′ .n + 0 = omega arith in z) (Steps.known (goto (array-pattern-close (loop′ .n) 0 [])) st (if6′ .taken) (λ xs t. starts-close g _ xs _ t) (turns .seg))))
+  abbrev l₁ : lts.Else7 (K t) (P t) Post Inv-loop μ-loop → Turn
+  l₁ c = c .before .before .before .before
 
-pub eat-any-requires-2 : (t : ℕ) → lts.Need-eat-any-requires-2 (K t) (P t) Post Inv-loop μ-loop
-eat-any-requires-2 t c κs =
-    let loop′ = c .before .before .before .before .before .loop in
-    let turns = loop′ .inv .0 in
-    let st = turns .ok .stands in
-    st
+  opened : (c : lts.Else7 (K t) (P t) Post Inv-loop μ-loop) → let l = l₁ c .loop in So (l₁ c) 0 (sub pattern ▸ goto pattern-starts-end) (l .n) (l .cur) (l .at) (l .out)
+  opened c =
+      Steps.known (sub pattern ▸ goto pattern-starts-end) (l₁ c .loop .inv .0 .ok .stands) refl
+      (λ xs t. starts-one (b₀ (l₁ c) .args .set) _ xs _ _ t (c .before .before .if6 .left) (c .if7 .left)) Steps.here
 
-pub sub-rest : (t : ℕ) → lts.Need-sub-rest (K t) (P t) Post Inv-loop μ-loop
-sub-rest t c =
-    search needs
+  abbrev l₂ : lts.After-a (K t) (P t) Post Inv-loop μ-loop → lts.After-pat (K t) (P t) Post Inv-loop μ-loop
+  l₂ c = c .before .before .before .before
 
-pub rest-requires : (t : ℕ) → lts.Need-rest-requires (K t) (P t) Post Inv-loop μ-loop
-rest-requires t c κs =
-    let pre′ = c .before .before .before .before .before .before .before .before .before .before .before .before .before .before .before .before .pre in
-    let if4′ = c .before .before .before .before .before .before .before .before .before .if4 in
-    let loop′ = c .before .before .before .before .before .before .loop in
-    let turns = loop′ .inv .0 in
-    let ok = turns .ok in
-    let eat-any2′ = c .eat-any2 in
-    let st = turns .ok .stands in
-    let few = loop′ .inv .1 in
-    (omega (arith, pre′ .0, if4′ .left), (onward ok (eat-any2′ .ensures .stands) (moved-on st (eat-any2′ .ensures)), omega (arith, few, moved-on st (eat-any2′ .ensures))))
+  abbrev l₃ : lts.After-a (K t) (P t) Post Inv-loop μ-loop → Turn
+  l₃ c = l₁ (l₂ c .before .before)
 
-pub same-length-4 : (t : ℕ) → lts.Need-same-length-4 (K t) (P t) Post Inv-loop μ-loop
-same-length-4 t c =
-    let loop′ = c .before .before .before .before .before .before .before .before .before .loop in
-    let turns = loop′ .inv .0 in
-    search (needs, turns .same)
+  one : (c : lts.After-a (K t) (P t) Post Inv-loop μ-loop)
+      → So (l₃ c) 0 (goto pattern-starts-end) (l₃ c .loop .n + 1) (c .a .given .0 .0) (c .a .given .0 .1 .0) (l₂ c .pat .last .1 .0)
+  one c = Steps.took (l₂ c .pat .ensures) (c .a .given .1) (opened (l₂ c .before .before))
 
-pub returns-6 : (t : ℕ) → lts.Need-returns-6 (K t) (P t) Post Inv-loop μ-loop
-returns-6 t c =
-    let pre′ = c .before .before .before .before .before .before .before .before .before .before .before .before .before .before .before .before .before .before .before .pre in
-    let first = pre′ .1 .stands in
-    let args′ = c .before .before .before .before .before .before .before .before .before .before .before .before .before .before .before .before .before .before .before .args in
-    let kind = args′ .c .kind in
-    let if5′ = c .before .before .before .before .before .before .before .before .before .before .if5 in
-    let if1′ = c .before .before .before .before .before .before .before .before .before .before .before .before .before .before .if1 in
-    let array = ⊎-elim (λ x. absurd (eqb-false kind 27 (if5′ .left) (eqb-true kind 27 (not-false _ (x .1 .left))))) (λ y. y .left) (if1′ .came) in
-    let if3′ = c .before .before .before .before .before .before .before .before .before .before .before .before .before .if3 in
-    let if4′ = c .before .before .before .before .before .before .before .before .before .before .before .before .if4 in
-    let eat-any′ = c .before .before .before .before .before .before .before .before .before .before .before .eat-any in
-    let rest′ = c .before .before .rest in
-    let loop′ = c .before .before .before .before .before .before .before .before .before .loop in
-    let turns = loop′ .inv .0 in
-    let st = turns .ok .stands in
-    let eat-any2′ = c .before .before .before .eat-any2 in
-    let if7′ = c .before .before .before .before .before .if7 in
-    let g = args′ .set in
-    in-brackets first array (if3′ .left) (if4′ .left) (eat-any′ .ensures) (Steps.tail (lit≤ tt) (rest′ .ensures) (Steps.taken (lit< tt) st (eat-any2′ .ensures) (if7′ .taken) (Steps.known (eat 32 ▸ goto (array-rest (loop′ .n))) st (if7′ .taken) (λ xs t. starts-rest g _ xs _ t) (turns .seg))))
+  abbrev l₄ : lts.After-eat-any3 (K t) (P t) Post Inv-loop μ-loop → lts.After-a (K t) (P t) Post Inv-loop μ-loop
+  l₄ c = c .before .before .before .before
 
-pub sub-pat : (t : ℕ) → lts.Need-sub-pat (K t) (P t) Post Inv-loop μ-loop
-sub-pat t c =
-    search needs
+  next : (c : lts.After-eat-any3 (K t) (P t) Post Inv-loop μ-loop)
+      → let a = l₄ c in So (l₃ a) 1 (goto pattern-starts) (l₃ a .loop .n + 1) (c .eat-any3 .result) (a .a .given .0 .1 .0) (l₂ a .pat .last .1 .0)
+  next c =
+      let a = l₄ c in let st = one a .stands (l₃ a .loop .inv .0 .ok .stands) in let comma = c .before .if8 .left in
+      Steps.taken (lit< tt) st (c .eat-any3 .ensures) comma
+      (Steps.known (eat 33 ▸ goto pattern-starts) st comma (λ xs t. starts-more (b₀ (l₃ a) .args .set) _ xs _ t) (one a))
 
-pub pat-requires : (t : ℕ) → lts.Need-pat-requires (K t) (P t) Post Inv-loop μ-loop
-pat-requires t c κs =
-    let pre′ = c .before .before .before .before .before .before .before .before .before .before .before .before .before .before .before .pre in
-    let if4′ = c .before .before .before .before .before .before .before .before .if4 in
-    let loop′ = c .before .before .before .before .before .loop in
-    let turns = loop′ .inv .0 in
-    let ok = turns .ok in
-    (omega (arith, pre′ .0, if4′ .left), ok)
+  -- ── The loop, and what each call asks ───────────────────────────────────────────────────────────
 
-pub enum-known-a : (t : ℕ) → lts.Need-enum-known-a (K t) (P t) Post Inv-loop μ-loop
-enum-known-a t c =
-    search needs
+  pattern-atom-requires : lts.Need-pattern-atom-requires (K t) (P t) Post Inv-loop μ-loop
+  pattern-atom-requires c κs =
+      let no-brace = c .before in let no-bracket = no-brace .before in let a = no-bracket .before .before .before .before .before in
+      (a .pre .1, no-bracket .if1 .taken, eqb-false (a .args .c .kind) 27 (not-true _ (no-brace .if2 .taken)))
 
-pub enum-told : (t : ℕ) → lts.Need-enum-told (K t) (P t) Post Inv-loop μ-loop
-enum-told t c =
-    search needs
+  obj-requires : lts.Need-obj-requires (K t) (P t) Post Inv-loop μ-loop
+  obj-requires c κs = let e = c .before .before in (omega (arith, a₀ (a₁ e) .pre .0, e .before .if4 .left), inner e)
 
-pub same-length-5 : (t : ℕ) → lts.Need-same-length-5 (K t) (P t) Post Inv-loop μ-loop
-same-length-5 t c =
-    let loop′ = c .before .before .before .before .before .before .before .before .before .before .loop in
-    let turns = loop′ .inv .0 in
-    search (needs, turns .same)
+  loop-holds : lts.Need-loop-holds (K t) (P t) Post Inv-loop μ-loop
+  loop-holds c = (Steps.begun (inner (c .before)), omega arith)
 
-pub returns-7 : (t : ℕ) → lts.Need-returns-7 (K t) (P t) Post Inv-loop μ-loop
-returns-7 t c =
-    let pre′ = c .before .before .before .before .before .before .before .before .before .before .before .before .before .before .before .before .before .before .before .before .pre in
-    let first = pre′ .1 .stands in
-    let args′ = c .before .before .before .before .before .before .before .before .before .before .before .before .before .before .before .before .before .before .before .before .args in
-    let kind = args′ .c .kind in
-    let if5′ = c .before .before .before .before .before .before .before .before .before .before .before .if5 in
-    let if1′ = c .before .before .before .before .before .before .before .before .before .before .before .before .before .before .before .if1 in
-    let array = ⊎-elim (λ x. absurd (eqb-false kind 27 (if5′ .left) (eqb-true kind 27 (not-false _ (x .1 .left))))) (λ y. y .left) (if1′ .came) in
-    let if3′ = c .before .before .before .before .before .before .before .before .before .before .before .before .before .before .if3 in
-    let if4′ = c .before .before .before .before .before .before .before .before .before .before .before .before .before .if4 in
-    let eat-any′ = c .before .before .before .before .before .before .before .before .before .before .before .before .eat-any in
-    let pat′ = c .before .before .before .before .pat in
-    let match′ = c .before .match in
-    let loop′ = c .before .before .before .before .before .before .before .before .before .before .loop in
-    let turns = loop′ .inv .0 in
-    let st = turns .ok .stands in
-    let g = args′ .set in
-    let if6′ = c .before .before .before .before .before .before .before .before .if6 in
-    let if7′ = c .before .before .before .before .before .before .if7 in
-    let s = args′ .src .now in
-    let d = args′ .left - 1 in
-    let begin = Steps.at g s d (goto pattern-starts) (loop′ .n) (loop′ .cur) (loop′ .at) (loop′ .out) in
-    let opened = Steps.known (sub pattern ▸ goto pattern-starts-end) st refl (λ xs t. starts-one g _ xs _ _ t (if6′ .left) (if7′ .left)) begin in
-    in-brackets first array (if3′ .left) (if4′ .left) (eat-any′ .ensures) (Steps.passed (Steps.takes-broken (pat′ .ensures) (match′ .keys2)) (Steps.then (turns .seg) opened))
+  rest-requires : lts.Need-rest-requires (K t) (P t) Post Inv-loop μ-loop
+  rest-requires c κs =
+      let l = l₀ c in let i = l .loop .inv in
+      (omega (arith, b₀ l .pre .0, a₂ l .before .if4 .left), (Steps.ready (i .0 .ok) (lit≤ tt) (rested c), omega (arith, i .1, rested c .onward)))
 
-pub add-n : (t : ℕ) → lts.Need-add-n (K t) (P t) Post Inv-loop μ-loop
-add-n t c =
-    let loop′ = c .before .before .before .before .before .before .before .before .before .before .before .loop in
-    let few = loop′ .inv .1 in
-    let turns = loop′ .inv .0 in
-    let st = turns .ok .stands in
-    let ok = turns .ok in
-    omega (arith, few, st .within, ok .short)
+  pat-requires : lts.Need-pat-requires (K t) (P t) Post Inv-loop μ-loop
+  pat-requires c κs = let l = l₁ (c .before) in (omega (arith, b₀ l .pre .0, a₂ l .before .if4 .left), l .loop .inv .0 .ok)
 
-pub array-pattern-close-requires-2 : (t : ℕ) → lts.Need-array-pattern-close-requires-2 (K t) (P t) Post Inv-loop μ-loop
-array-pattern-close-requires-2 t c κs =
-    let loop′ = c .before .before .before .before .before .before .before .before .before .before .before .before .before .before .loop in
-    let turns = loop′ .inv .0 in
-    let ok = turns .ok in
-    let pat′ = c .before .before .before .before .before .before .before .before .pat in
-    let a′ = c .before .before .before .before .a in
-    let st = turns .ok .stands in
-    let args′ = c .before .before .before .before .before .before .before .before .before .before .before .before .before .before .before .before .before .before .before .before .before .before .before .before .args in
-    let g = args′ .set in
-    let if6′ = c .before .before .before .before .before .before .before .before .before .before .before .before .if6 in
-    let if7′ = c .before .before .before .before .before .before .before .before .before .before .if7 in
-    let s = args′ .src .now in
-    let d = args′ .left - 1 in
-    let begin = Steps.at g s d (goto pattern-starts) (loop′ .n) (loop′ .cur) (loop′ .at) (loop′ .out) in
-    let opened = Steps.known (sub pattern ▸ goto pattern-starts-end) st refl (λ xs t. starts-one g _ xs _ _ t (if6′ .left) (if7′ .left)) begin in
-    let one = Steps.took (pat′ .ensures) (a′ .given .1) opened in
-    let few = loop′ .inv .1 in
-    let on = step-grows (pat′ .ensures) (a′ .given .1) in
-    (Steps.ready ok (lit≤ tt) one, omega (arith, few, on), omega arith, omega arith, omega arith)
+  add-n : lts.Need-add-n (K t) (P t) Post Inv-loop μ-loop
+  add-n c = let i = l₃ (c .before) .loop .inv in omega (arith, i .1, i .0 .ok .stands .within, i .0 .ok .short)
 
-pub same-length-6 : (t : ℕ) → lts.Need-same-length-6 (K t) (P t) Post Inv-loop μ-loop
-same-length-6 t c =
-    let loop′ = c .before .before .before .before .before .before .before .before .before .before .before .before .before .before .before .before .before .loop in
-    let turns = loop′ .inv .0 in
-    search (needs, turns .same)
+  array-pattern-close-requires-2 : lts.Need-array-pattern-close-requires-2 (K t) (P t) Post Inv-loop μ-loop
+  array-pattern-close-requires-2 c κs =
+      let a = c .before .before .before .before in let i = l₃ a .loop .inv in
+      let more = step-grows (l₂ a .pat .ensures) (a .a .given .1) in
+      (Steps.ready (i .0 .ok) (lit≤ tt) (one a), omega (arith, i .1, more), omega arith, omega arith, omega arith)
 
-pub returns-8 : (t : ℕ) → lts.Need-returns-8 (K t) (P t) Post Inv-loop μ-loop
-returns-8 t c =
-    let pre′ = c .before .before .before .before .before .before .before .before .before .before .before .before .before .before .before .before .before .before .before .before .before .before .before .before .before .before .before .pre in
-    let first = pre′ .1 .stands in
-    let args′ = c .before .before .before .before .before .before .before .before .before .before .before .before .before .before .before .before .before .before .before .before .before .before .before .before .before .before .before .args in
-    let kind = args′ .c .kind in
-    let if5′ = c .before .before .before .before .before .before .before .before .before .before .before .before .before .before .before .before .before .before .if5 in
-    let if1′ = c .before .before .before .before .before .before .before .before .before .before .before .before .before .before .before .before .before .before .before .before .before .before .if1 in
-    let array = ⊎-elim (λ x. absurd (eqb-false kind 27 (if5′ .left) (eqb-true kind 27 (not-false _ (x .1 .left))))) (λ y. y .left) (if1′ .came) in
-    let if3′ = c .before .before .before .before .before .before .before .before .before .before .before .before .before .before .before .before .before .before .before .before .before .if3 in
-    let if4′ = c .before .before .before .before .before .before .before .before .before .before .before .before .before .before .before .before .before .before .before .before .if4 in
-    let eat-any′ = c .before .before .before .before .before .before .before .before .before .before .before .before .before .before .before .before .before .before .before .eat-any in
-    let array-pattern-close2′ = c .before .before .array-pattern-close2 in
-    let g = args′ .set in
-    let d = args′ .left - 1 in
-    let loop′ = c .before .before .before .before .before .before .before .before .before .before .before .before .before .before .before .before .before .loop in
-    let pat′ = c .before .before .before .before .before .before .before .before .before .before .before .pat in
-    let a′ = c .before .before .before .before .before .before .before .a in
-    let turns = loop′ .inv .0 in
-    let st = turns .ok .stands in
-    let if6′ = c .before .before .before .before .before .before .before .before .before .before .before .before .before .before .before .if6 in
-    let if7′ = c .before .before .before .before .before .before .before .before .before .before .before .before .before .if7 in
-    let s = args′ .src .now in
-    let begin = Steps.at g s d (goto pattern-starts) (loop′ .n) (loop′ .cur) (loop′ .at) (loop′ .out) in
-    let opened = Steps.known (sub pattern ▸ goto pattern-starts-end) st refl (λ xs t. starts-one g _ xs _ _ t (if6′ .left) (if7′ .left)) begin in
-    let one = Steps.took (pat′ .ensures) (a′ .given .1) opened in
-    let there = one .stands st in
-    let if8′ = c .before .before .before .before .if8 in
-    in-brackets first array (if3′ .left) (if4′ .left) (eat-any′ .ensures) (Steps.tail (omega arith) (array-pattern-close2′ .ensures .ends g d) (Steps.count-is (let z : loop′ .n + 1 ≡ loop′ .n + 1 + 0 = omega arith in z) (Steps.known (goto (array-pattern-close (loop′ .n + 1) 0 [])) there refl (λ xs t. starts-over g _ xs _ _ t (if8′ .taken)) (Steps.then (turns .seg) one))))
+  eat-any-requires-3 : lts.Need-eat-any-requires-3 (K t) (P t) Post Inv-loop μ-loop
+  eat-any-requires-3 c κs = let a = c .before .before .before in one a .stands (l₃ a .loop .inv .0 .ok .stands)
 
-pub eat-any-requires-3 : (t : ℕ) → lts.Need-eat-any-requires-3 (K t) (P t) Post Inv-loop μ-loop
-eat-any-requires-3 t c κs =
-    let pat′ = c .before .before .before .before .before .before .before .pat in
-    let a′ = c .before .before .before .a in
-    let loop′ = c .before .before .before .before .before .before .before .before .before .before .before .before .before .loop in
-    let turns = loop′ .inv .0 in
-    let st = turns .ok .stands in
-    let args′ = c .before .before .before .before .before .before .before .before .before .before .before .before .before .before .before .before .before .before .before .before .before .before .before .args in
-    let g = args′ .set in
-    let if6′ = c .before .before .before .before .before .before .before .before .before .before .before .if6 in
-    let if7′ = c .before .before .before .before .before .before .before .before .before .if7 in
-    let s = args′ .src .now in
-    let d = args′ .left - 1 in
-    let begin = Steps.at g s d (goto pattern-starts) (loop′ .n) (loop′ .cur) (loop′ .at) (loop′ .out) in
-    let opened = Steps.known (sub pattern ▸ goto pattern-starts-end) st refl (λ xs t. starts-one g _ xs _ _ t (if6′ .left) (if7′ .left)) begin in
-    let one = Steps.took (pat′ .ensures) (a′ .given .1) opened in
-    let there = one .stands st in
-    there
+  loop-less : lts.Need-loop-less (K t) (P t) Post Inv-loop μ-loop
+  loop-less c = Steps.closer (l₃ (l₄ c) .loop .inv .0 .ok) (lit≤ tt) (next c)
 
-pub loop-less : (t : ℕ) → lts.Need-loop-less (K t) (P t) Post Inv-loop μ-loop
-loop-less t c =
-    let loop′ = c .before .before .before .before .before .before .before .before .before .before .before .before .before .before .loop in
-    let turns = loop′ .inv .0 in
-    let ok = turns .ok in
-    let pat′ = c .before .before .before .before .before .before .before .before .pat in
-    let a′ = c .before .before .before .before .a in
-    let st = turns .ok .stands in
-    let args′ = c .before .before .before .before .before .before .before .before .before .before .before .before .before .before .before .before .before .before .before .before .before .before .before .before .args in
-    let g = args′ .set in
-    let if6′ = c .before .before .before .before .before .before .before .before .before .before .before .before .if6 in
-    let if7′ = c .before .before .before .before .before .before .before .before .before .before .if7 in
-    let s = args′ .src .now in
-    let d = args′ .left - 1 in
-    let begin = Steps.at g s d (goto pattern-starts) (loop′ .n) (loop′ .cur) (loop′ .at) (loop′ .out) in
-    let opened = Steps.known (sub pattern ▸ goto pattern-starts-end) st refl (λ xs t. starts-one g _ xs _ _ t (if6′ .left) (if7′ .left)) begin in
-    let one = Steps.took (pat′ .ensures) (a′ .given .1) opened in
-    let there = one .stands st in
-    let eat-any3′ = c .eat-any3 in
-    let if8′ = c .before .if8 in
-    let turn = Steps.taken (lit< tt) there (eat-any3′ .ensures) (if8′ .left) (Steps.known (eat 33 ▸ goto pattern-starts) there (if8′ .left) (λ xs t. starts-more g _ xs _ t) one) in
-    Steps.closer ok (lit≤ tt) turn
+  loop-again : lts.Need-loop-again (K t) (P t) Post Inv-loop μ-loop
+  loop-again c = let i = l₃ (l₄ c) .loop .inv in (Steps.turned (i .0) (lit≤ tt) (next c), omega (arith, i .1, next c .onward))
 
-pub loop-again : (t : ℕ) → lts.Need-loop-again (K t) (P t) Post Inv-loop μ-loop
-loop-again t c =
-    let loop′ = c .before .before .before .before .before .before .before .before .before .before .before .before .before .before .loop in
-    let turns = loop′ .inv .0 in
-    let pat′ = c .before .before .before .before .before .before .before .before .pat in
-    let a′ = c .before .before .before .before .a in
-    let st = turns .ok .stands in
-    let args′ = c .before .before .before .before .before .before .before .before .before .before .before .before .before .before .before .before .before .before .before .before .before .before .before .before .args in
-    let g = args′ .set in
-    let if6′ = c .before .before .before .before .before .before .before .before .before .before .before .before .if6 in
-    let if7′ = c .before .before .before .before .before .before .before .before .before .before .if7 in
-    let s = args′ .src .now in
-    let d = args′ .left - 1 in
-    let begin = Steps.at g s d (goto pattern-starts) (loop′ .n) (loop′ .cur) (loop′ .at) (loop′ .out) in
-    let opened = Steps.known (sub pattern ▸ goto pattern-starts-end) st refl (λ xs t. starts-one g _ xs _ _ t (if6′ .left) (if7′ .left)) begin in
-    let one = Steps.took (pat′ .ensures) (a′ .given .1) opened in
-    let there = one .stands st in
-    let eat-any3′ = c .eat-any3 in
-    let if8′ = c .before .if8 in
-    let turn = Steps.taken (lit< tt) there (eat-any3′ .ensures) (if8′ .left) (Steps.known (eat 33 ▸ goto pattern-starts) there (if8′ .left) (λ xs t. starts-more g _ xs _ t) one) in
-    let few = loop′ .inv .1 in
-    let on = step-grows (pat′ .ensures) (a′ .given .1) in
-    (Steps.turned turns (lit≤ tt) turn, omega (arith, few, on, moved-on there (eat-any3′ .ensures)))
+  -- ── What each return owes ───────────────────────────────────────────────────────────────────────
+
+  returns : lts.Need-returns (K t) (P t) Post Inv-loop μ-loop
+  returns c = let x = c .before .before in let no-bracket = x .before .before .before in Steps.as-sub (x .pattern-atom .ensures .ends (no-bracket .before .before .before .before .before .args .left))
+
+  returns-2 : lts.Need-returns-2 (K t) (P t) Post Inv-loop μ-loop
+  unfolding sorted
+  returns-2 c =
+      let j = c .before .before in let a = a₀ j .args in
+      Steps.as-sub (one-fault (a₀ j .pre .1 .stands) refl (λ xs t. no-pattern (a .set) (a .c) xs 0 (a .c .kind) t (no-name (either j)) (c .before .if3 .taken)) (c .error .ensures))
+
+  returns-3 : lts.Need-returns-3 (K t) (P t) Post Inv-loop μ-loop
+  returns-3 c =
+      let j = c .before .before .before in
+      Steps.as-sub (Steps.broke (none-deeper (a₀ j .pre .1 .stands) (either j) (c .before .before .if3 .left) (c .before .if4 .taken)) (c .error2 .ensures))
+
+  returns-4 : lts.Need-returns-4 (K t) (P t) Post Inv-loop μ-loop
+  returns-4 c =
+      let x = c .before .before in let brace = x .before .before in let e = brace .before in let a = a₀ (a₁ e) in
+      in-braces (a .pre .1 .stands) (eqb-true (a .args .c .kind) 27 (brace .if5 .taken)) (e .before .before .if3 .left) (e .before .if4 .left) (e .eat-any .ensures) (x .obj .ensures)
+
+  returns-5 : lts.Need-returns-5 (K t) (P t) Post Inv-loop μ-loop
+  returns-5 c =
+      let x = c .before .before in let at-end = x .before .before in let l = at-end .before .before in let a = b₀ l .args in
+      let i = l .loop .inv .0 in let n = l .loop .n in
+      let shut = Steps.known (goto (array-pattern-close n 0 [])) (i .ok .stands) (at-end .if6 .taken) (λ xs t. starts-close (a .set) _ xs _ t) (i .seg) in
+      whole l (Steps.tail (omega arith) (x .array-pattern-close .ensures .ends (a .set) (a .left - 1)) (Steps.count-is (let z : n ≡ n + 0 = omega arith in z) shut))
+
+  returns-6 : lts.Need-returns-6 (K t) (P t) Post Inv-loop μ-loop
+  returns-6 c = let x = c .before .before in let l = l₀ (x .before) in whole l (Steps.tail (lit≤ tt) (x .rest .ensures) (Steps.onto (l .loop .inv .0 .seg) (rested (x .before))))
+
+  returns-7 : lts.Need-returns-7 (K t) (P t) Post Inv-loop μ-loop
+  returns-7 c =
+      let x = c .before .before .before .before in let e = x .before .before in
+      whole (l₁ e) (Steps.passed (Steps.takes-broken (x .pat .ensures) (c .before .match .keys2)) (Steps.then (l₁ e .loop .inv .0 .seg) (opened e)))
+
+  returns-8 : lts.Need-returns-8 (K t) (P t) Post Inv-loop μ-loop
+  returns-8 c =
+      let x = c .before .before in let over = x .before .before in let a = over .before .before .before in let l = l₃ a in let b = b₀ l .args in
+      let i = l .loop .inv .0 in let n = l .loop .n + 1 in let st = one a .stands (i .ok .stands) in
+      let shut = Steps.known (goto (array-pattern-close n 0 [])) st refl (λ xs t. starts-over (b .set) _ xs _ _ t (over .if8 .taken)) (Steps.then (i .seg) (one a)) in
+      whole l (Steps.tail (omega arith) (x .array-pattern-close2 .ensures .ends (b .set) (b .left - 1)) (Steps.count-is (let z : n ≡ n + 0 = omega arith in z) shut))
+
+  -- All of them, in the order of the code.
+  pub met : {M : Type 1} → lts.Closed (K t) (P t) Post M
+  met =
+      lts.spec (K t) (P t) Post Inv-loop μ-loop pattern-atom-requires (λ c. search needs) returns (λ c κs. search needs) returns-2
+      (λ c κs. search needs) returns-3 (λ c κs. search needs) (λ c. search needs) obj-requires (λ c. search needs) returns-4 loop-holds
+      (λ c κs. search needs) (λ c. search needs) returns-5 (λ c κs. search needs) (λ c. search needs) rest-requires (λ c. search needs) returns-6
+      (λ c. search needs) pat-requires (λ c. search needs) (λ c. search needs) (λ c. search needs) returns-7 add-n array-pattern-close-requires-2
+      (λ c. search needs) returns-8 eat-any-requires-3 loop-less loop-again

@@ -1,72 +1,60 @@
--- The answers of `rest`.
+-- The answers of `rest`: the stretch past the name of an array pattern's rest, and from it what each call asks and each return owes.
 use borrow.Author.Needs.{needs}
 use native.Mathlib.Omega.{arith}
-use lib.Dec.{lit<, lit≤}
-use lib.ListN.{length}
-use mathlib.Core.Path.{_≡_, refl, sym, ap, subst, _∙_}
-use mathlib.Core.Logic.{⊎-elim}
-use mathlib.Core.List.{[], _∷_}
-use Prim.Native.Nat.{ℕ, _+_, _*_, _-_, _≤_, _<_}
+use lib.Seq.{slice}
+use mathlib.Core.Path.{refl}
+use mathlib.Core.List.{[]}
+use Prim.Native.Nat.{ℕ, _+_, _-_}
 use Rattle.leaves.proofs.Steps
 use Rattle.phrases.proofs.rest.Reads.{Post}
 use Rattle.phrases.proofs.+arg+args+array+assert+basic+bind+body+chain+claim+comp+cond+each+ends+expr+field+func+index+init+inside+item+link+load+local+member+name+obj+param+params+pat+rest+rhs+safe+sign+slice+spec+specs+step+value.Lts-rest as lts
 use Rattle.phrases.proofs.+arg+args+array+assert+basic+bind+body+chain+claim+comp+cond+each+ends+expr+field+func+index+init+inside+item+link+load+local+member+name+obj+param+params+pat+rest+rhs+safe+sign+slice+spec+specs+step+value.Proof.Frame.{rest-claims as K, rest-at as P}
-use Rattle.grammar.specs.Productions.{goto, end, eat, _▸_, array-rest, array-rest-end}
-use Rattle.leaves.proofs.LeafLaws.{moved-on, onward}
+use Rattle.grammar.specs.Productions.{Body, goto, eat, _▸_, array-rest, array-rest-end}
+use Rattle.leaves.specs.Meets.{state, Seg}
+use Rattle.leaves.specs.declared.Cursor.{Cursor}
 use Rattle.leaves.proofs.LexemeLaws.{lies}
 use Rattle.phrases.proofs.PatternLaws.{array-rest-named, array-rest-bare}
-use lib.Seq.{slice}
 
-pub eat-any-requires : (t : ℕ) → lts.Need-eat-any-requires (K t) (P t) Post
-eat-any-requires t c κs =
-    let pre′ = c .before .before .before .before .before .pre in
-    pre′ .1 .0 .stands
+module _ (t : ℕ) where
+  -- a stretch from the start, of which e bytes are taken and nothing is written
+  abbrev So : lts.Start (K t) (P t) Post → ℕ → Body → Cursor → Type 0
+  So a e b c = let x = a .args in Seg (x .set) (x .src .now) (x .left) (state (goto (array-rest (x .n))) (x .n) (x .c) (x .w) (x .out .now)) e 0 (state b (x .n) c (x .w) (x .out .now))
 
-pub ends-requires : (t : ℕ) → lts.Need-ends-requires (K t) (P t) Post
-ends-requires t c κs =
-    let pre′ = c .before .before .before .before .before .before .pre in
-    let eat-any′ = c .eat-any in
-    let st = pre′ .1 .0 .stands in
-    (omega (arith, pre′ .0), (onward (pre′ .1 .0) (eat-any′ .ensures .stands) (moved-on st (eat-any′ .ensures)), omega (arith, pre′ .1 .1, moved-on st (eat-any′ .ensures)), lies st .on, lies st .within))
+  abbrev a₀ : lts.After-eat-any (K t) (P t) Post → lts.Start (K t) (P t) Post
+  a₀ c = c .before .before .before .before .before .before
 
-pub same-length : (t : ℕ) → lts.Need-same-length (K t) (P t) Post
-same-length t c =
-    search needs
+  named : (c : lts.After-eat-any (K t) (P t) Post) → let a = a₀ c .args in
+      So (a₀ c) (0 + (a .c .end - a .c .at)) (goto (array-rest-end (a .n) 2 (slice (a .c .start) (a .c .end) (a .src .now)))) (c .eat-any .result)
+  named c =
+      let a = a₀ c .args in let st = a₀ c .pre .1 .0 .stands in
+      let name = slice (a .c .start) (a .c .end) (a .src .now) in
+      let at-name = c .before .before .if1 .taken in
+      Steps.taken-of (a .c .end - a .c .at) (omega arith) st (c .eat-any .ensures) at-name
+      (Steps.called (eat 55 ▸ goto (array-rest-end (a .n) 2 name)) st at-name (λ xs. array-rest-named (a .set) (a .c) xs (a .n) name) Steps.here)
 
-pub returns : (t : ℕ) → lts.Need-returns (K t) (P t) Post
-returns t c =
-    let pre′ = c .before .before .before .before .before .before .before .before .before .pre in
-    let st = pre′ .1 .0 .stands in
-    let ends′ = c .before .before .ends in
-    let args′ = c .before .before .before .before .before .before .before .before .before .args in
-    let eat-any′ = c .before .before .before .eat-any in
-    let if1′ = c .before .before .before .before .before .if1 in
-    let s = args′ .src .now in
-    let name = slice (args′ .c .start) (args′ .c .end) s in
-    let g = args′ .set in
-    let begin = Steps.at g s (args′ .left) (goto (array-rest (args′ .n))) (args′ .n) (args′ .c) (args′ .w) (args′ .out .now) in
-    let called = Steps.called (eat 55 ▸ goto (array-rest-end (args′ .n) 2 name)) st (if1′ .taken) (λ xs. array-rest-named g (args′ .c) xs (args′ .n) name) begin in
-    let named = Steps.taken-of (args′ .c .end - args′ .c .at) (omega arith) st (eat-any′ .ensures) (if1′ .taken) called in
-    Steps.tail (omega (arith, lies st .from, lies st .on)) (ends′ .ensures) named
+  -- ── What each call asks ─────────────────────────────────────────────────────────────────────────
 
-pub ends-requires-2 : (t : ℕ) → lts.Need-ends-requires-2 (K t) (P t) Post
-ends-requires-2 t c κs =
-    let pre′ = c .before .before .before .before .before .pre in
-    (omega (arith, pre′ .0), (pre′ .1 .0, pre′ .1 .1, omega arith, omega arith))
+  ends-requires : lts.Need-ends-requires (K t) (P t) Post
+  ends-requires c κs =
+      let p = a₀ c .pre in
+      let l = lies (p .1 .0 .stands) in
+      (omega (arith, p .0), (Steps.ready (p .1 .0) (omega arith) (named c), omega (arith, p .1 .1, named c .onward), l .on, l .within))
 
-pub same-length-2 : (t : ℕ) → lts.Need-same-length-2 (K t) (P t) Post
-same-length-2 t c =
-    search needs
+  ends-requires-2 : lts.Need-ends-requires-2 (K t) (P t) Post
+  ends-requires-2 c κs = let p = c .before .before .before .before .before .pre in (omega (arith, p .0), (p .1 .0, p .1 .1, omega arith, omega arith))
 
-pub returns-2 : (t : ℕ) → lts.Need-returns-2 (K t) (P t) Post
-returns-2 t c =
-    let ends2′ = c .before .before .ends2 in
-    let args′ = c .before .before .before .before .before .before .before .before .args in
-    let pre′ = c .before .before .before .before .before .before .before .before .pre in
-    let st = pre′ .1 .0 .stands in
-    let g = args′ .set in
-    let if1′ = c .before .before .before .before .if1 in
-    let s = args′ .src .now in
-    let begin = Steps.at g s (args′ .left) (goto (array-rest (args′ .n))) (args′ .n) (args′ .c) (args′ .w) (args′ .out .now) in
-    let bare = Steps.known (goto (array-rest-end (args′ .n) 1 [])) st refl (λ xs t. array-rest-bare g (args′ .c) xs (args′ .n) (args′ .c .kind) t (if1′ .left)) begin in
-    Steps.tail (omega arith) (ends2′ .ensures) bare
+  -- ── What each return owes ───────────────────────────────────────────────────────────────────────
+
+  returns : lts.Need-returns (K t) (P t) Post
+  returns c = let x = c .before .before in let l = lies (a₀ (x .before) .pre .1 .0 .stands) in Steps.tail (omega (arith, l .from, l .on)) (x .ends .ensures) (named (x .before))
+
+  returns-2 : lts.Need-returns-2 (K t) (P t) Post
+  returns-2 c =
+      let x = c .before .before in let no-name = x .before .before in let s = no-name .before .before .before .before in let a = s .args in
+      Steps.tail (omega arith) (x .ends2 .ensures)
+      (Steps.known (goto (array-rest-end (a .n) 1 [])) (s .pre .1 .0 .stands) refl (λ xs t. array-rest-bare (a .set) (a .c) xs (a .n) (a .c .kind) t (no-name .if1 .left)) Steps.here)
+
+  -- All of them, in the order of the code.
+  pub met : {M : Type 1} → lts.Closed (K t) (P t) Post M
+  met =
+      lts.spec (K t) (P t) Post (λ c κs. search needs) ends-requires (λ c. search needs) returns ends-requires-2 (λ c. search needs) returns-2

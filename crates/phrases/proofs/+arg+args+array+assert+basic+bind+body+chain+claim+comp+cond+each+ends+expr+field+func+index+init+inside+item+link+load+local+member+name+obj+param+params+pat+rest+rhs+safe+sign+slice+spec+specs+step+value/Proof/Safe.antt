@@ -1,282 +1,119 @@
--- The answers of `safe`.
+-- The answers of `safe`: the stretch from its start to each place of its code, and from these what each call asks and each return owes.
 use borrow.Author.Needs.{needs}
 use native.Mathlib.Omega.{arith}
 use lib.Dec.{lit<, lit≤}
-use lib.ListN.{length}
-use mathlib.Core.Path.{_≡_, refl, sym, ap, subst, _∙_}
-use mathlib.Core.Logic.{⊎-elim}
-use mathlib.Core.List.{[], _∷_}
-use Prim.Native.Nat.{ℕ, _+_, _*_, _-_, _≤_, _<_}
+use mathlib.Core.Path.{refl}
+use mathlib.Core.List.{List, [], _∷_}
+use Prim.Native.Nat.{ℕ}
+use borrow.Author.Tests.{ne-eqb}
 use Rattle.leaves.proofs.Steps
 use Rattle.phrases.proofs.safe.Reads.{Post}
 use Rattle.phrases.proofs.+arg+args+array+assert+basic+bind+body+chain+claim+comp+cond+each+ends+expr+field+func+index+init+inside+item+link+load+local+member+name+obj+param+params+pat+rest+rhs+safe+sign+slice+spec+specs+step+value.Lts-safe as lts
 use Rattle.phrases.proofs.+arg+args+array+assert+basic+bind+body+chain+claim+comp+cond+each+ends+expr+field+func+index+init+inside+item+link+load+local+member+name+obj+param+params+pat+rest+rhs+safe+sign+slice+spec+specs+step+value.Proof.Frame.{safe-claims as K, safe-at as P}
 use Rattle.grammar.specs.Image.{entry, payload}
 use Rattle.grammar.specs.Trees.{byte, span}
-use Rattle.grammar.specs.Productions.{goto, eat, close, _▸_, rule, expression, suffix, null-safe-index, null-safe-end, member-name}
+use Rattle.grammar.specs.Productions.{Body, goto, eat, close, _▸_, rule, expression, suffix, null-safe, null-safe-index, null-safe-end, member-name}
 use Rattle.grammar.specs.Reading.{choose, has}
-use Rattle.leaves.specs.Meets.{safely}
-use borrow.Author.Tests.{ne-eqb}
+use Rattle.leaves.specs.Meets.{state, Seg, safely}
+use Rattle.leaves.specs.declared.Cursor.{Cursor}
 use Rattle.leaves.proofs.LexemeLaws.{sight}
 use Rattle.leaves.proofs.LeafLaws.{within}
 
-pub eat-requires : (t : ℕ) → lts.Need-eat-requires (K t) (P t) Post
-eat-requires t c κs =
-    let pre′ = c .before .before .pre in
-    let st = pre′ .1 .0 .stands in
-    (lit< tt, st)
+module _ (t : ℕ) where
+  -- a stretch from the start, of which e bytes are taken, to a body with n trees
+  abbrev So : lts.Start (K t) (P t) Post → ℕ → Body → ℕ → Cursor → ℕ → List ℕ → Type 0
+  So a e b n c w o = let x = a .args in Seg (x .set) (x .src .now) (x .left) (state (safely (x .first)) 1 (x .c) (x .w) (x .out .now)) e 0 (state b n c w o)
 
-pub enum-known-a : (t : ℕ) → lts.Need-enum-known-a (K t) (P t) Post
-enum-known-a t c =
-    search needs
+  abbrev a₀ : lts.After-a (K t) (P t) Post → lts.Start (K t) (P t) Post
+  a₀ c = c .before .before .before .before .before
 
-pub enum-told : (t : ℕ) → lts.Need-enum-told (K t) (P t) Post
-enum-told t c =
-    search needs
+  dotted : (c : lts.After-a (K t) (P t) Post) → So (a₀ c) 1 (goto (null-safe (a₀ c .args .first))) 1 (c .a .given .0 .0) (c .a .given .0 .1 .0) (a₀ c .args .out .now)
+  dotted c = Steps.ate (c .before .before .eat .ensures) (c .a .given .1) Steps.here
 
-pub returns : (t : ℕ) → lts.Need-returns (K t) (P t) Post
-returns t c =
-    let eat′ = c .before .before .eat in
-    let match′ = c .before .match in
-    let args′ = c .before .before .before .before .before .args in
-    let g = args′ .set in
-    let s = args′ .src .now in
-    let f = args′ .first in
-    let begin = Steps.at g s (args′ .left) (safely f) 1 (args′ .c) (args′ .w) (args′ .out .now) in
-    Steps.passed-telling (Steps.eats-broken (eat′ .ensures) (match′ .keys2)) begin
+  -- ── `[` e `]` ───────────────────────────────────────────────────────────────────────────────────
 
-pub member-name-requires : (t : ℕ) → lts.Need-member-name-requires (K t) (P t) Post
-unfolding rule choose has sight
-member-name-requires t c κs =
-    let pre′ = c .before .before .before .before .before .before .before .before .before .pre in
-    let eat′ = c .before .before .before .before .before .before .eat in
-    let a′ = c .before .before .before .before .a in
-    let args′ = c .before .before .before .before .before .before .before .before .before .args in
-    let g = args′ .set in
-    let s = args′ .src .now in
-    let f = args′ .first in
-    let begin = Steps.at g s (args′ .left) (safely f) 1 (args′ .c) (args′ .w) (args′ .out .now) in
-    let dot = Steps.ate (eat′ .ensures) (a′ .given .1) begin in
-    (Steps.ready (pre′ .1 .0) (lit≤ tt) dot, pre′ .1 .1)
+  abbrev c₁ : lts.After-eat-any (K t) (P t) Post → lts.After-a (K t) (P t) Post
+  c₁ c = c .before .before .before .before
 
-pub same-length : (t : ℕ) → lts.Need-same-length (K t) (P t) Post
-same-length t c =
-    search needs
+  abbrev a₁ : lts.After-eat-any (K t) (P t) Post → lts.Start (K t) (P t) Post
+  a₁ c = a₀ (c₁ c)
 
-pub returns-2 : (t : ℕ) → lts.Need-returns-2 (K t) (P t) Post
-unfolding rule choose has sight
-returns-2 t c =
-    let member-name′ = c .before .before .member-name in
-    let args′ = c .before .before .before .before .before .before .before .before .before .before .before .before .args in
-    let g = args′ .set in
-    let f = args′ .first in
-    let eat′ = c .before .before .before .before .before .before .before .before .before .eat in
-    let a′ = c .before .before .before .before .before .before .before .a in
-    let s = args′ .src .now in
-    let begin = Steps.at g s (args′ .left) (safely f) 1 (args′ .c) (args′ .w) (args′ .out .now) in
-    let dot = Steps.ate (eat′ .ensures) (a′ .given .1) begin in
-    let pre′ = c .before .before .before .before .before .before .before .before .before .before .before .before .pre in
-    let st = pre′ .1 .0 .stands in
-    let there = dot .stands st in
-    let if1′ = c .before .before .before .before .if1 in
-    let plain = Steps.known (goto (member-name f 1)) there refl (λ xs t. simp (ne-eqb _ 23 (if1′ .taken))) dot in
-    Steps.tail-telling (lit≤ tt) (member-name′ .ensures .tells g (args′ .left)) plain
+  opened : (c : lts.After-eat-any (K t) (P t) Post) → let i = c .eat-any .result in
+      So (a₁ c) 2 (expression ▸ goto (null-safe-end (a₁ c .args .first) (i .start))) 1 i (c₁ c .a .given .0 .1 .0) (a₁ c .args .out .now)
+  unfolding rule choose has sight
+  opened c =
+      let f = a₁ c .args .first in let st = dotted (c₁ c) .stands (a₁ c .pre .1 .0 .stands) in let bracket = c .before .if1 .left in
+      Steps.known (expression ▸ goto (null-safe-end f (c .eat-any .result .start))) (c .eat-any .ensures .stands) refl (λ xs t. refl)
+      (Steps.taken (lit< tt) st (c .eat-any .ensures) bracket (Steps.known (eat 23 ▸ goto (null-safe-index f)) st bracket (λ xs t. refl) (dotted (c₁ c))))
 
-pub eat-any-requires : (t : ℕ) → lts.Need-eat-any-requires (K t) (P t) Post
-unfolding rule choose has sight
-eat-any-requires t c κs =
-    let eat′ = c .before .before .before .before .before .eat in
-    let a′ = c .before .before .before .a in
-    let args′ = c .before .before .before .before .before .before .before .before .args in
-    let g = args′ .set in
-    let s = args′ .src .now in
-    let f = args′ .first in
-    let begin = Steps.at g s (args′ .left) (safely f) 1 (args′ .c) (args′ .w) (args′ .out .now) in
-    let dot = Steps.ate (eat′ .ensures) (a′ .given .1) begin in
-    let pre′ = c .before .before .before .before .before .before .before .before .pre in
-    let st = pre′ .1 .0 .stands in
-    let there = dot .stands st in
-    there
+  abbrev c₂ : lts.After-b (K t) (P t) Post → lts.After-expr (K t) (P t) Post
+  c₂ c = c .before .before .before .before
 
-pub expr-requires : (t : ℕ) → lts.Need-expr-requires (K t) (P t) Post
-unfolding rule choose has sight
-expr-requires t c κs =
-    let pre′ = c .before .before .before .before .before .before .before .before .before .before .pre in
-    let eat′ = c .before .before .before .before .before .before .before .eat in
-    let a′ = c .before .before .before .before .before .a in
-    let args′ = c .before .before .before .before .before .before .before .before .before .before .args in
-    let g = args′ .set in
-    let s = args′ .src .now in
-    let f = args′ .first in
-    let begin = Steps.at g s (args′ .left) (safely f) 1 (args′ .c) (args′ .w) (args′ .out .now) in
-    let dot = Steps.ate (eat′ .ensures) (a′ .given .1) begin in
-    let st = pre′ .1 .0 .stands in
-    let there = dot .stands st in
-    let eat-any′ = c .before .eat-any in
-    let if1′ = c .before .before .if1 in
-    let open1 = Steps.taken (lit< tt) there (eat-any′ .ensures) (if1′ .left) (Steps.known (eat 23 ▸ goto (null-safe-index f)) there (if1′ .left) (λ xs t. refl) dot) in
-    let ok = Steps.ready (pre′ .1 .0) (lit≤ tt) open1 in
-    (omega (arith, pre′ .0), ok)
+  abbrev c₃ : lts.After-b (K t) (P t) Post → lts.After-eat-any (K t) (P t) Post
+  c₃ c = c₂ c .before .before
 
-pub enum-known-b : (t : ℕ) → lts.Need-enum-known-b (K t) (P t) Post
-enum-known-b t c =
-    search needs
+  -- the record, and what comes after it
+  abbrev shut : lts.After-b (K t) (P t) Post → Body
+  shut c = close 20 (span (c₃ c .eat-any .result .start) (c .b .given .0 .0 .at) ∷ byte (a₁ (c₃ c) .args .first) ∷ byte 1 ∷ []) ▸ goto (suffix 0)
 
-pub enum-told-2 : (t : ℕ) → lts.Need-enum-told-2 (K t) (P t) Post
-enum-told-2 t c =
-    search needs
+  read : (c : lts.After-b (K t) (P t) Post) → So (a₁ (c₃ c)) 2 (eat 24 ▸ shut c) 2 (c .b .given .0 .0) (c .b .given .0 .1 .0) (c₂ c .expr .last .1 .0)
+  unfolding rule choose has sight
+  read c =
+      let value = Steps.took (c₂ c .expr .ensures) (c .b .given .1) (opened (c₃ c)) in
+      Steps.known (eat 24 ▸ shut c) (value .stands (a₁ (c₃ c) .pre .1 .0 .stands)) refl (λ xs t. refl) value
 
-pub same-length-2 : (t : ℕ) → lts.Need-same-length-2 (K t) (P t) Post
-same-length-2 t c =
-    search needs
+  abbrev c₄ : lts.After-d (K t) (P t) Post → lts.After-b (K t) (P t) Post
+  c₄ c = c .before .before .before .before
 
-pub returns-3 : (t : ℕ) → lts.Need-returns-3 (K t) (P t) Post
-unfolding rule choose has sight
-returns-3 t c =
-    let expr′ = c .before .before .before .before .expr in
-    let match2′ = c .before .match2 in
-    let args′ = c .before .before .before .before .before .before .before .before .before .before .before .before .before .before .before .args in
-    let f = args′ .first in
-    let eat-any′ = c .before .before .before .before .before .before .eat-any in
-    let pre′ = c .before .before .before .before .before .before .before .before .before .before .before .before .before .before .before .pre in
-    let eat′ = c .before .before .before .before .before .before .before .before .before .before .before .before .eat in
-    let a′ = c .before .before .before .before .before .before .before .before .before .before .a in
-    let g = args′ .set in
-    let s = args′ .src .now in
-    let begin = Steps.at g s (args′ .left) (safely f) 1 (args′ .c) (args′ .w) (args′ .out .now) in
-    let dot = Steps.ate (eat′ .ensures) (a′ .given .1) begin in
-    let st = pre′ .1 .0 .stands in
-    let there = dot .stands st in
-    let if1′ = c .before .before .before .before .before .before .before .if1 in
-    let open1 = Steps.taken (lit< tt) there (eat-any′ .ensures) (if1′ .left) (Steps.known (eat 23 ▸ goto (null-safe-index f)) there (if1′ .left) (λ xs t. refl) dot) in
-    let ok = Steps.ready (pre′ .1 .0) (lit≤ tt) open1 in
-    let index = Steps.known (expression ▸ goto (null-safe-end f (eat-any′ .result .start))) (ok .stands) refl (λ xs t. refl) open1 in
-    Steps.passed-telling (Steps.takes-broken (expr′ .ensures) (match2′ .keys2)) index
+  over : (c : lts.After-d (K t) (P t) Post) → So (a₁ (c₃ (c₄ c))) 3 (shut (c₄ c)) 2 (c .d .given .0 .0) (c .d .given .0 .1 .0) (c₂ (c₄ c) .expr .last .1 .0)
+  over c = Steps.ate (c .before .before .eat2 .ensures) (c .d .given .1) (read (c₄ c))
 
-pub eat-requires-2 : (t : ℕ) → lts.Need-eat-requires-2 (K t) (P t) Post
-unfolding rule choose has sight
-eat-requires-2 t c κs =
-    let expr′ = c .before .before .before .before .before .expr in
-    let b′ = c .before .b in
-    let args′ = c .before .before .before .before .before .before .before .before .before .before .before .before .before .before .before .before .args in
-    let f = args′ .first in
-    let eat-any′ = c .before .before .before .before .before .before .before .eat-any in
-    let pre′ = c .before .before .before .before .before .before .before .before .before .before .before .before .before .before .before .before .pre in
-    let eat′ = c .before .before .before .before .before .before .before .before .before .before .before .before .before .eat in
-    let a′ = c .before .before .before .before .before .before .before .before .before .before .before .a in
-    let g = args′ .set in
-    let s = args′ .src .now in
-    let begin = Steps.at g s (args′ .left) (safely f) 1 (args′ .c) (args′ .w) (args′ .out .now) in
-    let dot = Steps.ate (eat′ .ensures) (a′ .given .1) begin in
-    let st = pre′ .1 .0 .stands in
-    let there = dot .stands st in
-    let if1′ = c .before .before .before .before .before .before .before .before .if1 in
-    let open1 = Steps.taken (lit< tt) there (eat-any′ .ensures) (if1′ .left) (Steps.known (eat 23 ▸ goto (null-safe-index f)) there (if1′ .left) (λ xs t. refl) dot) in
-    let ok = Steps.ready (pre′ .1 .0) (lit≤ tt) open1 in
-    let index = Steps.known (expression ▸ goto (null-safe-end f (eat-any′ .result .start))) (ok .stands) refl (λ xs t. refl) open1 in
-    let read = Steps.took (expr′ .ensures) (b′ .given .1) index in
-    let after = read .stands st in
-    (lit< tt, after)
+  -- ── What each call asks ─────────────────────────────────────────────────────────────────────────
 
-pub enum-known-d : (t : ℕ) → lts.Need-enum-known-d (K t) (P t) Post
-enum-known-d t c =
-    search needs
+  member-name-requires : lts.Need-member-name-requires (K t) (P t) Post
+  member-name-requires c κs = let a = c .before .before .before .before in let p = a₀ a .pre .1 in (Steps.ready (p .0) (lit≤ tt) (dotted a), p .1)
 
-pub enum-told-3 : (t : ℕ) → lts.Need-enum-told-3 (K t) (P t) Post
-enum-told-3 t c =
-    search needs
+  eat-any-requires : lts.Need-eat-any-requires (K t) (P t) Post
+  eat-any-requires c κs = let a = c .before .before .before in dotted a .stands (a₀ a .pre .1 .0 .stands)
 
-pub same-length-3 : (t : ℕ) → lts.Need-same-length-3 (K t) (P t) Post
-same-length-3 t c =
-    search needs
+  expr-requires : lts.Need-expr-requires (K t) (P t) Post
+  expr-requires c κs = let i = c .before in let p = a₁ i .pre in (omega (arith, p .0), Steps.ready (p .1 .0) (lit≤ tt) (opened i))
 
-pub returns-4 : (t : ℕ) → lts.Need-returns-4 (K t) (P t) Post
-unfolding rule choose has sight
-returns-4 t c =
-    let eat2′ = c .before .before .eat2 in
-    let match3′ = c .before .match3 in
-    let eat-any′ = c .before .before .before .before .before .before .before .before .before .before .eat-any in
-    let b′ = c .before .before .before .before .b in
-    let args′ = c .before .before .before .before .before .before .before .before .before .before .before .before .before .before .before .before .before .before .before .args in
-    let f = args′ .first in
-    let expr′ = c .before .before .before .before .before .before .before .before .expr in
-    let pre′ = c .before .before .before .before .before .before .before .before .before .before .before .before .before .before .before .before .before .before .before .pre in
-    let eat′ = c .before .before .before .before .before .before .before .before .before .before .before .before .before .before .before .before .eat in
-    let a′ = c .before .before .before .before .before .before .before .before .before .before .before .before .before .before .a in
-    let g = args′ .set in
-    let s = args′ .src .now in
-    let begin = Steps.at g s (args′ .left) (safely f) 1 (args′ .c) (args′ .w) (args′ .out .now) in
-    let dot = Steps.ate (eat′ .ensures) (a′ .given .1) begin in
-    let st = pre′ .1 .0 .stands in
-    let there = dot .stands st in
-    let if1′ = c .before .before .before .before .before .before .before .before .before .before .before .if1 in
-    let open1 = Steps.taken (lit< tt) there (eat-any′ .ensures) (if1′ .left) (Steps.known (eat 23 ▸ goto (null-safe-index f)) there (if1′ .left) (λ xs t. refl) dot) in
-    let ok = Steps.ready (pre′ .1 .0) (lit≤ tt) open1 in
-    let index = Steps.known (expression ▸ goto (null-safe-end f (eat-any′ .result .start))) (ok .stands) refl (λ xs t. refl) open1 in
-    let read = Steps.took (expr′ .ensures) (b′ .given .1) index in
-    let after = read .stands st in
-    let closing = Steps.known (eat 24 ▸ close 20 (span (eat-any′ .result .start) (b′ .given .0 .0 .at) ∷ byte f ∷ byte 1 ∷ []) ▸ goto (suffix 0)) after refl (λ xs t. refl) read in
-    Steps.passed-telling (Steps.eats-broken (eat2′ .ensures) (match3′ .keys2)) closing
+  eat-requires-2 : lts.Need-eat-requires-2 (K t) (P t) Post
+  eat-requires-2 c κs = let b = c .before in (lit< tt, read b .stands (a₁ (c₃ b) .pre .1 .0 .stands))
 
-pub put-index-requires : (t : ℕ) → lts.Need-put-index-requires (K t) (P t) Post
-unfolding rule choose has sight
-put-index-requires t c κs =
-    let pre′ = c .before .before .before .before .before .before .before .before .before .before .before .before .before .before .before .before .before .before .before .before .before .pre in
-    let eat2′ = c .before .before .before .before .eat2 in
-    let d′ = c .before .before .d in
-    let eat-any′ = c .before .before .before .before .before .before .before .before .before .before .before .before .eat-any in
-    let b′ = c .before .before .before .before .before .before .b in
-    let args′ = c .before .before .before .before .before .before .before .before .before .before .before .before .before .before .before .before .before .before .before .before .before .args in
-    let f = args′ .first in
-    let expr′ = c .before .before .before .before .before .before .before .before .before .before .expr in
-    let eat′ = c .before .before .before .before .before .before .before .before .before .before .before .before .before .before .before .before .before .before .eat in
-    let a′ = c .before .before .before .before .before .before .before .before .before .before .before .before .before .before .before .before .a in
-    let g = args′ .set in
-    let s = args′ .src .now in
-    let begin = Steps.at g s (args′ .left) (safely f) 1 (args′ .c) (args′ .w) (args′ .out .now) in
-    let dot = Steps.ate (eat′ .ensures) (a′ .given .1) begin in
-    let st = pre′ .1 .0 .stands in
-    let there = dot .stands st in
-    let if1′ = c .before .before .before .before .before .before .before .before .before .before .before .before .before .if1 in
-    let open1 = Steps.taken (lit< tt) there (eat-any′ .ensures) (if1′ .left) (Steps.known (eat 23 ▸ goto (null-safe-index f)) there (if1′ .left) (λ xs t. refl) dot) in
-    let ok = Steps.ready (pre′ .1 .0) (lit≤ tt) open1 in
-    let index = Steps.known (expression ▸ goto (null-safe-end f (eat-any′ .result .start))) (ok .stands) refl (λ xs t. refl) open1 in
-    let read = Steps.took (expr′ .ensures) (b′ .given .1) index in
-    let after = read .stands st in
-    let closing = Steps.known (eat 24 ▸ close 20 (span (eat-any′ .result .start) (b′ .given .0 .0 .at) ∷ byte f ∷ byte 1 ∷ []) ▸ goto (suffix 0)) after refl (λ xs t. refl) read in
-    let over = Steps.ate (eat2′ .ensures) (d′ .given .1) closing in
-    (Steps.fits (pre′ .1 .0) (lit≤ tt) over, within ok .0, omega (arith, after .within, pre′ .1 .0 .short), pre′ .1 .1)
+  put-index-requires : lts.Need-put-index-requires (K t) (P t) Post
+  put-index-requires c κs =
+      let d = c .before .before in let b = c₄ d in let p = a₁ (c₃ b) .pre .1 in
+      let i = Steps.ready (p .0) (lit≤ tt) (opened (c₃ b)) in
+      (Steps.fits (p .0) (lit≤ tt) (over d), within i .0, omega (arith, read b .stands (p .0 .stands) .within, p .0 .short), p .1)
 
-pub same-length-4 : (t : ℕ) → lts.Need-same-length-4 (K t) (P t) Post
-same-length-4 t c =
-    search needs
+  -- ── What each return owes ───────────────────────────────────────────────────────────────────────
 
-pub returns-5 : (t : ℕ) → lts.Need-returns-5 (K t) (P t) Post
-unfolding entry payload rule choose has sight
-returns-5 t c =
-    let put-index′ = c .before .before .put-index in
-    let eat2′ = c .before .before .before .before .before .before .before .eat2 in
-    let d′ = c .before .before .before .before .before .d in
-    let eat-any′ = c .before .before .before .before .before .before .before .before .before .before .before .before .before .before .before .eat-any in
-    let b′ = c .before .before .before .before .before .before .before .before .before .b in
-    let args′ = c .before .before .before .before .before .before .before .before .before .before .before .before .before .before .before .before .before .before .before .before .before .before .before .before .args in
-    let f = args′ .first in
-    let expr′ = c .before .before .before .before .before .before .before .before .before .before .before .before .before .expr in
-    let pre′ = c .before .before .before .before .before .before .before .before .before .before .before .before .before .before .before .before .before .before .before .before .before .before .before .before .pre in
-    let eat′ = c .before .before .before .before .before .before .before .before .before .before .before .before .before .before .before .before .before .before .before .before .before .eat in
-    let a′ = c .before .before .before .before .before .before .before .before .before .before .before .before .before .before .before .before .before .before .before .a in
-    let g = args′ .set in
-    let s = args′ .src .now in
-    let begin = Steps.at g s (args′ .left) (safely f) 1 (args′ .c) (args′ .w) (args′ .out .now) in
-    let dot = Steps.ate (eat′ .ensures) (a′ .given .1) begin in
-    let st = pre′ .1 .0 .stands in
-    let there = dot .stands st in
-    let if1′ = c .before .before .before .before .before .before .before .before .before .before .before .before .before .before .before .before .if1 in
-    let open1 = Steps.taken (lit< tt) there (eat-any′ .ensures) (if1′ .left) (Steps.known (eat 23 ▸ goto (null-safe-index f)) there (if1′ .left) (λ xs t. refl) dot) in
-    let ok = Steps.ready (pre′ .1 .0) (lit≤ tt) open1 in
-    let index = Steps.known (expression ▸ goto (null-safe-end f (eat-any′ .result .start))) (ok .stands) refl (λ xs t. refl) open1 in
-    let read = Steps.took (expr′ .ensures) (b′ .given .1) index in
-    let after = read .stands st in
-    let closing = Steps.known (eat 24 ▸ close 20 (span (eat-any′ .result .start) (b′ .given .0 .0 .at) ∷ byte f ∷ byte 1 ∷ []) ▸ goto (suffix 0)) after refl (λ xs t. refl) read in
-    let over = Steps.ate (eat2′ .ensures) (d′ .given .1) closing in
-    Steps.says-on (lit≤ tt) (lit≤ tt) (Steps.closed 9 (lit≤ tt) (put-index′ .ensures) over)
+  returns : lts.Need-returns (K t) (P t) Post
+  returns c = Steps.passed-telling (Steps.eats-broken (c .before .before .eat .ensures) (c .before .match .keys2)) Steps.here
+
+  returns-2 : lts.Need-returns-2 (K t) (P t) Post
+  unfolding rule choose has sight
+  returns-2 c =
+      let x = c .before .before in let no-bracket = x .before .before in let a = no-bracket .before .before .before in let y = a₀ a .args in
+      let st = dotted a .stands (a₀ a .pre .1 .0 .stands) in
+      Steps.tail-telling (lit≤ tt) (x .member-name .ensures .tells (y .set) (y .left))
+      (Steps.known (goto (member-name (y .first) 1)) st refl (λ xs t. simp (ne-eqb _ 23 (no-bracket .if1 .taken))) (dotted a))
+
+  returns-3 : lts.Need-returns-3 (K t) (P t) Post
+  returns-3 c = let x = c .before .before .before .before in Steps.passed-telling (Steps.takes-broken (x .expr .ensures) (c .before .match2 .keys2)) (opened (x .before .before))
+
+  returns-4 : lts.Need-returns-4 (K t) (P t) Post
+  returns-4 c = let x = c .before .before in Steps.passed-telling (Steps.eats-broken (x .eat2 .ensures) (c .before .match3 .keys2)) (read (x .before .before))
+
+  returns-5 : lts.Need-returns-5 (K t) (P t) Post
+  unfolding entry payload
+  returns-5 c = let x = c .before .before in Steps.says-on (lit≤ tt) (lit≤ tt) (Steps.closed 9 (lit≤ tt) (x .put-index .ensures) (over (x .before .before .before)))
+
+  -- All of them, in the order of the code.
+  pub met : {M : Type 1} → lts.Closed (K t) (P t) Post M
+  met =
+      lts.spec (K t) (P t) Post (λ c κs. search needs) (λ c. search needs) (λ c. search needs) returns member-name-requires (λ c. search needs)
+      returns-2 eat-any-requires expr-requires (λ c. search needs) (λ c. search needs) (λ c. search needs) returns-3 eat-requires-2
+      (λ c. search needs) (λ c. search needs) (λ c. search needs) returns-4 put-index-requires (λ c. search needs) returns-5

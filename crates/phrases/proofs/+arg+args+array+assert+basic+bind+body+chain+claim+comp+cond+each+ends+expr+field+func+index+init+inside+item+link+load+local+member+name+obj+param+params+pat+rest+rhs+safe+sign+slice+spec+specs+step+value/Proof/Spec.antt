@@ -1,224 +1,103 @@
--- The answers of `spec`.
+-- The answers of `spec`: the stretch from its start to each place of its code, and from these what each call asks and each return owes.
 use borrow.Author.Needs.{needs}
 use native.Mathlib.Omega.{arith}
 use lib.Dec.{lit<, lit≤}
-use lib.ListN.{length}
-use mathlib.Core.Path.{_≡_, refl, sym, ap, subst, _∙_}
-use mathlib.Core.Logic.{⊎-elim}
-use mathlib.Core.List.{[], _∷_}
-use Prim.Native.Nat.{ℕ, _+_, _*_, _-_, _≤_, _<_}
+use mathlib.Core.Path.{subst}
+use mathlib.Core.List.{List, []}
+use Prim.Native.Nat.{ℕ}
 use Rattle.leaves.proofs.Steps
 use Rattle.phrases.proofs.spec.Reads.{Post}
 use Rattle.phrases.proofs.+arg+args+array+assert+basic+bind+body+chain+claim+comp+cond+each+ends+expr+field+func+index+init+inside+item+link+load+local+member+name+obj+param+params+pat+rest+rhs+safe+sign+slice+spec+specs+step+value.Lts-spec as lts
 use Rattle.phrases.proofs.+arg+args+array+assert+basic+bind+body+chain+claim+comp+cond+each+ends+expr+field+func+index+init+inside+item+link+load+local+member+name+obj+param+params+pat+rest+rhs+safe+sign+slice+spec+specs+step+value.Proof.Frame.{spec-claims as K, spec-at as P}
 use Rattle.grammar.specs.Image.{entry, payload}
-use Rattle.grammar.specs.Productions.{goto, for-clause}
+use Rattle.grammar.specs.Productions.{Body, goto, end, eat, close, _▸_, expression, for-clause}
 use Rattle.leaves.specs.Lexing.{Header}
-use Rattle.phrases.proofs.ClauseLaws.{plain-clause}
+use Rattle.leaves.specs.Meets.{state, Seg}
+use Rattle.leaves.specs.declared.Cursor.{Cursor}
+use Rattle.phrases.proofs.ClauseLaws.{plain-clause, over-pattern}
 
-pub header-at-requires : (t : ℕ) → lts.Need-header-at-requires (K t) (P t) Post
-header-at-requires t c κs =
-    search needs
+module _ (t : ℕ) where
+  -- a stretch from the start, of which e bytes are taken, to a body with n trees
+  abbrev So : lts.Start (K t) (P t) Post → ℕ → Body → ℕ → Cursor → ℕ → List ℕ → Type 0
+  So a e b n c w o = Seg (a .args .set) (a .args .src .now) (a .args .left) (state (goto for-clause) 0 (a .args .c) (a .args .w) (a .args .out .now)) e 0 (state b n c w o)
 
-pub each-requires : (t : ℕ) → lts.Need-each-requires (K t) (P t) Post
-each-requires t c κs =
-    let pre′ = c .before .before .before .before .before .pre in
-    let args′ = c .before .before .before .before .before .args in
-    let g = args′ .set in
-    let s = args′ .src .now in
-    let if1′ = c .before .if1 in
-    let header-at′ = c .before .before .header-at in
-    (omega (arith, pre′ .0), (pre′ .1, subst (λ (n : ℕ). Header g s (args′ .c) n) (if1′ .taken) (header-at′ .ensures)))
+  -- the record
+  abbrev shut : Body
+  shut = close 33 [] ▸ end
 
-pub same-length : (t : ℕ) → lts.Need-same-length (K t) (P t) Post
-same-length t c =
-    search needs
+  abbrev a₀ : lts.Else1 (K t) (P t) Post → lts.Start (K t) (P t) Post
+  a₀ c = c .before .before .before .before
 
-pub returns : (t : ℕ) → lts.Need-returns (K t) (P t) Post
-returns t c =
-    let each′ = c .before .before .each in
-    Steps.as-sub (each′ .ensures)
+  plain : (c : lts.Else1 (K t) (P t) Post) → So (a₀ c) 0 over-pattern 0 (a₀ c .args .c) (a₀ c .args .w) (a₀ c .args .out .now)
+  plain c = plain-clause (a₀ c .pre .1 .stands) (c .before .header-at .ensures) (c .if1 .left) Steps.here
 
-pub pat-requires : (t : ℕ) → lts.Need-pat-requires (K t) (P t) Post
-pat-requires t c κs =
-    let pre′ = c .before .before .before .before .before .pre in
-    (omega (arith, pre′ .0), pre′ .1)
+  abbrev c₁ : lts.After-a (K t) (P t) Post → lts.After-pat (K t) (P t) Post
+  c₁ c = c .before .before .before .before
 
-pub enum-known-a : (t : ℕ) → lts.Need-enum-known-a (K t) (P t) Post
-enum-known-a t c =
-    search needs
+  abbrev a₁ : lts.After-a (K t) (P t) Post → lts.Start (K t) (P t) Post
+  a₁ c = a₀ (c₁ c .before .before)
 
-pub enum-told : (t : ℕ) → lts.Need-enum-told (K t) (P t) Post
-enum-told t c =
-    search needs
+  into : (c : lts.After-a (K t) (P t) Post) → So (a₁ c) 0 (eat 76 ▸ expression ▸ shut) 1 (c .a .given .0 .0) (c .a .given .0 .1 .0) (c₁ c .pat .last .1 .0)
+  into c = Steps.took (c₁ c .pat .ensures) (c .a .given .1) (plain (c₁ c .before .before))
 
-pub same-length-2 : (t : ℕ) → lts.Need-same-length-2 (K t) (P t) Post
-same-length-2 t c =
-    search needs
+  abbrev c₂ : lts.After-b (K t) (P t) Post → lts.After-a (K t) (P t) Post
+  c₂ c = c .before .before .before .before
 
-pub returns-2 : (t : ℕ) → lts.Need-returns-2 (K t) (P t) Post
-returns-2 t c =
-    let pat′ = c .before .before .before .before .pat in
-    let match′ = c .before .match in
-    let pre′ = c .before .before .before .before .before .before .before .before .before .before .pre in
-    let header-at′ = c .before .before .before .before .before .before .before .header-at in
-    let if1′ = c .before .before .before .before .before .before .if1 in
-    let args′ = c .before .before .before .before .before .before .before .before .before .before .args in
-    let g = args′ .set in
-    let s = args′ .src .now in
-    let begin = plain-clause (pre′ .1 .stands) (header-at′ .ensures) (if1′ .left) (Steps.at g s (args′ .left) (goto for-clause) 0 (args′ .c) (args′ .w) (args′ .out .now)) in
-    Steps.as-sub (Steps.passed (Steps.takes-broken (pat′ .ensures) (match′ .keys2)) begin)
+  opened : (c : lts.After-b (K t) (P t) Post) → So (a₁ (c₂ c)) 1 (expression ▸ shut) 1 (c .b .given .0 .0) (c .b .given .0 .1 .0) (c₁ (c₂ c) .pat .last .1 .0)
+  opened c = Steps.ate (c .before .before .eat .ensures) (c .b .given .1) (into (c₂ c))
 
-pub eat-requires : (t : ℕ) → lts.Need-eat-requires (K t) (P t) Post
-eat-requires t c κs =
-    let pat′ = c .before .before .before .before .before .pat in
-    let a′ = c .before .a in
-    let pre′ = c .before .before .before .before .before .before .before .before .before .before .before .pre in
-    let header-at′ = c .before .before .before .before .before .before .before .before .header-at in
-    let if1′ = c .before .before .before .before .before .before .before .if1 in
-    let args′ = c .before .before .before .before .before .before .before .before .before .before .before .args in
-    let g = args′ .set in
-    let s = args′ .src .now in
-    let begin = plain-clause (pre′ .1 .stands) (header-at′ .ensures) (if1′ .left) (Steps.at g s (args′ .left) (goto for-clause) 0 (args′ .c) (args′ .w) (args′ .out .now)) in
-    let into = Steps.took (pat′ .ensures) (a′ .given .1) begin in
-    (lit< tt, into .stands (pre′ .1 .stands))
+  abbrev c₃ : lts.After-d (K t) (P t) Post → lts.After-expr (K t) (P t) Post
+  c₃ c = c .before .before .before .before
 
-pub enum-known-b : (t : ℕ) → lts.Need-enum-known-b (K t) (P t) Post
-enum-known-b t c =
-    search needs
+  abbrev c₄ : lts.After-d (K t) (P t) Post → lts.After-b (K t) (P t) Post
+  c₄ c = c₃ c .before .before .before
 
-pub enum-told-2 : (t : ℕ) → lts.Need-enum-told-2 (K t) (P t) Post
-enum-told-2 t c =
-    search needs
+  value : (c : lts.After-d (K t) (P t) Post) → So (a₁ (c₂ (c₄ c))) 1 shut 2 (c .d .given .0 .0) (c .d .given .0 .1 .0) (c₃ c .expr .last .1 .0)
+  value c = Steps.took (c₃ c .expr .ensures) (c .d .given .1) (opened (c₄ c))
 
-pub same-length-3 : (t : ℕ) → lts.Need-same-length-3 (K t) (P t) Post
-same-length-3 t c =
-    search needs
+  -- ── What each call asks ─────────────────────────────────────────────────────────────────────────
 
-pub returns-3 : (t : ℕ) → lts.Need-returns-3 (K t) (P t) Post
-returns-3 t c =
-    let eat′ = c .before .before .eat in
-    let match2′ = c .before .match2 in
-    let pat′ = c .before .before .before .before .before .before .before .before .pat in
-    let a′ = c .before .before .before .before .a in
-    let pre′ = c .before .before .before .before .before .before .before .before .before .before .before .before .before .before .pre in
-    let header-at′ = c .before .before .before .before .before .before .before .before .before .before .before .header-at in
-    let if1′ = c .before .before .before .before .before .before .before .before .before .before .if1 in
-    let args′ = c .before .before .before .before .before .before .before .before .before .before .before .before .before .before .args in
-    let g = args′ .set in
-    let s = args′ .src .now in
-    let begin = plain-clause (pre′ .1 .stands) (header-at′ .ensures) (if1′ .left) (Steps.at g s (args′ .left) (goto for-clause) 0 (args′ .c) (args′ .w) (args′ .out .now)) in
-    let into = Steps.took (pat′ .ensures) (a′ .given .1) begin in
-    Steps.as-sub (Steps.passed (Steps.eats-broken (eat′ .ensures) (match2′ .keys2)) into)
+  each-requires : lts.Need-each-requires (K t) (P t) Post
+  each-requires c κs =
+      let header = c .before in let a = header .before .before .before .before in
+      (omega (arith, a .pre .0), (a .pre .1, subst (λ (n : ℕ). Header (a .args .set) (a .args .src .now) (a .args .c) n) (header .if1 .taken) (header .before .header-at .ensures)))
 
-pub expr-requires : (t : ℕ) → lts.Need-expr-requires (K t) (P t) Post
-expr-requires t c κs =
-    let pre′ = c .before .before .before .before .before .before .before .before .before .before .before .before .before .before .before .before .pre in
-    let eat′ = c .before .before .before .before .eat in
-    let b′ = c .before .before .b in
-    let pat′ = c .before .before .before .before .before .before .before .before .before .before .pat in
-    let a′ = c .before .before .before .before .before .before .a in
-    let header-at′ = c .before .before .before .before .before .before .before .before .before .before .before .before .before .header-at in
-    let if1′ = c .before .before .before .before .before .before .before .before .before .before .before .before .if1 in
-    let args′ = c .before .before .before .before .before .before .before .before .before .before .before .before .before .before .before .before .args in
-    let g = args′ .set in
-    let s = args′ .src .now in
-    let begin = plain-clause (pre′ .1 .stands) (header-at′ .ensures) (if1′ .left) (Steps.at g s (args′ .left) (goto for-clause) 0 (args′ .c) (args′ .w) (args′ .out .now)) in
-    let into = Steps.took (pat′ .ensures) (a′ .given .1) begin in
-    let opened = Steps.ate (eat′ .ensures) (b′ .given .1) into in
-    (omega (arith, pre′ .0), Steps.ready (pre′ .1) (lit≤ tt) opened)
+  pat-requires : lts.Need-pat-requires (K t) (P t) Post
+  pat-requires c κs = let p = a₀ (c .before) .pre in (omega (arith, p .0), p .1)
 
-pub enum-known-d : (t : ℕ) → lts.Need-enum-known-d (K t) (P t) Post
-enum-known-d t c =
-    search needs
+  eat-requires : lts.Need-eat-requires (K t) (P t) Post
+  eat-requires c κs = (lit< tt, into (c .before) .stands (a₁ (c .before) .pre .1 .stands))
 
-pub enum-told-3 : (t : ℕ) → lts.Need-enum-told-3 (K t) (P t) Post
-enum-told-3 t c =
-    search needs
+  expr-requires : lts.Need-expr-requires (K t) (P t) Post
+  expr-requires c κs = let b = c .before .before in let p = a₁ (c₂ b) .pre in (omega (arith, p .0), Steps.ready (p .1) (lit≤ tt) (opened b))
 
-pub same-length-4 : (t : ℕ) → lts.Need-same-length-4 (K t) (P t) Post
-same-length-4 t c =
-    search needs
+  put-none-requires : lts.Need-put-none-requires (K t) (P t) Post
+  put-none-requires c κs = let d = c .before .before in Steps.fits (a₁ (c₂ (c₄ d)) .pre .1) (lit≤ tt) (value d)
 
-pub returns-4 : (t : ℕ) → lts.Need-returns-4 (K t) (P t) Post
-returns-4 t c =
-    let expr′ = c .before .before .before .before .expr in
-    let match3′ = c .before .match3 in
-    let eat′ = c .before .before .before .before .before .before .before .before .before .eat in
-    let b′ = c .before .before .before .before .before .before .before .b in
-    let pat′ = c .before .before .before .before .before .before .before .before .before .before .before .before .before .before .before .pat in
-    let a′ = c .before .before .before .before .before .before .before .before .before .before .before .a in
-    let pre′ = c .before .before .before .before .before .before .before .before .before .before .before .before .before .before .before .before .before .before .before .before .before .pre in
-    let header-at′ = c .before .before .before .before .before .before .before .before .before .before .before .before .before .before .before .before .before .before .header-at in
-    let if1′ = c .before .before .before .before .before .before .before .before .before .before .before .before .before .before .before .before .before .if1 in
-    let args′ = c .before .before .before .before .before .before .before .before .before .before .before .before .before .before .before .before .before .before .before .before .before .args in
-    let g = args′ .set in
-    let s = args′ .src .now in
-    let begin = plain-clause (pre′ .1 .stands) (header-at′ .ensures) (if1′ .left) (Steps.at g s (args′ .left) (goto for-clause) 0 (args′ .c) (args′ .w) (args′ .out .now)) in
-    let into = Steps.took (pat′ .ensures) (a′ .given .1) begin in
-    let opened = Steps.ate (eat′ .ensures) (b′ .given .1) into in
-    Steps.as-sub (Steps.passed (Steps.takes-broken (expr′ .ensures) (match3′ .keys2)) opened)
+  -- ── What each return owes ───────────────────────────────────────────────────────────────────────
 
-pub put-none-requires : (t : ℕ) → lts.Need-put-none-requires (K t) (P t) Post
-put-none-requires t c κs =
-    let pre′ = c .before .before .before .before .before .before .before .before .before .before .before .before .before .before .before .before .before .before .before .before .before .before .before .pre in
-    let expr′ = c .before .before .before .before .before .before .expr in
-    let d′ = c .before .before .d in
-    let eat′ = c .before .before .before .before .before .before .before .before .before .before .before .eat in
-    let b′ = c .before .before .before .before .before .before .before .before .before .b in
-    let pat′ = c .before .before .before .before .before .before .before .before .before .before .before .before .before .before .before .before .before .pat in
-    let a′ = c .before .before .before .before .before .before .before .before .before .before .before .before .before .a in
-    let header-at′ = c .before .before .before .before .before .before .before .before .before .before .before .before .before .before .before .before .before .before .before .before .header-at in
-    let if1′ = c .before .before .before .before .before .before .before .before .before .before .before .before .before .before .before .before .before .before .before .if1 in
-    let args′ = c .before .before .before .before .before .before .before .before .before .before .before .before .before .before .before .before .before .before .before .before .before .before .before .args in
-    let g = args′ .set in
-    let s = args′ .src .now in
-    let begin = plain-clause (pre′ .1 .stands) (header-at′ .ensures) (if1′ .left) (Steps.at g s (args′ .left) (goto for-clause) 0 (args′ .c) (args′ .w) (args′ .out .now)) in
-    let into = Steps.took (pat′ .ensures) (a′ .given .1) begin in
-    let opened = Steps.ate (eat′ .ensures) (b′ .given .1) into in
-    let value = Steps.took (expr′ .ensures) (d′ .given .1) opened in
-    Steps.fits (pre′ .1) (lit≤ tt) value
+  returns : lts.Need-returns (K t) (P t) Post
+  returns c = Steps.as-sub (c .before .before .each .ensures)
 
-pub same-length-5 : (t : ℕ) → lts.Need-same-length-5 (K t) (P t) Post
-unfolding entry payload
-same-length-5 t c =
-    let put-none′ = c .before .before .put-none in
-    let expr′ = c .before .before .before .before .before .before .before .before .before .expr in
-    let d′ = c .before .before .before .before .before .d in
-    let eat′ = c .before .before .before .before .before .before .before .before .before .before .before .before .before .before .eat in
-    let b′ = c .before .before .before .before .before .before .before .before .before .before .before .before .b in
-    let pat′ = c .before .before .before .before .before .before .before .before .before .before .before .before .before .before .before .before .before .before .before .before .pat in
-    let a′ = c .before .before .before .before .before .before .before .before .before .before .before .before .before .before .before .before .a in
-    let pre′ = c .before .before .before .before .before .before .before .before .before .before .before .before .before .before .before .before .before .before .before .before .before .before .before .before .before .before .pre in
-    let header-at′ = c .before .before .before .before .before .before .before .before .before .before .before .before .before .before .before .before .before .before .before .before .before .before .before .header-at in
-    let if1′ = c .before .before .before .before .before .before .before .before .before .before .before .before .before .before .before .before .before .before .before .before .before .before .if1 in
-    let args′ = c .before .before .before .before .before .before .before .before .before .before .before .before .before .before .before .before .before .before .before .before .before .before .before .before .before .before .args in
-    let g = args′ .set in
-    let s = args′ .src .now in
-    let begin = plain-clause (pre′ .1 .stands) (header-at′ .ensures) (if1′ .left) (Steps.at g s (args′ .left) (goto for-clause) 0 (args′ .c) (args′ .w) (args′ .out .now)) in
-    let into = Steps.took (pat′ .ensures) (a′ .given .1) begin in
-    let opened = Steps.ate (eat′ .ensures) (b′ .given .1) into in
-    let value = Steps.took (expr′ .ensures) (d′ .given .1) opened in
-    Steps.same (Steps.closed 3 (lit≤ tt) (put-none′ .ensures) value)
+  returns-2 : lts.Need-returns-2 (K t) (P t) Post
+  returns-2 c = let x = c .before .before .before .before in Steps.as-sub (Steps.passed (Steps.takes-broken (x .pat .ensures) (c .before .match .keys2)) (plain (x .before .before)))
 
-pub returns-5 : (t : ℕ) → lts.Need-returns-5 (K t) (P t) Post
-unfolding entry payload
-returns-5 t c =
-    let put-none′ = c .before .before .put-none in
-    let expr′ = c .before .before .before .before .before .before .before .before .before .expr in
-    let d′ = c .before .before .before .before .before .d in
-    let eat′ = c .before .before .before .before .before .before .before .before .before .before .before .before .before .before .eat in
-    let b′ = c .before .before .before .before .before .before .before .before .before .before .before .before .b in
-    let pat′ = c .before .before .before .before .before .before .before .before .before .before .before .before .before .before .before .before .before .before .before .before .pat in
-    let a′ = c .before .before .before .before .before .before .before .before .before .before .before .before .before .before .before .before .a in
-    let pre′ = c .before .before .before .before .before .before .before .before .before .before .before .before .before .before .before .before .before .before .before .before .before .before .before .before .before .before .pre in
-    let header-at′ = c .before .before .before .before .before .before .before .before .before .before .before .before .before .before .before .before .before .before .before .before .before .before .before .header-at in
-    let if1′ = c .before .before .before .before .before .before .before .before .before .before .before .before .before .before .before .before .before .before .before .before .before .before .if1 in
-    let args′ = c .before .before .before .before .before .before .before .before .before .before .before .before .before .before .before .before .before .before .before .before .before .before .before .before .before .before .args in
-    let g = args′ .set in
-    let s = args′ .src .now in
-    let begin = plain-clause (pre′ .1 .stands) (header-at′ .ensures) (if1′ .left) (Steps.at g s (args′ .left) (goto for-clause) 0 (args′ .c) (args′ .w) (args′ .out .now)) in
-    let into = Steps.took (pat′ .ensures) (a′ .given .1) begin in
-    let opened = Steps.ate (eat′ .ensures) (b′ .given .1) into in
-    let value = Steps.took (expr′ .ensures) (d′ .given .1) opened in
-    Steps.as-sub (Steps.ends (lit≤ tt) (Steps.closed 3 (lit≤ tt) (put-none′ .ensures) value))
+  returns-3 : lts.Need-returns-3 (K t) (P t) Post
+  returns-3 c = let x = c .before .before in Steps.as-sub (Steps.passed (Steps.eats-broken (x .eat .ensures) (c .before .match2 .keys2)) (into (x .before .before)))
+
+  returns-4 : lts.Need-returns-4 (K t) (P t) Post
+  returns-4 c = let x = c .before .before .before .before in Steps.as-sub (Steps.passed (Steps.takes-broken (x .expr .ensures) (c .before .match3 .keys2)) (opened (x .before .before .before)))
+
+  returns-5 : lts.Need-returns-5 (K t) (P t) Post
+  unfolding entry payload
+  returns-5 c = let x = c .before .before in Steps.as-sub (Steps.ends (lit≤ tt) (Steps.closed 3 (lit≤ tt) (x .put-none .ensures) (value (x .before .before .before))))
+
+  same-length-5 : lts.Need-same-length-5 (K t) (P t) Post
+  same-length-5 c = let x = c .before .before in omega (arith, Steps.same (value (x .before .before .before)), x .put-none .kept)
+
+  -- All of them, in the order of the code.
+  pub met : {M : Type 1} → lts.Closed (K t) (P t) Post M
+  met =
+      lts.spec (K t) (P t) Post (λ c κs. search needs) each-requires (λ c. search needs) returns pat-requires (λ c. search needs) (λ c. search needs)
+      (λ c. search needs) returns-2 eat-requires (λ c. search needs) (λ c. search needs) (λ c. search needs) returns-3 expr-requires
+      (λ c. search needs) (λ c. search needs) (λ c. search needs) returns-4 put-none-requires same-length-5 returns-5
