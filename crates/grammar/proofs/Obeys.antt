@@ -1,4 +1,4 @@
--- Every tree that a derivation gives obeys the table of records, spans included, and has one root.
+-- Every tree that a derivation over worded lexemes gives obeys the table of records, spans and texts included, and has one root.
 -- Assumes nothing.
 use mathlib.Core.Path.{_≡_, refl, sym, ap, subst}
 use mathlib.Core.Bool.{Bool, true, false, _&&_, _||_}
@@ -9,14 +9,17 @@ use lib.Dec.{T}
 use lib.ListN.{length}
 use Rattle.grammar.specs.Trees.{Trees, node, _⊕_, count}
 use Rattle.grammar.specs.Trees as trees
-use Rattle.grammar.specs.Lexemes.{Lexeme, rest, start-of, stop-of, Ranged}
-use Rattle.grammar.specs.Productions.{Phrase, Body, row, Table, otherwise, _∣_, rule}
+use Rattle.grammar.specs.Lexemes.{Lexeme, rest, kind-of, start-of, stop-of, Ranged}
+use Rattle.grammar.specs.Productions.{Phrase, Body, end, goto, fail, _▸_, eat, leaf, sub, deep, close, row, Table, otherwise, _∣_, rule}
 use Rattle.grammar.specs.Reading.{has, choose, view, production, done, Reading, ended, gone, eaten, leafed, closed, subbed, deepened, Reads}
-use Rattle.grammar.specs.Records.{Sort, Is, Fits, Obeys}
+use Rattle.grammar.specs.Words.{Worded}
+use Rattle.grammar.specs.Records.{Sort, Is, Fits, Spans, Obeys}
 use Rattle.grammar.proofs.Tables.{moves, moved}
 use Rattle.grammar.proofs.Chosen.{moved-chosen}
+use Rattle.grammar.proofs.Possible.{next-possible, rest-worded}
 use Rattle.grammar.proofs.Sorts.{one}
-use Rattle.grammar.proofs.Shapes.{exit, After, Before, Keeps, KeepsAll, keeps}
+use Rattle.grammar.proofs.Shapes.{exit, After, Before, Keeps, KeepsAt, _also_, KeepsAll}
+use Rattle.grammar.proofs.ShapesKept.{keeps}
 
 -- ── Readings ──────────────────────────────────────────────────────────────────────────────────────
 
@@ -29,12 +32,12 @@ pub ranged-rest : {size : ℕ} {p : ℕ} {xs : List Lexeme} → Ranged size p xs
 ranged-rest (Ranged.none h) = Ranged.none h
 ranged-rest (Ranged.more a b c g) = g
 
-obeys-length : {σs : List Sort} {ts : Trees} → Obeys σs ts → length σs ≡ count ts
+pub obeys-length : {q : Spans} {σs : List Sort} {ts : Trees} → Obeys q σs ts → length σs ≡ count ts
 unfolding count
 obeys-length Obeys.none = refl
 obeys-length (Obeys.node f g h k) = ap suc (obeys-length k)
 
-obeys-append : {σs τs : List Sort} {ts us : Trees} → Obeys σs ts → Obeys τs us → Obeys (σs ++ τs) (ts ⊕ us)
+pub obeys-append : {q : Spans} {σs τs : List Sort} {ts us : Trees} → Obeys q σs ts → Obeys q τs us → Obeys q (σs ++ τs) (ts ⊕ us)
 unfolding _⊕_
 obeys-append Obeys.none o = o
 obeys-append (Obeys.node f g h k) o = Obeys.node f g h (obeys-append k o)
@@ -60,7 +63,8 @@ module _ (prefix s : ℕ) where
   moved-production q p xs n h = moved-chosen prefix s q (view p xs n) h
 
   -- What surely takes a lexeme ends behind it.
-  moved-on : {size : ℕ} {b : Body} {ts us : Trees} {d p r : ℕ} {xs ys : List Lexeme} → T (moved b) → Reading prefix s b ts d p xs (done us r ys) → Ranged size p xs → stop-of p xs ≤ r
+  moved-on : {size : ℕ} {b : Body} {ts us : Trees} {d p r : ℕ} {xs ys : List Lexeme} → T (moved b) → Reading prefix s b ts d p xs (done us r ys)
+      → Ranged size p xs → stop-of p xs ≤ r
   unfolding moved
   moved-on h ended g = absurd h
   moved-on h (gone {q} {ts} {d} {p} {xs} x) g = moved-on (moved-production q p xs (count ts) h) x g
@@ -74,21 +78,49 @@ module _ (prefix s : ℕ) where
       either (moves q) (moved b) h (λ m. omega (arith, moved-on (moved-production q p xs 0 m) x g, (onward y ((onward x g) .2)) .0))
       (λ m. omega (arith, moved-on m y ((onward x g) .2), (onward x g) .1))
 
-  keeps-chosen : (low next : ℕ) (X : List Sort → Type 0) (σs : List Sort) (t : Table) → KeepsAll low next X σs t → Keeps low next X σs (choose s t)
-  unfolding choose KeepsAll
-  keeps-chosen low next X σs (otherwise b) k = k
-  keeps-chosen low next X σs (row g t b ∣ rows) k = by t (has s g) (k .0) (keeps-chosen low next X σs rows (k .1))
-    where
-      by : (t a : Bool) → (T t → Keeps low next X σs b) → Keeps low next X σs (choose s rows) → Keeps low next X σs (elim (t && a) [ true ↦ b | false ↦ choose s rows ])
-      by true true f g = f tt
-      by true false f g = g
-      by false a f g = g
+  -- What is left after a reading is worded if all was.
+  left-worded : {b : Body} {ts us : Trees} {d p r : ℕ} {xs ys : List Lexeme} → Reading prefix s b ts d p xs (done us r ys) → Worded xs → Worded ys
+  left-worded ended w = w
+  left-worded (gone x) w = left-worded x w
+  left-worded (eaten e x) w = left-worded x (rest-worded w)
+  left-worded (leafed x) w = left-worded x (rest-worded w)
+  left-worded (closed x) w = left-worded x w
+  left-worded (subbed x y) w = left-worded y (left-worded x w)
+  left-worded (deepened x y) w = left-worded y (left-worded x w)
 
-  keeps-production : {size : ℕ} (q : Phrase) (p : ℕ) (xs : List Lexeme) (n : ℕ) (σs : List Sort) → Ranged size p xs → length σs ≡ n → Before q p σs
+  -- What a body that is done takes first stands there.
+  begun : {b : Body} {ts us : Trees} {d p r : ℕ} {xs ys : List Lexeme} (low next : ℕ) (X : List Sort → Type 0) (σs : List Sort)
+      → Reading prefix s b ts d p xs (done us r ys)
+      → KeepsAt (kind-of xs) low next X σs b → Keeps low next X σs b
+  unfolding KeepsAt
+  begun low next X σs ended k = k
+  begun low next X σs (gone x) k = k
+  begun low next X σs (eaten e x) k = k e
+  begun low next X σs (leafed x) k = k
+  begun low next X σs (closed x) k = k
+  begun low next X σs (subbed x y) k = k
+  begun low next X σs (deepened x y) k = k
+
+  keeps-chosen : {ts us : Trees} {d p r : ℕ} {xs ys : List Lexeme} (low next : ℕ) (X : List Sort → Type 0) (σs : List Sort) (t : Table)
+      → Reading prefix s (choose s t) ts d p xs (done us r ys) → KeepsAll (kind-of xs) low next X σs t → Keeps low next X σs (choose s t)
+  unfolding choose KeepsAll
+  keeps-chosen low next X σs (otherwise b) x k = begun low next X σs x k
+  keeps-chosen {ts} {us} {d} {p} {r} {xs} {ys} low next X σs (row g t b ∣ rows) x (k also l) = by t (has s g) k (λ y. keeps-chosen low next X σs rows y l) x
+    where
+      by : (t a : Bool) → (T t → Keeps low next X σs b) → (Reading prefix s (choose s rows) ts d p xs (done us r ys) → Keeps low next X σs (choose s rows))
+          → Reading prefix s (elim (t && a) [ true ↦ b | false ↦ choose s rows ]) ts d p xs (done us r ys)
+          → Keeps low next X σs (elim (t && a) [ true ↦ b | false ↦ choose s rows ])
+      by true true f g x = f tt
+      by true false f g x = g x
+      by false a f g x = g x
+
+  keeps-production : {size : ℕ} (q : Phrase) {ts us : Trees} {d p r : ℕ} {xs ys : List Lexeme} (n : ℕ) (σs : List Sort)
+      → Reading prefix s (production prefix s q p xs n) ts d p xs (done us r ys) → Ranged size p xs → Worded xs → length σs ≡ n → Before q p σs
       → Keeps p (stop-of p xs) (After q) σs (production prefix s q p xs n)
   unfolding production view
-  keeps-production q p xs n σs g len b =
-      keeps-chosen p (stop-of p xs) (After q) σs (rule prefix q (view p xs n)) (keeps prefix (view p xs n) σs (next-range g) len q b)
+  keeps-production q {p = p} {xs = xs} n σs x g w len b =
+      keeps-chosen p (stop-of p xs) (After q) σs (rule prefix q (view p xs n)) x
+      (keeps prefix (view p xs n) σs (next-range g) len (next-possible w) (next-possible (rest-worded w)) q b)
 
   -- After a phrase the place is at least as the checker says.
   after-place : {size : ℕ} (q : Phrase) {us : Trees} {d p r : ℕ} {xs ys : List Lexeme} (low next : ℕ) → low ≤ p → next ≤ stop-of p xs
@@ -99,35 +131,43 @@ module _ (prefix s : ℕ) where
       by true e = omega (arith, moved-on (moved-production q _ xs 0 (subst T (sym e) tt)) x g)
       by false e = omega (arith, (onward x g) .0)
 
-  shaped : {size : ℕ} {b : Body} {ts us : Trees} {d p r : ℕ} {xs ys : List Lexeme} → Reading prefix s b ts d p xs (done us r ys) → Ranged size p xs
-      → (low next : ℕ) → low ≤ p → next ≤ stop-of p xs → (X : List Sort → Type 0) (σs : List Sort) → Obeys σs ts → Keeps low next X σs b → (τs : List Sort) × X τs × Obeys τs us
+  shaped : {size : ℕ} {b : Body} {ts us : Trees} {d p r : ℕ} {xs ys : List Lexeme} → Reading prefix s b ts d p xs (done us r ys) → Ranged size p xs → Worded xs
+      → (low next : ℕ) → low ≤ p → next ≤ stop-of p xs → (X : List Sort → Type 0) (σs : List Sort) → Obeys Spans.forward σs ts → Keeps low next X σs b
+      → (τs : List Sort) × X τs × Obeys Spans.forward τs us
   unfolding Keeps
-  shaped ended g low next h h′ X σs o k = (σs, k, o)
-  shaped (gone {q} {ts} {d} {p} {xs} x) g low next h h′ X σs o k =
-      let y = shaped x g p (stop-of p xs) (omega arith) (omega arith) (After q) σs o (keeps-production q p xs (count ts) σs g (obeys-length o) (k .0 p h)) in
+  shaped ended g w low next h h′ X σs o k = (σs, k, o)
+  shaped (gone {q} {ts} {d} {p} {xs} x) g w low next h h′ X σs o k =
+      let y = shaped x g w p (stop-of p xs) (omega arith) (omega arith) (After q) σs o (keeps-production q (count ts) σs x g w (obeys-length o) (k .0 p h)) in
       (y .0, k .1 (y .0) (y .1), y .2)
-  shaped (eaten e x) g low next h h′ X σs o k = shaped x (ranged-rest g) next next h′ (omega (arith, next-range (ranged-rest g))) X σs o k
-  shaped (leafed x) g low next h h′ X σs o k =
-      shaped x (ranged-rest g) next next h′ (omega (arith, next-range (ranged-rest g))) X _ (obeys-append o (Obeys.node (k .1) Fits.none Obeys.none Obeys.none)) (k .2)
-  shaped (closed x) g low next h h′ X σs o k = shaped x g low next h h′ X _ (Obeys.node (k .2) (k .3) o Obeys.none) (k .4)
-  shaped (subbed {q} {p = p} {xs = xs} x y) g low next h h′ X σs o k =
+  shaped (eaten e x) g w low next h h′ X σs o k = shaped x (ranged-rest g) (rest-worded w) next next h′ (omega (arith, next-range (ranged-rest g))) X σs o k
+  shaped (leafed x) g w low next h h′ X σs o k =
+      shaped x (ranged-rest g) (rest-worded w) next next h′ (omega (arith, next-range (ranged-rest g))) X _
+      (obeys-append o (Obeys.node (k .1) Fits.none Obeys.none Obeys.none)) (k .2)
+  shaped (closed x) g w low next h h′ X σs o k = shaped x g w low next h h′ X _ (Obeys.node (k .2) (k .3) o Obeys.none) (k .4)
+  shaped (subbed {q} {p = p} {xs = xs} x y) g w low next h h′ X σs o k =
       let f = onward x g in
-      let z = shaped x g p (stop-of p xs) (omega arith) (omega arith) (After q) [] Obeys.none (keeps-production q p xs 0 [] g refl (k .0 p h)) in
-      shaped y (f .2) _ next (after-place q low next h h′ x g) (omega (arith, f .1)) X _ (obeys-append o (z .2)) (k .1 (z .0) (z .1))
-  shaped (deepened {q} {p = p} {xs = xs} x y) g low next h h′ X σs o k =
+      let z = shaped x g w p (stop-of p xs) (omega arith) (omega arith) (After q) [] Obeys.none (keeps-production q 0 [] x g w refl (k .0 p h)) in
+      shaped y (f .2) (left-worded x w) _ next (after-place q low next h h′ x g) (omega (arith, f .1)) X _ (obeys-append o (z .2)) (k .1 (z .0) (z .1))
+  shaped (deepened {q} {p = p} {xs = xs} x y) g w low next h h′ X σs o k =
       let f = onward x g in
-      let z = shaped x g p (stop-of p xs) (omega arith) (omega arith) (After q) [] Obeys.none (keeps-production q p xs 0 [] g refl (k .0 p h)) in
-      shaped y (f .2) _ next (after-place q low next h h′ x g) (omega (arith, f .1)) X _ (obeys-append o (z .2)) (k .1 (z .0) (z .1))
+      let z = shaped x g w p (stop-of p xs) (omega arith) (omega arith) (After q) [] Obeys.none (keeps-production q 0 [] x g w refl (k .0 p h)) in
+      shaped y (f .2) (left-worded x w) _ next (after-place q low next h h′ x g) (omega (arith, f .1)) X _ (obeys-append o (z .2)) (k .1 (z .0) (z .1))
 
   -- EVERY TREE THAT A DERIVATION GIVES OBEYS THE TABLE; it has one root, an expression.
-  pub obeys : {size : ℕ} {depth : ℕ} {xs : List Lexeme} {us : Trees} {r : ℕ} {ys : List Lexeme} → Ranged size 0 xs → Reads prefix s depth xs (done us r ys) → (σ : Sort) × Is σ Sort.expression × Obeys (σ ∷ []) us
+  pub obeys : {size : ℕ} {depth : ℕ} {xs : List Lexeme} {us : Trees} {r : ℕ} {ys : List Lexeme} → Ranged size 0 xs → Worded xs
+      → Reads prefix s depth xs (done us r ys)
+      → (σ : Sort) × Is σ Sort.expression × Obeys Spans.forward (σ ∷ []) us
   unfolding Keeps Before exit moves
-  obeys {xs = xs} g x =
-      let y = shaped x g 0 (stop-of 0 xs) (omega arith) (omega arith) (λ (τs : List Sort). Fits τs (Sort.expression ∷ [])) [] Obeys.none ((λ p le. Fits.none), (λ τs y. y)) in
+  obeys {xs = xs} g w x =
+      let y =
+      shaped x g w 0 (stop-of 0 xs) (omega arith) (omega arith) (λ (τs : List Sort). Fits τs (Sort.expression ∷ [])) [] Obeys.none
+      ((λ p le. Fits.none), (λ τs y. y)) in
       lone (y .1) (y .2)
     where
-      lone : {us : Trees} {τs : List Sort} → Fits τs (Sort.expression ∷ []) → Obeys τs us → (σ : Sort) × Is σ Sort.expression × Obeys (σ ∷ []) us
+      lone : {us : Trees} {τs : List Sort} → Fits τs (Sort.expression ∷ []) → Obeys Spans.forward τs us
+          → (σ : Sort) × Is σ Sort.expression × Obeys Spans.forward (σ ∷ []) us
       lone (Fits.more i Fits.none) o = (_, i, o)
 
-  pub one-root : {size : ℕ} {depth : ℕ} {xs : List Lexeme} {us : Trees} {r : ℕ} {ys : List Lexeme} → Ranged size 0 xs → Reads prefix s depth xs (done us r ys) → count us ≡ 1
-  one-root g x = sym (obeys-length (obeys g x .2))
+  pub one-root : {size : ℕ} {depth : ℕ} {xs : List Lexeme} {us : Trees} {r : ℕ} {ys : List Lexeme} → Ranged size 0 xs → Worded xs
+      → Reads prefix s depth xs (done us r ys) → count us ≡ 1
+  one-root g w x = sym (obeys-length (obeys g w x .2))

@@ -9,6 +9,7 @@ use native.Mathlib.Omega.{arith}
 use lib.Dec.{eqb}
 use lib.ListN.{length}
 use lib.Seq.{slice, length-slice}
+use Rattle.strings.specs.Utf8.{Utf8}
 use Rattle.strings.proofs.LiteralLaws.{quoted-short, verbatim-short}
 use Rattle.blocks.specs.Blocks.{BlockAt}
 use Rattle.blocks.specs.declared.Block.the-variants.{Good}
@@ -21,11 +22,12 @@ use Rattle.lexemes.proofs.KeptLaws.{Rest, kept-step}
 use Rattle.lexemes.proofs.TextLaws.{block-is-good}
 use Rattle.grammar.specs.Trees.{Trees}
 use Rattle.grammar.specs.Image.{image}
-use Rattle.grammar.specs.Records.{Sort, Is, Obeys}
+use Rattle.grammar.specs.Records.{Sort, Is, Spans, Obeys}
 use Rattle.grammar.specs.Lexemes.{Said, said, Lexeme, Ranged}
 use Rattle.grammar.specs.Reading.{Reads, done}
 use Rattle.grammar.specs.Says.{Means, name, number, double, single, double-verbatim, single-verbatim, block, Says, its-text, no-text, Told}
 use Rattle.grammar.specs.Source.{Kept, kept}
+use Rattle.grammar.proofs.Possible.{kept-worded}
 use Rattle.grammar.proofs.Obeys.{obeys}
 use Rattle.grammar.proofs.Room.{Within, image-bound, payloads-fit}
 
@@ -66,9 +68,9 @@ kept-ranged (kept b k t) = ranged (omega arith) k t
 
 -- So, of every source that is read:
 module _ {prefix s depth : ℕ} {source : List ℕ} {xs ys : List Lexeme} {us : Trees} {r : ℕ} (k : Kept source xs) (x : Reads prefix s depth xs (done us r ys)) where
-  -- Its tree obeys the table, with one root, an expression.
-  pub source-obeys : (σ : Sort) × Is σ Sort.expression × Obeys (σ ∷ []) us
-  source-obeys = obeys prefix s (kept-ranged k) x
+  -- Its tree obeys the table, spans and texts included, with one root, an expression. (A source that is read is UTF-8.)
+  pub source-obeys : Utf8 source → (σ : Sort) × Is σ Sort.expression × Obeys Spans.forward (σ ∷ []) us
+  source-obeys u = obeys prefix s (kept-ranged k) (kept-worded u k) x
 
   -- Its image has at most 16 bytes for each of its bytes.
   pub source-bound : length (image us) ≤ 16 * length source

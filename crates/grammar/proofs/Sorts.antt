@@ -5,6 +5,7 @@ use mathlib.Core.List.{List, [], _∷_, _++_, append-assoc, append-nil}
 use Prim.Native.Nat.{ℕ, zero, suc, _+_, _≤_}
 use native.Mathlib.Omega.{arith}
 use lib.ListN.{length}
+use Rattle.grammar.specs.Tags.{SLICE}
 use Rattle.grammar.specs.Trees.{Field, byte, span, count}
 use Rattle.grammar.specs.Lexemes.{rest}
 use Rattle.grammar.specs.Productions.{end, row, otherwise, with-field, with-assert}
@@ -13,7 +14,8 @@ use Rattle.grammar.specs.Productions.{member, members, comprehension, fi
 use Rattle.grammar.specs.Productions.{bind, assertion}
 use Rattle.grammar.specs.Productions.{if-clause, iteration, pattern}
 use Rattle.grammar.specs.Reading.{has}
-use Rattle.grammar.specs.Records.{Sort, Is, Fits, times, First, Part, Rest, Form}
+use Rattle.grammar.specs.Words.{NameText}
+use Rattle.grammar.specs.Records.{Sort, Is, Fits, times, Spans, First, Part, Rest, Form}
 
 -- ── Rows of sorts ─────────────────────────────────────────────────────────────────────────────────
 
@@ -110,12 +112,17 @@ pub 2≤2 : 2 ≤ 2
 2≤2 = omega arith
 
 -- A record with a count that is told otherwise.
-pub told : {σ : Sort} {tag : ℕ} {ws : List Sort} (fields : ℕ → List Field) (n k : ℕ) → n ≡ k → Form σ tag (fields n) ws → Form σ tag (fields k) ws
-told {σ} {tag} {ws} fields n k e f = subst (λ (m : ℕ). Form σ tag (fields m) ws) e f
+pub told : {q : Spans} {σ : Sort} {tag : ℕ} {ws : List Sort} (fields : ℕ → List Field) (n k : ℕ) → n ≡ k → Form q σ tag (fields n) ws → Form q σ tag (fields k) ws
+told {q} {σ} {tag} {ws} fields n k e f = subst (λ (m : ℕ). Form q σ tag (fields m) ws) e f
 
-pub slice-form : {b₁ i j b₂ k l b₃ x y : ℕ} {σs τs υs : List Sort} (b : ℕ) → Part 1 b₁ i j σs → Part 2 b₂ k l τs → Part 4 b₃ x y υs → b₁ + b₂ + b₃ ≡ b
-    → Form Sort.expression 23 (byte b ∷ span i j ∷ span k l ∷ span x y ∷ []) (Sort.expression ∷ (σs ++ τs) ++ υs)
-slice-form {b₁} {i} {j} {b₂} {k} {l} {b₃} {x} {y} b p q r e = told (λ m. byte m ∷ span i j ∷ span k l ∷ span x y ∷ []) (b₁ + b₂ + b₃) b e (Form.r23 p q r)
+-- A part of a slice that is not there.
+pub no-part : {weight : ℕ} → Part Spans.forward weight 0 0 0 []
+no-part = Part.absent (refl, refl)
+
+pub slice-form : {q : Spans} {b₁ i j b₂ k l b₃ x y : ℕ} {σs τs υs : List Sort} (b : ℕ) → Part q 1 b₁ i j σs → Part q 2 b₂ k l τs → Part q 4 b₃ x y υs
+    → b₁ + b₂ + b₃ ≡ b
+    → Form q Sort.expression SLICE (byte b ∷ span i j ∷ span k l ∷ span x y ∷ []) (Sort.expression ∷ (σs ++ τs) ++ υs)
+slice-form {q} {b₁} {i} {j} {b₂} {k} {l} {b₃} {x} {y} b p p′ p″ e = told (λ m. byte m ∷ span i j ∷ span k l ∷ span x y ∷ []) (b₁ + b₂ + b₃) b e (Form.r23 p p′ p″)
 
 -- ── Members and rests ─────────────────────────────────────────────────────────────────────────────
 
@@ -167,10 +174,12 @@ pub add-bind : {c : ℕ} {σs τs : List Sort} → Members c σs → Fits τs (S
 add-bind (no-field n f) g = no-field (suc n) (fits-last n Sort.bind [] f g)
 add-bind (one-field a b f) g = one-field a (suc b) (by (fits-last b Sort.bind (times a Sort.bind ++ Sort.field ∷ []) (regroup f) g))
   where
-    regroup : {σs : List Sort} → Fits σs (times a Sort.bind ++ Sort.field ∷ times b Sort.bind) → Fits σs ((times a Sort.bind ++ Sort.field ∷ []) ++ times b Sort.bind)
+    regroup : {σs : List Sort} → Fits σs (times a Sort.bind ++ Sort.field ∷ times b Sort.bind)
+        → Fits σs ((times a Sort.bind ++ Sort.field ∷ []) ++ times b Sort.bind)
     regroup {σs} f = subst (λ (l : List Sort). Fits σs l) (sym (append-assoc (times a Sort.bind) (Sort.field ∷ []) (times b Sort.bind))) f
 
-    by : {σs : List Sort} → Fits σs ((times a Sort.bind ++ Sort.field ∷ []) ++ times (suc b) Sort.bind) → Fits σs (times a Sort.bind ++ Sort.field ∷ times (suc b) Sort.bind)
+    by : {σs : List Sort} → Fits σs ((times a Sort.bind ++ Sort.field ∷ []) ++ times (suc b) Sort.bind)
+        → Fits σs (times a Sort.bind ++ Sort.field ∷ times (suc b) Sort.bind)
     by {σs} f = subst (λ (l : List Sort). Fits σs l) (append-assoc (times a Sort.bind) (Sort.field ∷ []) (times (suc b) Sort.bind)) f
 add-bind (two-fields n f) g = two-fields (suc n) (fits-last n Sort.member [] f (local-member g))
 add-bind (an-assert n f) g = an-assert (suc n) (fits-last n Sort.member [] f (local-member g))
@@ -199,7 +208,8 @@ add-named u n {σs} {τs} f g =
     subst (λ (m : ℕ). Fits (σs ++ τs) ((Sort.expression ∷ times u Sort.expression) ++ times m Sort.named)) (next-is n)
     (fits-last n Sort.named (Sort.expression ∷ times u Sort.expression) f g)
 
-pub add-unnamed : (u n : ℕ) {σs τs : List Sort} → n ≡ 0 → Fits σs ((Sort.expression ∷ times u Sort.expression) ++ times n Sort.named) → Fits τs (Sort.expression ∷ [])
+pub add-unnamed : (u n : ℕ) {σs τs : List Sort} → n ≡ 0 → Fits σs ((Sort.expression ∷ times u Sort.expression) ++ times n Sort.named)
+    → Fits τs (Sort.expression ∷ [])
     → Fits (σs ++ τs) ((Sort.expression ∷ times (u + 1) Sort.expression) ++ times n Sort.named)
 unfolding times
 add-unnamed u n {σs} {τs} e f g =
@@ -212,8 +222,8 @@ add-unnamed u n {σs} {τs} e f g =
 -- The rest of a pattern that has one.
 pub data Open : ℕ → List ℕ → Type 0 where
   dropped : Open 1 []
-  kept : {w : List ℕ} → Open 2 w
+  kept : {w : List ℕ} → NameText w → Open 2 w
 
 pub open-rest : {r : ℕ} {w : List ℕ} (m : ℕ) → Open r w → Rest r m w
 open-rest m dropped = Rest.dropped
-open-rest m kept = Rest.kept
+open-rest m (kept h) = Rest.kept h
