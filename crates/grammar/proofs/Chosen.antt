@@ -16,6 +16,10 @@ use Rattle.grammar.proofs.Tables.{order, rank, moves, low, halts, fine,
 pub true-false : true ≡ false → ⊥
 true-false e = let z : _≡_ {A = ℕ} 0 1 = cc in omega arith
 
+pub holds : (b : Bool) → T b → b ≡ true
+holds true h = refl
+holds false h = absurd h
+
 pub and-left : (a b : Bool) → T (a && b) → T a
 and-left true b h = tt
 and-left false b h = h

@@ -33,9 +33,9 @@ use Rattle.grammar.specs.Productions.{rule, source, with-field, with-ass
 use Rattle.grammar.specs.Reading.{has, choose, view, production, Outcome, done, broken}
 use Rattle.grammar.specs.Says.{Says, its-text, no-text, Told}
 use Rattle.grammar.specs.Says as says-of
-use Rattle.grammar.specs.Answer.{Verdict, refused, tree, verdict, Judged, read, bad-lexeme, document-01}
+use Rattle.grammar.specs.Answer.{Verdict, refused, tree, verdict, Judged, read, bad-lexeme, valid-setting, prefix-power, document-01}
 use Rattle.grammar.specs.Source.{Bad, bad, Kept, kept}
-use Rattle.grammar.proofs.Chosen.{and-left, and-right}
+use Rattle.grammar.proofs.Chosen.{holds, and-left, and-right}
 use Rattle.grammar.proofs.Execute.{run, after, sound}
 use Rattle.grammar.proofs.Source.{no-meaning, double-back}
 
@@ -123,16 +123,16 @@ Holds (reads s bytes img) = (ts : Trees) × Judged Bad Kept document-01 s bytes 
 Holds (refuses s bytes n a e x) = Judged Bad Kept document-01 s bytes (refused n a e x)
 
 -- a source whose lexemes and what they say are known
-judge : (s : ℕ) (bytes : List ℕ) (ls : List Range) (xs : List Lexeme) (o : Outcome) → T (leb s 7) → T (leb (length bytes) 65000) → T (low bytes) → Lexemes bytes 0 ls
-    → firstBad (length bytes) ls ≡ lexeme EOF (length bytes) (length bytes) → Told bytes (keep ls) xs → run 20 s 2000 source none 200 0 xs ≡ some o → Judged Bad Kept document-01 s bytes (verdict o)
+judge : (s : ℕ) (bytes : List ℕ) (ls : List Range) (xs : List Lexeme) (o : Outcome) → T (valid-setting s) → T (leb (length bytes) 65000) → T (low bytes) → Lexemes bytes 0 ls
+    → firstBad (length bytes) ls ≡ lexeme EOF (length bytes) (length bytes) → Told bytes (keep ls) xs → run (prefix-power s) s 2000 source none 200 0 xs ≡ some o → Judged Bad Kept document-01 s bytes (verdict o)
 judge s bytes ls xs o h g l m f t r =
-    read (leb→le s 7 h) (leb→le (length bytes) 65000 g) (low-utf8 bytes l)
+    read (holds (valid-setting s) h) (leb→le (length bytes) 65000 g) (low-utf8 bytes l)
     (kept (record { lexemes = ls; all = m; is-first = sym f }) (record { lexemes = ls; all = m; kept = refl }) t)
-    (sound 20 s 2000 source none 200 0 xs o r)
+    (sound (prefix-power s) s 2000 source none 200 0 xs o r)
 
 -- a source without strings: all is computed
-pub plainly : (s : ℕ) (bytes : List ℕ) (ls : List Range) (o : Outcome) → T (leb s 7) → T (leb (length bytes) 65000) → T (low bytes) → lex 500 bytes 0 ≡ all ls
-    → firstBad (length bytes) ls ≡ lexeme EOF (length bytes) (length bytes) → T (no-strings (keep ls)) → run 20 s 2000 source none 200 0 (words bytes (keep ls)) ≡ some o
+pub plainly : (s : ℕ) (bytes : List ℕ) (ls : List Range) (o : Outcome) → T (valid-setting s) → T (leb (length bytes) 65000) → T (low bytes) → lex 500 bytes 0 ≡ all ls
+    → firstBad (length bytes) ls ≡ lexeme EOF (length bytes) (length bytes) → T (no-strings (keep ls)) → run (prefix-power s) s 2000 source none 200 0 (words bytes (keep ls)) ≡ some o
     → Judged Bad Kept document-01 s bytes (verdict o)
 plainly s bytes ls o h g l m f t r = judge s bytes ls (words bytes (keep ls)) o h g l (lexed bytes 500 0 ls m) f (words-told bytes (keep ls) t) r
 
@@ -200,4 +200,4 @@ block-lexemes =
 
 pub marked-readings : All marked
 unfolding marked parens block-source lex rules firstBad keep lexemes.bad lexemes.dropped no-strings no-string words word-at plain low run after production choose rule view has _⊕_ count with-field with-assert good said image entry payload verdict
-marked-readings = (plainly 0 _ _ _ tt tt tt refl refl tt refl, ((_, plainly 0 _ _ _ tt tt tt refl refl tt refl, refl), (plainly 0 _ _ _ tt tt tt refl refl tt refl, ((_, plainly 0 _ _ _ tt tt tt refl refl tt refl, refl), ((_, judge 0 _ _ _ _ tt tt tt (lexed _ 500 0 _ refl) refl (Told.more (its-text (says-of.Means.double marked-reading-5)) Told.none) refl, refl), ((_, judge 0 _ _ _ _ tt tt tt (lexed _ 500 0 _ refl) refl (Told.more (its-text (says-of.Means.double marked-reading-6)) Told.none) refl, refl), (judge 0 _ _ _ _ tt tt tt (lexed _ 500 0 _ refl) refl (Told.more (no-text (λ w m. marked-reading-7 w (double-back _ 0 9 w m))) Told.none) refl, ((_, judge 0 block-source _ _ _ tt tt tt block-lexemes refl (Told.more (its-text (says-of.Means.block (marked-reading-8 .1))) Told.none) refl, refl), (plainly 0 _ _ _ tt tt tt refl refl tt refl, (bad-lexeme (leb→le 0 7 tt) (leb→le 17 65000 tt) (low-utf8 _ tt) (bad (eqb-false 39 EOF refl) (record { lexemes = _; all = lexed (ascii "if a then 1else 2") 500 0 _ refl; is-first = refl })), (plainly 0 _ _ _ tt tt tt refl refl tt refl, (plainly 0 _ _ _ tt tt tt refl refl tt refl, (plainly 1 _ _ _ tt tt tt refl refl tt refl, ((_, plainly 2 _ _ _ tt tt tt refl refl tt refl, refl), ((_, plainly 0 _ _ _ tt tt tt refl refl tt refl, refl), (plainly 0 _ _ _ tt tt tt refl refl tt refl, ((_, plainly 0 _ _ _ tt tt tt refl refl tt refl, refl), (plainly 0 _ _ _ tt tt tt refl refl tt refl, ((_, plainly 0 _ _ _ tt tt tt refl refl tt refl, refl), ((_, plainly 0 _ _ _ tt tt tt refl refl tt refl, refl), tt))))))))))))))))))))
+marked-readings = (plainly 0 _ _ _ tt tt tt refl refl tt refl, ((_, plainly 0 _ _ _ tt tt tt refl refl tt refl, refl), (plainly 0 _ _ _ tt tt tt refl refl tt refl, ((_, plainly 0 _ _ _ tt tt tt refl refl tt refl, refl), ((_, judge 0 _ _ _ _ tt tt tt (lexed _ 500 0 _ refl) refl (Told.more (its-text (says-of.Means.double marked-reading-5)) Told.none) refl, refl), ((_, judge 0 _ _ _ _ tt tt tt (lexed _ 500 0 _ refl) refl (Told.more (its-text (says-of.Means.double marked-reading-6)) Told.none) refl, refl), (judge 0 _ _ _ _ tt tt tt (lexed _ 500 0 _ refl) refl (Told.more (no-text (λ w m. marked-reading-7 w (double-back _ 0 9 w m))) Told.none) refl, ((_, judge 0 block-source _ _ _ tt tt tt block-lexemes refl (Told.more (its-text (says-of.Means.block (marked-reading-8 .1))) Told.none) refl, refl), (plainly 0 _ _ _ tt tt tt refl refl tt refl, (bad-lexeme refl (leb→le 17 65000 tt) (low-utf8 _ tt) (bad (eqb-false 39 EOF refl) (record { lexemes = _; all = lexed (ascii "if a then 1else 2") 500 0 _ refl; is-first = refl })), (plainly 0 _ _ _ tt tt tt refl refl tt refl, (plainly 0 _ _ _ tt tt tt refl refl tt refl, (plainly 1 _ _ _ tt tt tt refl refl tt refl, ((_, plainly 2 _ _ _ tt tt tt refl refl tt refl, refl), ((_, plainly 0 _ _ _ tt tt tt refl refl tt refl, refl), (plainly 0 _ _ _ tt tt tt refl refl tt refl, ((_, plainly 0 _ _ _ tt tt tt refl refl tt refl, refl), (plainly 0 _ _ _ tt tt tt refl refl tt refl, ((_, plainly 0 _ _ _ tt tt tt refl refl tt refl, refl), ((_, plainly 0 _ _ _ tt tt tt refl refl tt refl, refl), tt))))))))))))))))))))

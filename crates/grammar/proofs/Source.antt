@@ -7,6 +7,7 @@ use mathlib.Core.Logic.{_⊎_, inl, inr}
 use Prim.Native.Nat.{ℕ, _+_, _-_, _≤_}
 use native.Mathlib.Omega.{arith}
 use native.Mathlib.Decide.{ℕ-discrete}
+use lib.Dec.{T}
 use lib.ListN.{length, drop}
 use lib.Seq.{slice}
 use Rattle.strings.specs.Utf8.{Utf8}
@@ -24,13 +25,14 @@ use Rattle.lexemes.specs.Lexeme.{lexeme}
 use Rattle.lexemes.specs.Kept.{FirstBad, firstBad, oneOf}
 use Rattle.lexemes.specs.Kept as lexemes
 use Rattle.lexemes.proofs.KeptLaws.{lexemes-always, kept-always, kept-once, first-bad-once}
+use Rattle.grammar.specs.Numbers.{fits}
 use Rattle.grammar.specs.Lexemes.{Said, says, nothing, Lexeme}
 use Rattle.grammar.specs.Says.{Means, name, number, double, single, double-verbatim, single-verbatim, block, Says, its-text, no-text, Told}
-use Rattle.grammar.specs.Answer.{Answer, Answers, document-01}
+use Rattle.grammar.specs.Answer.{Answer, Answers, valid-setting, document-01}
 use Rattle.grammar.specs.Source.{Bad, bad, Kept, kept, Reads01}
 use Rattle.grammar.proofs.SaysLaws.{told-once}
 use Rattle.grammar.specs.Settings.{_⊑_}
-use Rattle.grammar.proofs.Whole.{Lexing, answers-once, answers-always, larger, Fifth, smaller}
+use Rattle.grammar.proofs.Whole.{Lexing, answers-once, answers-always, answers-fit, Accepted, larger, Fifth, smaller}
 
 -- ---- every lexeme says something or nothing
 
@@ -164,14 +166,19 @@ reads-once = answers-once lexing document-01
 pub reads-always : (setting : ℕ) (source : List ℕ) (room : ℕ) → (a : Answer) × (out : List ℕ) × Reads01 setting source room a out
 reads-always = answers-always lexing document-01
 
+-- It keeps to the table of numbers.
+pub reads-fit : {setting : ℕ} {source : List ℕ} {room : ℕ} {a : Answer} {out : List ℕ} → Reads01 setting source room a out
+    → T (fits (a .number) (a .start) (a .stop) (a .detail) (a .size))
+reads-fit = answers-fit lexing document-01
+
 -- ---- demand 3
 
 module _ (s s′ : ℕ) (le : s ⊑ s′) (source : List ℕ) (room : ℕ) {a a′ : Answer} {out out′ : List ℕ} (x : Reads01 s source room a out) (x′ : Reads01 s′ source room a′ out′) where
   -- A larger setting changes no tree and no refusal for room.
-  pub larger-setting : s′ ≤ 7 → (a .number ≡ 0) ⊎ (a .number ≡ 12) → (a′ ≡ a) × (out′ ≡ out)
-  larger-setting = larger lexing document-01 s s′ le source room x x′
+  pub larger-setting : valid-setting s′ ≡ true → Accepted a → (a′ ≡ a) × (out′ ≡ out)
+  larger-setting = larger lexing document-01 s s′ le source room x x′ refl
 
   -- Where the larger setting has a tree, the smaller has the same, or refuses with number 5 at the first place that the larger reads by a
   -- switch the smaller lacks.
-  pub smaller-setting : s ≤ 7 → (a′ .number ≡ 0) ⊎ (a′ .number ≡ 12) → ((a ≡ a′) × (out ≡ out′)) ⊎ Fifth lexing document-01 s s′ le source room x x′
-  smaller-setting = smaller lexing document-01 s s′ le source room x x′
+  pub smaller-setting : valid-setting s ≡ true → Accepted a′ → ((a ≡ a′) × (out ≡ out′)) ⊎ Fifth lexing document-01 s s′ le source room x x′
+  smaller-setting = smaller lexing document-01 s s′ le source room x x′ refl

@@ -7,6 +7,7 @@ use Prim.Native.Nat.{ℕ, _≤_, _<_}
 use native.Mathlib.Omega.{arith}
 use lib.Dec.{T, eqb, leb, ltb}
 use Rattle.lexemes.specs.Kinds.{EOF, QUESTION-MARK, NULL-COAELSE}
+use Rattle.grammar.specs.Numbers.{met-with}
 use Rattle.grammar.specs.Productions.{Phrase, Body, end, goto, fail, _▸_, Step, eat, leaf, sub, deep, close, Switch, always, exp-destruct, exp-object-iteration, exp-null-coaelse, Row, row, Table, otherwise, _∣_, View, rule, signs, operators, sign-rows, operator-rows}
 use Rattle.grammar.specs.Productions.{expr, infix-tail, suffixed, suffix, null-safe, null-safe-index, bracket, member-name, null-safe-end, index-or-slice, slice-end, slice-ended, slice-step}
 use Rattle.grammar.specs.Productions.{slice-stepped, arguments, argument, argument-end, call-close, call-end, named-argument, basic, string, array, array-first, array-comp, array-comp-end, elements}
@@ -182,10 +183,11 @@ moved (close t fs ▸ b) = moved b
 moved (sub q ▸ b) = moves q || moved b
 moved (deep q ▸ b) = moves q || moved b
 
--- It is broken with a number of phrases: 5 to 10 by itself (11 is the depth's).
+-- It is broken with a number that a reading may meet, and with its detail.
 unfoldable pub numbered : Body → Bool
+unfolding met-with
 numbered end = true
-numbered (fail n x) = leb 5 n && leb n 10
+numbered (fail n x) = met-with n x
 numbered (goto q) = true
 numbered (st ▸ b) = numbered b
 

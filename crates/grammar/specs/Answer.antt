@@ -2,27 +2,36 @@
 -- length, and every byte of the output.
 -- Assumes nothing.
 use mathlib.Core.Path.{_≡_}
-use mathlib.Core.Bool.{cond}
+use mathlib.Core.Bool.{Bool, true, false, cond}
 use mathlib.Core.List.{List, [], _∷_, _++_}
 use Prim.Native.Nat.{ℕ, _-_, _≤_, _<_}
 use lib.Dec.{leb}
 use lib.ListN.{length, replicate}
 use Rattle.strings.specs.Utf8.{Utf8, ValidTo}
+use Rattle.grammar.specs.Numbers.{TREE, SETTING, LONG, ENCODING, LEXEME, ROOM}
 use Rattle.grammar.specs.Trees.{Trees}
 use Rattle.grammar.specs.Image.{image}
 use Rattle.grammar.specs.Lexemes.{Lexeme, start-of, stop-of}
 use Rattle.grammar.specs.Reading.{Outcome, done, broken, Reads}
 
--- 01's limits, and its prefix power.
+-- 01's limits: which settings there are, how long a source may be, how deep phrases may nest; and the prefix power of a setting.
 pub record Limits : Type 0 where
-  pub settings : ℕ
+  pub valid : ℕ → Bool
   pub size : ℕ
   pub depth : ℕ
-  pub prefix : ℕ
+  pub prefix : ℕ → ℕ
 
--- "number 1: setting above 7", "Source: 0 to 65,000 bytes", "Depth: 200", "prefix 20"
+-- "number 1: setting above 7"
+abbrev pub valid-setting : ℕ → Bool
+valid-setting s = leb s 7
+
+-- "prefix 20", whatever the setting
+abbrev pub prefix-power : ℕ → ℕ
+prefix-power s = 20
+
+-- "Source: 0 to 65,000 bytes", "Depth: 200"
 abbrev pub document-01 : Limits
-document-01 = record { settings = 7; size = 65000; depth = 200; prefix = 20 }
+document-01 = record { valid = valid-setting; size = 65000; depth = 200; prefix = prefix-power }
 
 -- "An answer is number, start, end, detail, length. Unused fields are 0."
 pub record Answer : Type 0 where
@@ -46,17 +55,17 @@ verdict (broken n p xs x) = refused n (start-of p xs) (stop-of p xs) x
 module _ (Bad : List ℕ → ℕ → ℕ → ℕ → Type 0) (Kept : List ℕ → List Lexeme → Type 0) (limits : Limits) where
   -- "Order: 1, 2, 3, 4; then 5 to 11 as the reading meets them"
   pub data Judged (s : ℕ) (source : List ℕ) : Verdict → Type 0 where
-    bad-setting : limits .settings < s → Judged s source (refused 1 0 0 0)
-    too-long : s ≤ limits .settings → limits .size < length source → Judged s source (refused 2 0 0 0)
-    not-utf8 : {n : ℕ} → s ≤ limits .settings → length source ≤ limits .size → ValidTo source n → n < length source → Judged s source (refused 3 n n 0)
-    bad-lexeme : {k a e : ℕ} → s ≤ limits .settings → length source ≤ limits .size → Utf8 source → Bad source k a e → Judged s source (refused 4 a e k)
-    read : {xs : List Lexeme} {o : Outcome} → s ≤ limits .settings → length source ≤ limits .size → Utf8 source → Kept source xs
-        → Reads (limits .prefix) s (limits .depth) xs o → Judged s source (verdict o)
+    bad-setting : limits .valid s ≡ false → Judged s source (refused SETTING 0 0 0)
+    too-long : limits .valid s ≡ true → limits .size < length source → Judged s source (refused LONG 0 0 0)
+    not-utf8 : {n : ℕ} → limits .valid s ≡ true → length source ≤ limits .size → ValidTo source n → n < length source → Judged s source (refused ENCODING n n 0)
+    bad-lexeme : {k a e : ℕ} → limits .valid s ≡ true → length source ≤ limits .size → Utf8 source → Bad source k a e → Judged s source (refused LEXEME a e k)
+    read : {xs : List Lexeme} {o : Outcome} → limits .valid s ≡ true → length source ≤ limits .size → Utf8 source → Kept source xs
+        → Reads (limits .prefix s) s (limits .depth) xs o → Judged s source (verdict o)
 
 -- "0: tree written; 12: tree exists, image longer than output": number 12 comes last.
 unfoldable pub answer : ℕ → Verdict → Answer
 answer room (refused n a e x) = record { number = n; start = a; stop = e; detail = x; size = 0 }
-answer room (tree ts) = record { number = cond (leb (length (image ts)) room) 0 12; start = 0; stop = 0; detail = 0; size = length (image ts) }
+answer room (tree ts) = record { number = cond (leb (length (image ts)) room) TREE ROOM; start = 0; stop = 0; detail = 0; size = length (image ts) }
 
 -- "After 0 every lent output .. beyond what was written is zero; after any other it's all zero."
 unfoldable pub output : ℕ → Verdict → List ℕ

@@ -1,4 +1,5 @@
 pub mod Tags
+pub mod Numbers
 pub mod Trees
 pub mod Image
 pub mod Lexemes
@@ -10,4 +11,7 @@ pub mod Settings
 pub mod Writing
 pub mod Operators
 pub mod Records
+pub mod Layout
 pub mod Source
+pub mod Spells
+pub mod Words

@@ -9,6 +9,9 @@ use Rattle.lexemes.specs.Kinds.{EOF, OR, NULL-COAELSE, AND, BIT-OR, BIT-XOR, BI
 use Rattle.lexemes.specs.Kinds.{L-BRACK, R-BRACK, L-PAREN, R-PAREN, L-BRACE, R-BRACE, COLON, SEMI, DOT, DOTDOTDOT, COMMA, DOLLAR, ASSIGN, QUESTION-MARK, FLOAT, IDENT}
 use Rattle.lexemes.specs.Kinds.{STRING-DOUBLE, STRING-SINGLE, STRING-DOUBLE-VERBATIM, STRING-SINGLE-VERBATIM, STRING-BLOCK}
 use Rattle.lexemes.specs.Kinds.{TAILSTRICT-KW, LOCAL-KW, IMPORTSTR-KW, IMPORTBIN-KW, IMPORT-KW, IF-KW, THEN-KW, ELSE-KW, FUNCTION-KW, ERROR-KW, IN-KW, NULL-KW, TRUE-KW, FALSE-KW, SELF-KW, SUPER-KW, FOR-KW, ASSERT-KW}
+use Rattle.grammar.specs.Tags.{IDENTITY, NULL, BOOL, NUMBER, STRING, VARIABLE, ARRAY, ARRAY-COMP, MEMBERS, OBJECT-COMP, EXTENSION, PREFIX, INFIX, ASSERT-EXPR, LOCAL, IMPORT, ERROR, CALL}
+use Rattle.grammar.specs.Tags.{NAMED-ARGUMENT, INDEX-PART, FUNCTION, IF, SLICE, BIND, NAME-PATTERN, SKIP, ARRAY-PATTERN, OBJECT-PATTERN, PATTERN-FIELD, PARAMETER, FIELD, ASSERT, FOR, IF-CLAUSE, OBJECT-ITERATION}
+use Rattle.grammar.specs.Numbers.{WANTED, ABSENT, EXPRESSION, MISPLACED, ESCAPE, BLOCK}
 use Rattle.grammar.specs.Trees.{Field, byte, number, span, text}
 use Rattle.grammar.specs.Lexemes.{Said, good, said}
 
@@ -57,10 +60,10 @@ pub data Phrase : Type 0 where
   default-end : ℕ → List ℕ → ℕ → Phrase  -- and where the default began
 
 pub data Step : Type 0 where
-  eat : ℕ → Step  -- a lexeme of this kind; where another stands the phrase is broken: 5, here, this kind
+  eat : ℕ → Step  -- a lexeme of this kind; where another stands the phrase is broken: WANTED, here, this kind
   leaf : ℕ → List Field → Step  -- a lexeme, whatever it is, and for it a record without children
   sub : Phrase → Step  -- a phrase, whose trees are added to this one's
-  deep : Phrase → Step  -- the same one level deeper; with no level left this phrase is broken: 11, here
+  deep : Phrase → Step  -- the same one level deeper; with no level left this phrase is broken: DEPTH, here
   close : ℕ → List Field → Step  -- the trees of this phrase so far become the children of one record
 
 infixr 40 _▸_
@@ -185,14 +188,14 @@ operators =
 unfoldable pub sign-rows : ℕ → ℕ → View → List Sign → Table
 sign-rows prefix least v [] = otherwise (sub suffixed ▸ goto (infix-tail least))
 sign-rows prefix least v (sign k o ∷ rest) =
-    v at k ⟹ eat k ▸ deep (expr prefix) ▸ close 12 (byte o ∷ []) ▸ goto (infix-tail least)
+    v at k ⟹ eat k ▸ deep (expr prefix) ▸ close PREFIX (byte o ∷ []) ▸ goto (infix-tail least)
     ∣ sign-rows prefix least v rest
 
 -- expr_bp's loop at each binary operator.
 unfoldable pub operator-rows : ℕ → View → List Operator → Table
 operator-rows least v [] = otherwise end
 operator-rows least v (op k g left right o ∷ rest) =
-    when eqb (v .kind) k && leb least left with g ⟹ eat k ▸ deep (expr right) ▸ close 13 (byte o ∷ []) ▸ goto (infix-tail least)
+    when eqb (v .kind) k && leb least left with g ⟹ eat k ▸ deep (expr right) ▸ close INFIX (byte o ∷ []) ▸ goto (infix-tail least)
     ∣ operator-rows least v rest
 
 -- ── Comprehensions ────────────────────────────────────────────────────────────────────────────────
@@ -228,35 +231,35 @@ rule prefix (suffix f) v =
     ∣ v at DOT ⟹ eat DOT ▸ goto (member-name f 0)
     ∣ v at L-BRACK ⟹ eat L-BRACK ▸ goto (bracket f)
     ∣ v at L-PAREN ⟹ eat L-PAREN ▸ goto (arguments (v .start) 0 0)
-    ∣ v at L-BRACE ⟹ eat L-BRACE ▸ sub inside ▸ eat R-BRACE ▸ close 11 [] ▸ goto (suffix 1)
+    ∣ v at L-BRACE ⟹ eat L-BRACE ▸ sub inside ▸ eat R-BRACE ▸ close EXTENSION [] ▸ goto (suffix 1)
     ∣ otherwise end
 rule prefix (null-safe f) v =
     v at L-BRACK ⟹ eat L-BRACK ▸ goto (null-safe-index f)
     ∣ otherwise (goto (member-name f 1))
 rule prefix (null-safe-index f) v = otherwise (expression ▸ goto (null-safe-end f (v .start)))
-rule prefix (null-safe-end f a) v = otherwise (eat R-BRACK ▸ close 20 (since a v ∷ byte f ∷ byte 1 ∷ []) ▸ goto (suffix 0))
+rule prefix (null-safe-end f a) v = otherwise (eat R-BRACK ▸ close INDEX-PART (since a v ∷ byte f ∷ byte 1 ∷ []) ▸ goto (suffix 0))
 rule prefix (member-name f n) v =
-    v at IDENT ⟹ leaf 5 (text (word v) ∷ []) ▸ close 20 (here v ∷ byte f ∷ byte n ∷ []) ▸ goto (suffix 0)
-    ∣ otherwise (fail 5 IDENT)
+    v at IDENT ⟹ leaf STRING (text (word v) ∷ []) ▸ close INDEX-PART (here v ∷ byte f ∷ byte n ∷ []) ▸ goto (suffix 0)
+    ∣ otherwise (fail WANTED IDENT)
 rule prefix (bracket f) v =
     v at COLON ⟹ eat COLON ▸ goto (slice-end 0 0 0)
     ∣ otherwise (expression ▸ goto (index-or-slice f (v .start)))
 rule prefix (index-or-slice f a) v =
     v at COLON ⟹ eat COLON ▸ goto (slice-end 1 a (v .before))
-    ∣ otherwise (eat R-BRACK ▸ close 20 (since a v ∷ byte f ∷ byte 0 ∷ []) ▸ goto (suffix 0))
+    ∣ otherwise (eat R-BRACK ▸ close INDEX-PART (since a v ∷ byte f ∷ byte 0 ∷ []) ▸ goto (suffix 0))
 -- slice_desc, after its first `:`
 rule prefix (slice-end b i j) v =
     v at COLON ⟹ eat COLON ▸ goto (slice-step b i j 0 0)
-    ∣ v at R-BRACK ⟹ eat R-BRACK ▸ close 23 (byte b ∷ span i j ∷ absent ∷ absent ∷ []) ▸ goto (suffix 1)
+    ∣ v at R-BRACK ⟹ eat R-BRACK ▸ close SLICE (byte b ∷ span i j ∷ absent ∷ absent ∷ []) ▸ goto (suffix 1)
     ∣ otherwise (expression ▸ goto (slice-ended b i j (v .start)))
 rule prefix (slice-ended b i j a) v =
     v at COLON ⟹ eat COLON ▸ goto (slice-step (b + 2) i j a (v .before))
-    ∣ otherwise (eat R-BRACK ▸ close 23 (byte (b + 2) ∷ span i j ∷ since a v ∷ absent ∷ []) ▸ goto (suffix 1))
+    ∣ otherwise (eat R-BRACK ▸ close SLICE (byte (b + 2) ∷ span i j ∷ since a v ∷ absent ∷ []) ▸ goto (suffix 1))
 rule prefix (slice-step b i j k l) v =
-    v at R-BRACK ⟹ eat R-BRACK ▸ close 23 (byte b ∷ span i j ∷ span k l ∷ absent ∷ []) ▸ goto (suffix 1)
+    v at R-BRACK ⟹ eat R-BRACK ▸ close SLICE (byte b ∷ span i j ∷ span k l ∷ absent ∷ []) ▸ goto (suffix 1)
     ∣ otherwise (expression ▸ goto (slice-stepped b i j k l (v .start)))
 rule prefix (slice-stepped b i j k l a) v =
-    otherwise (eat R-BRACK ▸ close 23 (byte (b + 4) ∷ span i j ∷ span k l ∷ since a v ∷ []) ▸ goto (suffix 1))
+    otherwise (eat R-BRACK ▸ close SLICE (byte (b + 4) ∷ span i j ∷ span k l ∷ since a v ∷ []) ▸ goto (suffix 1))
 -- args, with expr_suffix's `(`, `)` and `tailstrict`. The trees: what is called, then the arguments
 rule prefix (arguments a u n) v =
     v at R-PAREN ⟹ goto (call-close a u n)
@@ -264,62 +267,62 @@ rule prefix (arguments a u n) v =
 rule prefix (argument a u n) v =
     when two-are v IDENT ASSIGN ⟹ sub named-argument ▸ goto (argument-end a u (n + 1))
     ∣ when eqb n 0 ⟹ expression ▸ goto (argument-end a (u + 1) n)
-    ∣ otherwise (fail 8 1)
-rule prefix named-argument v = otherwise (eat IDENT ▸ eat ASSIGN ▸ expression ▸ close 19 (text (word v) ∷ []) ▸ end)
+    ∣ otherwise (fail MISPLACED 1)
+rule prefix named-argument v = otherwise (eat IDENT ▸ eat ASSIGN ▸ expression ▸ close NAMED-ARGUMENT (text (word v) ∷ []) ▸ end)
 rule prefix (argument-end a u n) v =
     v at COMMA ⟹ eat COMMA ▸ goto (arguments a u n)
     ∣ otherwise (goto (call-close a u n))
 rule prefix (call-close a u n) v = otherwise (eat R-PAREN ▸ goto (call-end a u n))
 rule prefix (call-end a u n) v =
-    v at TAILSTRICT-KW ⟹ eat TAILSTRICT-KW ▸ close 18 (since a v ∷ byte 1 ∷ number u ∷ number n ∷ []) ▸ goto (suffix 1)
-    ∣ otherwise (close 18 (since a v ∷ byte 0 ∷ number u ∷ number n ∷ []) ▸ goto (suffix 1))
+    v at TAILSTRICT-KW ⟹ eat TAILSTRICT-KW ▸ close CALL (since a v ∷ byte 1 ∷ number u ∷ number n ∷ []) ▸ goto (suffix 1)
+    ∣ otherwise (close CALL (since a v ∷ byte 0 ∷ number u ∷ number n ∷ []) ▸ goto (suffix 1))
 -- expr_basic
 rule prefix basic v =
-    v at SELF-KW ⟹ leaf 1 (byte 0 ∷ here v ∷ []) ▸ end
-    ∣ v at SUPER-KW ⟹ leaf 1 (byte 1 ∷ here v ∷ []) ▸ end
-    ∣ v at DOLLAR ⟹ leaf 1 (byte 2 ∷ here v ∷ []) ▸ end
-    ∣ v at NULL-KW ⟹ leaf 2 [] ▸ end
-    ∣ v at TRUE-KW ⟹ leaf 3 (byte 1 ∷ []) ▸ end
-    ∣ v at FALSE-KW ⟹ leaf 3 (byte 0 ∷ []) ▸ end
+    v at SELF-KW ⟹ leaf IDENTITY (byte 0 ∷ here v ∷ []) ▸ end
+    ∣ v at SUPER-KW ⟹ leaf IDENTITY (byte 1 ∷ here v ∷ []) ▸ end
+    ∣ v at DOLLAR ⟹ leaf IDENTITY (byte 2 ∷ here v ∷ []) ▸ end
+    ∣ v at NULL-KW ⟹ leaf NULL [] ▸ end
+    ∣ v at TRUE-KW ⟹ leaf BOOL (byte 1 ∷ []) ▸ end
+    ∣ v at FALSE-KW ⟹ leaf BOOL (byte 0 ∷ []) ▸ end
     ∣ when is-string v ⟹ goto string
-    ∣ v at FLOAT ⟹ leaf 4 (text (word v) ∷ []) ▸ end
+    ∣ v at FLOAT ⟹ leaf NUMBER (text (word v) ∷ []) ▸ end
     ∣ v at L-PAREN ⟹ eat L-PAREN ▸ expression ▸ eat R-PAREN ▸ end
     ∣ v at L-BRACK ⟹ eat L-BRACK ▸ goto array
     ∣ v at L-BRACE ⟹ eat L-BRACE ▸ sub inside ▸ eat R-BRACE ▸ end
     ∣ v at LOCAL-KW ⟹ eat LOCAL-KW ▸ goto binds
     ∣ v at IF-KW ⟹ eat IF-KW ▸ expression ▸ eat THEN-KW ▸ expression ▸ goto (else-part (v .start) (v .stop))
     ∣ v at FUNCTION-KW ⟹ eat FUNCTION-KW ▸ eat L-PAREN ▸ sub params ▸ eat R-PAREN ▸ goto (function-body (v .start) (v .stop))
-    ∣ v at ASSERT-KW ⟹ sub assertion ▸ eat SEMI ▸ expression ▸ close 14 [] ▸ end
-    ∣ v at ERROR-KW ⟹ eat ERROR-KW ▸ expression ▸ close 17 (here v ∷ []) ▸ end
-    ∣ v at IMPORTSTR-KW ⟹ eat IMPORTSTR-KW ▸ expression ▸ close 16 (byte 1 ∷ here v ∷ []) ▸ end
-    ∣ v at IMPORTBIN-KW ⟹ eat IMPORTBIN-KW ▸ expression ▸ close 16 (byte 2 ∷ here v ∷ []) ▸ end
-    ∣ v at IMPORT-KW ⟹ eat IMPORT-KW ▸ expression ▸ close 16 (byte 0 ∷ here v ∷ []) ▸ end
-    ∣ v at IDENT ⟹ leaf 6 (here v ∷ text (word v) ∷ []) ▸ end
-    ∣ otherwise (fail 7 0)
+    ∣ v at ASSERT-KW ⟹ sub assertion ▸ eat SEMI ▸ expression ▸ close ASSERT-EXPR [] ▸ end
+    ∣ v at ERROR-KW ⟹ eat ERROR-KW ▸ expression ▸ close ERROR (here v ∷ []) ▸ end
+    ∣ v at IMPORTSTR-KW ⟹ eat IMPORTSTR-KW ▸ expression ▸ close IMPORT (byte 1 ∷ here v ∷ []) ▸ end
+    ∣ v at IMPORTBIN-KW ⟹ eat IMPORTBIN-KW ▸ expression ▸ close IMPORT (byte 2 ∷ here v ∷ []) ▸ end
+    ∣ v at IMPORT-KW ⟹ eat IMPORT-KW ▸ expression ▸ close IMPORT (byte 0 ∷ here v ∷ []) ▸ end
+    ∣ v at IDENT ⟹ leaf VARIABLE (here v ∷ text (word v) ∷ []) ▸ end
+    ∣ otherwise (fail EXPRESSION 0)
 -- parse_string_content
 rule prefix string v =
-    when good (v .says) ⟹ leaf 5 (text (word v) ∷ []) ▸ end
-    ∣ v at STRING-BLOCK ⟹ fail 10 0
-    ∣ otherwise (fail 9 0)
+    when good (v .says) ⟹ leaf STRING (text (word v) ∷ []) ▸ end
+    ∣ v at STRING-BLOCK ⟹ fail BLOCK 0
+    ∣ otherwise (fail ESCAPE 0)
 -- expr_basic's arrays, after `[`
 rule prefix array v =
-    v at R-BRACK ⟹ eat R-BRACK ▸ close 7 (number 0 ∷ []) ▸ end
+    v at R-BRACK ⟹ eat R-BRACK ▸ close ARRAY (number 0 ∷ []) ▸ end
     ∣ otherwise (expression ▸ goto array-first)
 rule prefix array-first v =
     v at FOR-KW ⟹ goto array-comp
     ∣ when two-are v COMMA FOR-KW ⟹ eat COMMA ▸ goto array-comp
     ∣ otherwise (goto elements)
 rule prefix array-comp v = otherwise (sub clauses ▸ goto array-comp-end)
-rule prefix array-comp-end v = otherwise (eat R-BRACK ▸ close 8 (number (v .count - 1) ∷ []) ▸ end)
+rule prefix array-comp-end v = otherwise (eat R-BRACK ▸ close ARRAY-COMP (number (v .count - 1) ∷ []) ▸ end)
 rule prefix elements v =
     v at COMMA ⟹ eat COMMA ▸ goto next-element
-    ∣ otherwise (eat R-BRACK ▸ close 7 (number (v .count) ∷ []) ▸ end)
+    ∣ otherwise (eat R-BRACK ▸ close ARRAY (number (v .count) ∷ []) ▸ end)
 rule prefix next-element v =
-    v at R-BRACK ⟹ eat R-BRACK ▸ close 7 (number (v .count) ∷ []) ▸ end
+    v at R-BRACK ⟹ eat R-BRACK ▸ close ARRAY (number (v .count) ∷ []) ▸ end
     ∣ otherwise (expression ▸ goto elements)
 -- objinside, member: between the braces
 rule prefix inside v =
-    v at R-BRACE ⟹ close 9 (number 0 ∷ []) ▸ end
+    v at R-BRACE ⟹ close MEMBERS (number 0 ∷ []) ▸ end
     ∣ otherwise (goto (member 4))
 rule prefix (member c) v =
     v at LOCAL-KW ⟹ eat LOCAL-KW ▸ sub bind ▸ goto (members c)
@@ -328,30 +331,30 @@ rule prefix (member c) v =
 rule prefix (members c) v =
     v at COMMA ⟹ eat COMMA ▸ goto (next-member c)
     ∣ v at FOR-KW ⟹ goto (comprehension c)
-    ∣ otherwise (close 9 (number (v .count) ∷ []) ▸ end)
+    ∣ otherwise (close MEMBERS (number (v .count) ∷ []) ▸ end)
 rule prefix (next-member c) v =
-    v at R-BRACE ⟹ close 9 (number (v .count) ∷ []) ▸ end
+    v at R-BRACE ⟹ close MEMBERS (number (v .count) ∷ []) ▸ end
     ∣ v at FOR-KW ⟹ goto (comprehension c)
     ∣ otherwise (goto (member c))
 -- "Comprehension faults (8) come after its last clause"
 rule prefix (comprehension c) v =
     when eqb c 0 ⟹ sub clauses ▸ goto (comprehension-end (v .count))
-    ∣ otherwise (sub clauses ▸ fail 8 c)
-rule prefix (comprehension-end m) v = otherwise (close 10 (number m ∷ number (v .count - m) ∷ []) ▸ end)
+    ∣ otherwise (sub clauses ▸ fail MISPLACED c)
+rule prefix (comprehension-end m) v = otherwise (close OBJECT-COMP (number m ∷ number (v .count - m) ∷ []) ▸ end)
 -- field, field_name, visibility
 rule prefix field v =
-    v at IDENT ⟹ leaf 5 (text (word v) ∷ []) ▸ goto (field-named 0 (v .start))
+    v at IDENT ⟹ leaf STRING (text (word v) ∷ []) ▸ goto (field-named 0 (v .start))
     ∣ when is-string v ⟹ sub string ▸ goto (field-named 0 (v .start))
     ∣ v at L-BRACK ⟹ eat L-BRACK ▸ expression ▸ eat R-BRACK ▸ goto (field-named 1 (v .start))
-    ∣ otherwise (fail 6 1)
+    ∣ otherwise (fail ABSENT 1)
 rule prefix (field-named c a) v =
     v at L-PAREN ⟹ eat L-PAREN ▸ sub params ▸ eat R-PAREN ▸ goto (field-value a (v .before) c 0 1)
     ∣ v at PLUS ⟹ eat PLUS ▸ goto (field-value a (v .before) c 1 0)
     ∣ otherwise (goto (field-value a (v .before) c 0 0))
 rule prefix (field-value i j c p m) v =
-    when three-are v COLON COLON COLON ⟹ eat COLON ▸ eat COLON ▸ eat COLON ▸ expression ▸ close 31 (span i j ∷ byte c ∷ byte p ∷ byte m ∷ number (v .count - 1) ∷ byte 2 ∷ []) ▸ end
-    ∣ when two-are v COLON COLON ⟹ eat COLON ▸ eat COLON ▸ expression ▸ close 31 (span i j ∷ byte c ∷ byte p ∷ byte m ∷ number (v .count - 1) ∷ byte 1 ∷ []) ▸ end
-    ∣ otherwise (eat COLON ▸ expression ▸ close 31 (span i j ∷ byte c ∷ byte p ∷ byte m ∷ number (v .count - 1) ∷ byte 0 ∷ []) ▸ end)
+    when three-are v COLON COLON COLON ⟹ eat COLON ▸ eat COLON ▸ eat COLON ▸ expression ▸ close FIELD (span i j ∷ byte c ∷ byte p ∷ byte m ∷ number (v .count - 1) ∷ byte 2 ∷ []) ▸ end
+    ∣ when two-are v COLON COLON ⟹ eat COLON ▸ eat COLON ▸ expression ▸ close FIELD (span i j ∷ byte c ∷ byte p ∷ byte m ∷ number (v .count - 1) ∷ byte 1 ∷ []) ▸ end
+    ∣ otherwise (eat COLON ▸ expression ▸ close FIELD (span i j ∷ byte c ∷ byte p ∷ byte m ∷ number (v .count - 1) ∷ byte 0 ∷ []) ▸ end)
 -- params, up to `)`
 rule prefix params v =
     v at R-PAREN ⟹ end
@@ -361,8 +364,8 @@ rule prefix params-end v =
     ∣ otherwise end
 rule prefix param v = otherwise (sub pattern ▸ goto param-default)
 rule prefix param-default v =
-    v at ASSIGN ⟹ eat ASSIGN ▸ expression ▸ close 30 (byte 1 ∷ []) ▸ end
-    ∣ otherwise (close 30 (byte 0 ∷ []) ▸ end)
+    v at ASSIGN ⟹ eat ASSIGN ▸ expression ▸ close PARAMETER (byte 1 ∷ []) ▸ end
+    ∣ otherwise (close PARAMETER (byte 0 ∷ []) ▸ end)
 -- expr_basic's local, after `local`; bind
 rule prefix binds v =
     v at SEMI ⟹ goto local-body
@@ -370,25 +373,25 @@ rule prefix binds v =
 rule prefix binds-end v =
     v at COMMA ⟹ eat COMMA ▸ goto binds
     ∣ otherwise (goto local-body)
-rule prefix local-body v = otherwise (eat SEMI ▸ expression ▸ close 15 (number (v .count) ∷ []) ▸ end)
+rule prefix local-body v = otherwise (eat SEMI ▸ expression ▸ close LOCAL (number (v .count) ∷ []) ▸ end)
 rule prefix bind v =
-    v at IDENT ⟹ leaf 25 (here v ∷ text (word v) ∷ []) ▸ goto bind-named
-    ∣ otherwise (sub pattern ▸ eat ASSIGN ▸ expression ▸ close 24 (byte 0 ∷ number 0 ∷ []) ▸ end)
+    v at IDENT ⟹ leaf NAME-PATTERN (here v ∷ text (word v) ∷ []) ▸ goto bind-named
+    ∣ otherwise (sub pattern ▸ eat ASSIGN ▸ expression ▸ close BIND (byte 0 ∷ number 0 ∷ []) ▸ end)
 rule prefix bind-named v =
     v at L-PAREN ⟹ eat L-PAREN ▸ sub params ▸ eat R-PAREN ▸ goto bind-function
-    ∣ otherwise (eat ASSIGN ▸ expression ▸ close 24 (byte 0 ∷ number 0 ∷ []) ▸ end)
-rule prefix bind-function v = otherwise (eat ASSIGN ▸ expression ▸ close 24 (byte 1 ∷ number (v .count - 1) ∷ []) ▸ end)
+    ∣ otherwise (eat ASSIGN ▸ expression ▸ close BIND (byte 0 ∷ number 0 ∷ []) ▸ end)
+rule prefix bind-function v = otherwise (eat ASSIGN ▸ expression ▸ close BIND (byte 1 ∷ number (v .count - 1) ∷ []) ▸ end)
 -- if_else, after its second expression; expr_basic's function, after `)`
 rule prefix (else-part i j) v =
-    v at ELSE-KW ⟹ eat ELSE-KW ▸ expression ▸ close 22 (span i j ∷ byte 1 ∷ []) ▸ end
-    ∣ otherwise (close 22 (span i j ∷ byte 0 ∷ []) ▸ end)
-rule prefix (function-body i j) v = otherwise (expression ▸ close 21 (span i j ∷ number (v .count) ∷ []) ▸ end)
+    v at ELSE-KW ⟹ eat ELSE-KW ▸ expression ▸ close IF (span i j ∷ byte 1 ∷ []) ▸ end
+    ∣ otherwise (close IF (span i j ∷ byte 0 ∷ []) ▸ end)
+rule prefix (function-body i j) v = otherwise (expression ▸ close FUNCTION (span i j ∷ number (v .count) ∷ []) ▸ end)
 -- assert_stmt
 rule prefix assertion v = otherwise (eat ASSERT-KW ▸ goto condition)
 rule prefix condition v = otherwise (expression ▸ goto (asserted (v .start)))
 rule prefix (asserted a) v =
-    v at COLON ⟹ eat COLON ▸ expression ▸ close 32 (since a v ∷ byte 1 ∷ []) ▸ end
-    ∣ otherwise (close 32 (since a v ∷ byte 0 ∷ []) ▸ end)
+    v at COLON ⟹ eat COLON ▸ expression ▸ close ASSERT (since a v ∷ byte 1 ∷ []) ▸ end
+    ∣ otherwise (close ASSERT (since a v ∷ byte 0 ∷ []) ▸ end)
 -- compspecs, for_spec, if_spec_data
 rule prefix clauses v = otherwise (eat FOR-KW ▸ sub for-clause ▸ goto more-clauses)
 rule prefix more-clauses v =
@@ -398,22 +401,22 @@ rule prefix more-clauses v =
 -- "With 2, `for [k]:` is object iteration only when the four lexemes `[`, `IDENT`, `]`, `:` stand there."
 rule prefix for-clause v =
     when four-are v L-BRACK IDENT R-BRACK COLON with exp-object-iteration ⟹ deep header ▸ goto (iteration (said (v .says₁)))
-    ∣ otherwise (sub pattern ▸ eat IN-KW ▸ expression ▸ close 33 [] ▸ end)
+    ∣ otherwise (sub pattern ▸ eat IN-KW ▸ expression ▸ close FOR [] ▸ end)
 rule prefix header v = otherwise (eat L-BRACK ▸ eat IDENT ▸ eat R-BRACK ▸ end)
 rule prefix (iteration key) v =
     when three-are v COLON COLON COLON ⟹ eat COLON ▸ eat COLON ▸ eat COLON ▸ goto (iteration-value 2 key)
     ∣ when two-are v COLON COLON ⟹ eat COLON ▸ eat COLON ▸ goto (iteration-value 1 key)
     ∣ otherwise (eat COLON ▸ goto (iteration-value 0 key))
-rule prefix (iteration-value visibility key) v = otherwise (sub pattern ▸ eat IN-KW ▸ expression ▸ close 35 (byte visibility ∷ text key ∷ []) ▸ end)
-rule prefix (if-clause i j) v = otherwise (expression ▸ close 34 (span i j ∷ []) ▸ end)
+rule prefix (iteration-value visibility key) v = otherwise (sub pattern ▸ eat IN-KW ▸ expression ▸ close OBJECT-ITERATION (byte visibility ∷ text key ∷ []) ▸ end)
+rule prefix (if-clause i j) v = otherwise (expression ▸ close IF-CLAUSE (span i j ∷ []) ▸ end)
 -- destruct
 rule prefix pattern v =
-    v at IDENT ⟹ leaf 25 (here v ∷ text (word v) ∷ []) ▸ end
-    ∣ v at QUESTION-MARK with exp-destruct ⟹ leaf 26 [] ▸ end
+    v at IDENT ⟹ leaf NAME-PATTERN (here v ∷ text (word v) ∷ []) ▸ end
+    ∣ v at QUESTION-MARK with exp-destruct ⟹ leaf SKIP [] ▸ end
     ∣ v at L-BRACK with exp-destruct ⟹ deep array-pattern ▸ end
     ∣ v at L-BRACE with exp-destruct ⟹ deep object-pattern ▸ end
-    ∣ when true with exp-destruct ⟹ fail 6 2
-    ∣ otherwise (fail 5 IDENT)
+    ∣ when true with exp-destruct ⟹ fail ABSENT 2
+    ∣ otherwise (fail WANTED IDENT)
 -- destruct_array, destruct_rest
 rule prefix array-pattern v = otherwise (eat L-BRACK ▸ goto pattern-starts)
 rule prefix pattern-starts v =
@@ -435,7 +438,7 @@ rule prefix (pattern-ends n r w) v =
 rule prefix (pattern-ends-end n r w) v =
     v at COMMA ⟹ eat COMMA ▸ goto (pattern-ends n r w)
     ∣ otherwise (goto (array-pattern-close n r w))
-rule prefix (array-pattern-close n r w) v = otherwise (eat R-BRACK ▸ close 27 (number n ∷ byte r ∷ number (v .count - n) ∷ text w ∷ []) ▸ end)
+rule prefix (array-pattern-close n r w) v = otherwise (eat R-BRACK ▸ close ARRAY-PATTERN (number n ∷ byte r ∷ number (v .count - n) ∷ text w ∷ []) ▸ end)
 -- destruct_object, destruct_rest
 rule prefix object-pattern v = otherwise (eat L-BRACE ▸ goto pattern-fields)
 rule prefix pattern-fields v =
@@ -451,13 +454,13 @@ rule prefix object-rest v =
 rule prefix (object-rest-end r w) v =
     v at COMMA ⟹ eat COMMA ▸ goto (object-pattern-close r w)
     ∣ otherwise (goto (object-pattern-close r w))
-rule prefix (object-pattern-close r w) v = otherwise (eat R-BRACE ▸ close 28 (number (v .count) ∷ byte r ∷ text w ∷ []) ▸ end)
+rule prefix (object-pattern-close r w) v = otherwise (eat R-BRACE ▸ close OBJECT-PATTERN (number (v .count) ∷ byte r ∷ text w ∷ []) ▸ end)
 rule prefix pattern-field v = otherwise (eat IDENT ▸ goto (pattern-into (word v)))
 rule prefix (pattern-into w) v =
     v at COLON ⟹ eat COLON ▸ sub pattern ▸ goto (pattern-default 1 w)
     ∣ otherwise (goto (pattern-default 0 w))
 rule prefix (pattern-default h w) v =
     v at ASSIGN ⟹ eat ASSIGN ▸ goto (default-value h w)
-    ∣ otherwise (close 29 (byte h ∷ byte 0 ∷ absent ∷ text w ∷ []) ▸ end)
+    ∣ otherwise (close PATTERN-FIELD (byte h ∷ byte 0 ∷ absent ∷ text w ∷ []) ▸ end)
 rule prefix (default-value h w) v = otherwise (expression ▸ goto (default-end h w (v .start)))
-rule prefix (default-end h w a) v = otherwise (close 29 (byte h ∷ byte 1 ∷ since a v ∷ text w ∷ []) ▸ end)
+rule prefix (default-end h w a) v = otherwise (close PATTERN-FIELD (byte h ∷ byte 1 ∷ since a v ∷ text w ∷ []) ▸ end)

@@ -5,6 +5,7 @@ use mathlib.Core.Bool.{Bool, true, false, _&&_}
 use mathlib.Core.List.{List}
 use Prim.Native.Nat.{ℕ, zero, suc, _/_, _%_}
 use lib.Dec.{eqb}
+use Rattle.grammar.specs.Numbers.{WANTED, DEPTH}
 use Rattle.grammar.specs.Trees.{Field, Trees, none, tree, _⊕_, count}
 use Rattle.grammar.specs.Lexemes.{Lexeme, rest, kind-of, word-of, start-of, stop-of}
 use Rattle.grammar.specs.Productions.{Phrase, Body, end, goto, fail, _▸_, Step, eat, leaf, sub, deep, close, Switch, always, exp-destruct, exp-object-iteration, exp-null-coaelse, Row, row, Table, otherwise, _∣_, View, rule, source}
@@ -55,7 +56,7 @@ pub data Reading (prefix s : ℕ) : Body → Trees → ℕ → ℕ → List Lexe
       → Reading prefix s (production prefix s q p xs (count ts)) ts d p xs o → Reading prefix s (goto q) ts d p xs o
   eaten : {k : ℕ} {b : Body} {ts : Trees} {d p : ℕ} {xs : List Lexeme} {o : Outcome}
       → kind-of xs ≡ k → Reading prefix s b ts d (stop-of p xs) (rest xs) o → Reading prefix s (eat k ▸ b) ts d p xs o
-  uneaten : {k : ℕ} {b : Body} {ts : Trees} {d p : ℕ} {xs : List Lexeme} → ¬ (kind-of xs ≡ k) → Reading prefix s (eat k ▸ b) ts d p xs (broken 5 p xs k)
+  uneaten : {k : ℕ} {b : Body} {ts : Trees} {d p : ℕ} {xs : List Lexeme} → ¬ (kind-of xs ≡ k) → Reading prefix s (eat k ▸ b) ts d p xs (broken WANTED p xs k)
   leafed : {t : ℕ} {fs : List Field} {b : Body} {ts : Trees} {d p : ℕ} {xs : List Lexeme} {o : Outcome}
       → Reading prefix s b (ts ⊕ tree t fs none) d (stop-of p xs) (rest xs) o → Reading prefix s (leaf t fs ▸ b) ts d p xs o
   closed : {t : ℕ} {fs : List Field} {b : Body} {ts : Trees} {d p : ℕ} {xs : List Lexeme} {o : Outcome}
@@ -72,7 +73,7 @@ pub data Reading (prefix s : ℕ) : Body → Trees → ℕ → ℕ → List Lexe
   undeepened : {q : Phrase} {b : Body} {ts : Trees} {d p n r x : ℕ} {xs ys : List Lexeme}
       → Reading prefix s (production prefix s q p xs 0) none d p xs (broken n r ys x) → Reading prefix s (deep q ▸ b) ts (suc d) p xs (broken n r ys x)
   -- "Depth is tested before the lexeme is."
-  too-deep : {q : Phrase} {b : Body} {ts : Trees} {p : ℕ} {xs : List Lexeme} → Reading prefix s (deep q ▸ b) ts zero p xs (broken 11 p xs 0)
+  too-deep : {q : Phrase} {b : Body} {ts : Trees} {p : ℕ} {xs : List Lexeme} → Reading prefix s (deep q ▸ b) ts zero p xs (broken DEPTH p xs 0)
 
 -- The whole source, of which xs are the kept lexemes.
 abbrev pub Reads : ℕ → ℕ → ℕ → List Lexeme → Outcome → Type 0

@@ -3,9 +3,11 @@
 ghost use mathlib.Core.List.{[], _∷_, _++_};
 ghost use Prim.Native.Nat.{_+_, _<_, _^_};
 ghost use lib.ListN.{length};
+ghost use Rattle.grammar.specs.Tags.{OBJECT-COMP, CALL, INDEX-PART, FUNCTION, SLICE, BIND, ARRAY-PATTERN, OBJECT-PATTERN, PATTERN-FIELD, FIELD, OBJECT-ITERATION};
 ghost use Rattle.grammar.specs.Trees.{byte, number, span, text};
 ghost use Rattle.grammar.specs.Image.{two, entry};
 ghost use Rattle.grammar.specs.Writing.{Wrote};
+use crate::tags::Tag;
 use strings::put;
 
 // ── Fields ──────────────────────────────────────────────────────────────────────────────────────
@@ -75,7 +77,7 @@ fn put_flags(out: &mut [u8], w: usize, flags: Flags) -> usize
 
 // ── Records, by the fields of their payload ─────────────────────────────────────────────────────
 
-// 2, 11, 14, 26, 33: no payload.
+// NULL, EXTENSION, ASSERT_EXPR, SKIP, FOR: no payload.
 pub fn put_none(out: &mut [u8], w: usize, tag: u8) -> usize
     requires { ⌜ w < 2 ^ 40 ⌝ }
     ensures { λ r. ⌜ Wrote (now (out .entry)) w (entry tag []) r (now (out .exit)) ⌝ }
@@ -83,7 +85,7 @@ pub fn put_none(out: &mut [u8], w: usize, tag: u8) -> usize
     put_head(out, w, tag, 0)
 }
 
-// 3, 12, 13, 30: a flag or an enum's byte.
+// BOOL, PREFIX, INFIX, PARAMETER: a flag or an enum's byte.
 pub fn put_flag(out: &mut [u8], w: usize, tag: u8, b: u8) -> usize
     requires { ⌜ w < 2 ^ 40 ⌝ }
     ensures { λ r. ⌜ Wrote (now (out .entry)) w (entry tag (byte b ∷ [])) r (now (out .exit)) ⌝ }
@@ -92,7 +94,7 @@ pub fn put_flag(out: &mut [u8], w: usize, tag: u8, b: u8) -> usize
     put_byte(out, w1, b)
 }
 
-// 7, 8, 9, 15: a count.
+// ARRAY, ARRAY_COMP, MEMBERS, LOCAL: a count.
 pub fn put_count(out: &mut [u8], w: usize, tag: u8, n: usize) -> usize
     requires { ⌜ (w < 2 ^ 40) × (n < 2 ^ 16) ⌝ }
     ensures { λ r. ⌜ Wrote (now (out .entry)) w (entry tag (number n ∷ [])) r (now (out .exit)) ⌝ }
@@ -101,17 +103,17 @@ pub fn put_count(out: &mut [u8], w: usize, tag: u8, n: usize) -> usize
     put_number(out, w1, n)
 }
 
-// 10: member count, clause count.
+// OBJECT_COMP: member count, clause count.
 pub fn put_counts(out: &mut [u8], w: usize, members: usize, clauses: usize) -> usize
     requires { ⌜ (w < 2 ^ 40) × (members < 2 ^ 16) × (clauses < 2 ^ 16) ⌝ }
-    ensures { λ r. ⌜ Wrote (now (out .entry)) w (entry 10 (number members ∷ number clauses ∷ [])) r (now (out .exit)) ⌝ }
+    ensures { λ r. ⌜ Wrote (now (out .entry)) w (entry OBJECT-COMP (number members ∷ number clauses ∷ [])) r (now (out .exit)) ⌝ }
 {
-    let w1 = put_head(out, w, 10, 4);
+    let w1 = put_head(out, w, Tag::OBJECT_COMP, 4);
     let w2 = put_number(out, w1, members);
     put_number(out, w2, clauses)
 }
 
-// 4, 19: a text or a name.
+// NUMBER, NAMED_ARGUMENT: a text or a name.
 pub fn put_word(out: &mut [u8], w: usize, tag: u8, s: &[u8]) -> usize
     requires { ⌜ (w < 2 ^ 40) × (length (now s) < 2 ^ 16) ⌝ }
     ensures { λ r. ⌜ Wrote (now (out .entry)) w (entry tag (text (now (s .entry)) ∷ [])) r (now (out .exit)) ⌝ }
@@ -120,7 +122,7 @@ pub fn put_word(out: &mut [u8], w: usize, tag: u8, s: &[u8]) -> usize
     put_text(out, w1, s)
 }
 
-// 17, 34: a span.
+// ERROR, IF_CLAUSE: a span.
 pub fn put_mark(out: &mut [u8], w: usize, tag: u8, a: usize, e: usize) -> usize
     requires { ⌜ (w < 2 ^ 40) × (a < 2 ^ 16) × (e < 2 ^ 16) ⌝ }
     ensures { λ r. ⌜ Wrote (now (out .entry)) w (entry tag (span a e ∷ [])) r (now (out .exit)) ⌝ }
@@ -129,7 +131,7 @@ pub fn put_mark(out: &mut [u8], w: usize, tag: u8, a: usize, e: usize) -> usize
     put_span(out, w1, a, e)
 }
 
-// 1, 16: an enum's byte, a span.
+// IDENTITY, IMPORT: an enum's byte, a span.
 pub fn put_kind(out: &mut [u8], w: usize, tag: u8, b: u8, a: usize, e: usize) -> usize
     requires { ⌜ (w < 2 ^ 40) × (a < 2 ^ 16) × (e < 2 ^ 16) ⌝ }
     ensures { λ r. ⌜ Wrote (now (out .entry)) w (entry tag (byte b ∷ span a e ∷ [])) r (now (out .exit)) ⌝ }
@@ -139,7 +141,7 @@ pub fn put_kind(out: &mut [u8], w: usize, tag: u8, b: u8, a: usize, e: usize) ->
     put_span(out, w2, a, e)
 }
 
-// 22, 32: a span, a flag.
+// IF, ASSERT: a span, a flag.
 pub fn put_marked(out: &mut [u8], w: usize, tag: u8, a: usize, e: usize, b: u8) -> usize
     requires { ⌜ (w < 2 ^ 40) × (a < 2 ^ 16) × (e < 2 ^ 16) ⌝ }
     ensures { λ r. ⌜ Wrote (now (out .entry)) w (entry tag (span a e ∷ byte b ∷ [])) r (now (out .exit)) ⌝ }
@@ -149,17 +151,17 @@ pub fn put_marked(out: &mut [u8], w: usize, tag: u8, a: usize, e: usize, b: u8) 
     put_byte(out, w2, b)
 }
 
-// 21: span, parameter count.
+// FUNCTION: span, parameter count.
 pub fn put_function(out: &mut [u8], w: usize, a: usize, e: usize, n: usize) -> usize
     requires { ⌜ (w < 2 ^ 40) × (a < 2 ^ 16) × (e < 2 ^ 16) × (n < 2 ^ 16) ⌝ }
-    ensures { λ r. ⌜ Wrote (now (out .entry)) w (entry 21 (span a e ∷ number n ∷ [])) r (now (out .exit)) ⌝ }
+    ensures { λ r. ⌜ Wrote (now (out .entry)) w (entry FUNCTION (span a e ∷ number n ∷ [])) r (now (out .exit)) ⌝ }
 {
-    let w1 = put_head(out, w, 21, 6);
+    let w1 = put_head(out, w, Tag::FUNCTION, 6);
     let w2 = put_span(out, w1, a, e);
     put_number(out, w2, n)
 }
 
-// 6, 25: span, name.
+// VARIABLE, NAME_PATTERN: span, name.
 pub fn put_name(out: &mut [u8], w: usize, tag: u8, a: usize, e: usize, s: &[u8]) -> usize
     requires { ⌜ (w < 2 ^ 40) × (a < 2 ^ 16) × (e < 2 ^ 16) × (4 + length (now s) < 2 ^ 16) ⌝ }
     ensures { λ r. ⌜ Wrote (now (out .entry)) w (entry tag (span a e ∷ text (now (s .entry)) ∷ [])) r (now (out .exit)) ⌝ }
@@ -169,7 +171,7 @@ pub fn put_name(out: &mut [u8], w: usize, tag: u8, a: usize, e: usize, s: &[u8])
     put_text(out, w2, s)
 }
 
-// 18: arguments' span, tailstrict, unnamed count, named count.
+// CALL: arguments' span, tailstrict, unnamed count, named count.
 pub fn put_call(
     out: &mut [u8],
     w: usize,
@@ -180,27 +182,27 @@ pub fn put_call(
     named: usize,
 ) -> usize
     requires { ⌜ (w < 2 ^ 40) × (a < 2 ^ 16) × (e < 2 ^ 16) × (unnamed < 2 ^ 16) × (named < 2 ^ 16) ⌝ }
-    ensures { λ r. ⌜ Wrote (now (out .entry)) w (entry 18 (span a e ∷ byte strict ∷ number unnamed ∷ number named ∷ [])) r (now (out .exit)) ⌝ }
+    ensures { λ r. ⌜ Wrote (now (out .entry)) w (entry CALL (span a e ∷ byte strict ∷ number unnamed ∷ number named ∷ [])) r (now (out .exit)) ⌝ }
 {
-    let w1 = put_head(out, w, 18, 9);
+    let w1 = put_head(out, w, Tag::CALL, 9);
     let w2 = put_span(out, w1, a, e);
     let w3 = put_byte(out, w2, strict);
     let w4 = put_number(out, w3, unnamed);
     put_number(out, w4, named)
 }
 
-// 20: span, first-of-run, null-safe.
+// INDEX_PART: span, first-of-run, null-safe.
 pub fn put_index(out: &mut [u8], w: usize, a: usize, e: usize, first: u8, safe: u8) -> usize
     requires { ⌜ (w < 2 ^ 40) × (a < 2 ^ 16) × (e < 2 ^ 16) ⌝ }
-    ensures { λ r. ⌜ Wrote (now (out .entry)) w (entry 20 (span a e ∷ byte first ∷ byte safe ∷ [])) r (now (out .exit)) ⌝ }
+    ensures { λ r. ⌜ Wrote (now (out .entry)) w (entry INDEX-PART (span a e ∷ byte first ∷ byte safe ∷ [])) r (now (out .exit)) ⌝ }
 {
-    let w1 = put_head(out, w, 20, 6);
+    let w1 = put_head(out, w, Tag::INDEX_PART, 6);
     let w2 = put_span(out, w1, a, e);
     let w3 = put_byte(out, w2, first);
     put_byte(out, w3, safe)
 }
 
-// 23: parts, three spans.
+// SLICE: parts, three spans.
 pub fn put_slice(
     out: &mut [u8],
     w: usize,
@@ -213,26 +215,26 @@ pub fn put_slice(
     e2: usize,
 ) -> usize
     requires { ⌜ (w < 2 ^ 40) × (a < 2 ^ 16) × (e < 2 ^ 16) × (a1 < 2 ^ 16) × (e1 < 2 ^ 16) × (a2 < 2 ^ 16) × (e2 < 2 ^ 16) ⌝ }
-    ensures { λ r. ⌜ Wrote (now (out .entry)) w (entry 23 (byte parts ∷ span a e ∷ span a1 e1 ∷ span a2 e2 ∷ [])) r (now (out .exit)) ⌝ }
+    ensures { λ r. ⌜ Wrote (now (out .entry)) w (entry SLICE (byte parts ∷ span a e ∷ span a1 e1 ∷ span a2 e2 ∷ [])) r (now (out .exit)) ⌝ }
 {
-    let w1 = put_head(out, w, 23, 13);
+    let w1 = put_head(out, w, Tag::SLICE, 13);
     let w2 = put_byte(out, w1, parts);
     let w3 = put_span(out, w2, a, e);
     let w4 = put_span(out, w3, a1, e1);
     put_span(out, w4, a2, e2)
 }
 
-// 24: function flag, parameter count.
+// BIND: function flag, parameter count.
 pub fn put_bind(out: &mut [u8], w: usize, function: u8, n: usize) -> usize
     requires { ⌜ (w < 2 ^ 40) × (n < 2 ^ 16) ⌝ }
-    ensures { λ r. ⌜ Wrote (now (out .entry)) w (entry 24 (byte function ∷ number n ∷ [])) r (now (out .exit)) ⌝ }
+    ensures { λ r. ⌜ Wrote (now (out .entry)) w (entry BIND (byte function ∷ number n ∷ [])) r (now (out .exit)) ⌝ }
 {
-    let w1 = put_head(out, w, 24, 3);
+    let w1 = put_head(out, w, Tag::BIND, 3);
     let w2 = put_byte(out, w1, function);
     put_number(out, w2, n)
 }
 
-// 27: start count, rest byte, end count, rest name.
+// ARRAY_PATTERN: start count, rest byte, end count, rest name.
 pub fn put_array_pattern(
     out: &mut [u8],
     w: usize,
@@ -242,27 +244,27 @@ pub fn put_array_pattern(
     s: &[u8],
 ) -> usize
     requires { ⌜ (w < 2 ^ 40) × (starts < 2 ^ 16) × (ends < 2 ^ 16) × (5 + length (now s) < 2 ^ 16) ⌝ }
-    ensures { λ r. ⌜ Wrote (now (out .entry)) w (entry 27 (number starts ∷ byte rest ∷ number ends ∷ text (now (s .entry)) ∷ [])) r (now (out .exit)) ⌝ }
+    ensures { λ r. ⌜ Wrote (now (out .entry)) w (entry ARRAY-PATTERN (number starts ∷ byte rest ∷ number ends ∷ text (now (s .entry)) ∷ [])) r (now (out .exit)) ⌝ }
 {
-    let w1 = put_head(out, w, 27, 5 + s.len());
+    let w1 = put_head(out, w, Tag::ARRAY_PATTERN, 5 + s.len());
     let w2 = put_number(out, w1, starts);
     let w3 = put_byte(out, w2, rest);
     let w4 = put_number(out, w3, ends);
     put_text(out, w4, s)
 }
 
-// 28: field count, rest byte, rest name.
+// OBJECT_PATTERN: field count, rest byte, rest name.
 pub fn put_object_pattern(out: &mut [u8], w: usize, n: usize, rest: u8, s: &[u8]) -> usize
     requires { ⌜ (w < 2 ^ 40) × (n < 2 ^ 16) × (3 + length (now s) < 2 ^ 16) ⌝ }
-    ensures { λ r. ⌜ Wrote (now (out .entry)) w (entry 28 (number n ∷ byte rest ∷ text (now (s .entry)) ∷ [])) r (now (out .exit)) ⌝ }
+    ensures { λ r. ⌜ Wrote (now (out .entry)) w (entry OBJECT-PATTERN (number n ∷ byte rest ∷ text (now (s .entry)) ∷ [])) r (now (out .exit)) ⌝ }
 {
-    let w1 = put_head(out, w, 28, 3 + s.len());
+    let w1 = put_head(out, w, Tag::OBJECT_PATTERN, 3 + s.len());
     let w2 = put_number(out, w1, n);
     let w3 = put_byte(out, w2, rest);
     put_text(out, w3, s)
 }
 
-// 29: has-pattern, has-default, default's span, name.
+// PATTERN_FIELD: has-pattern, has-default, default's span, name.
 pub fn put_pattern_field(
     out: &mut [u8],
     w: usize,
@@ -273,26 +275,26 @@ pub fn put_pattern_field(
     s: &[u8],
 ) -> usize
     requires { ⌜ (w < 2 ^ 40) × (a < 2 ^ 16) × (e < 2 ^ 16) × (6 + length (now s) < 2 ^ 16) ⌝ }
-    ensures { λ r. ⌜ Wrote (now (out .entry)) w (entry 29 (byte into ∷ byte default ∷ span a e ∷ text (now (s .entry)) ∷ [])) r (now (out .exit)) ⌝ }
+    ensures { λ r. ⌜ Wrote (now (out .entry)) w (entry PATTERN-FIELD (byte into ∷ byte default ∷ span a e ∷ text (now (s .entry)) ∷ [])) r (now (out .exit)) ⌝ }
 {
-    let w1 = put_head(out, w, 29, 6 + s.len());
+    let w1 = put_head(out, w, Tag::PATTERN_FIELD, 6 + s.len());
     let w2 = put_byte(out, w1, into);
     let w3 = put_byte(out, w2, default);
     let w4 = put_span(out, w3, a, e);
     put_text(out, w4, s)
 }
 
-// 35: visibility, key.
+// OBJECT_ITERATION: visibility, key.
 pub fn put_iteration(out: &mut [u8], w: usize, visibility: u8, s: &[u8]) -> usize
     requires { ⌜ (w < 2 ^ 40) × (1 + length (now s) < 2 ^ 16) ⌝ }
-    ensures { λ r. ⌜ Wrote (now (out .entry)) w (entry 35 (byte visibility ∷ text (now (s .entry)) ∷ [])) r (now (out .exit)) ⌝ }
+    ensures { λ r. ⌜ Wrote (now (out .entry)) w (entry OBJECT-ITERATION (byte visibility ∷ text (now (s .entry)) ∷ [])) r (now (out .exit)) ⌝ }
 {
-    let w1 = put_head(out, w, 35, 1 + s.len());
+    let w1 = put_head(out, w, Tag::OBJECT_ITERATION, 1 + s.len());
     let w2 = put_byte(out, w1, visibility);
     put_text(out, w2, s)
 }
 
-// 31: name span, computed, plus, method, parameter count, visibility.
+// FIELD: name span, computed, plus, method, parameter count, visibility.
 pub fn put_field(
     out: &mut [u8],
     w: usize,
@@ -303,9 +305,9 @@ pub fn put_field(
     visibility: u8,
 ) -> usize
     requires { ⌜ (w < 2 ^ 40) × (a < 2 ^ 16) × (e < 2 ^ 16) × (n < 2 ^ 16) ⌝ }
-    ensures { λ r. ⌜ Wrote (now (out .entry)) w (entry 31 (span a e ∷ byte (flags .computed) ∷ byte (flags .plus) ∷ byte (flags .method) ∷ number n ∷ byte visibility ∷ [])) r (now (out .exit)) ⌝ }
+    ensures { λ r. ⌜ Wrote (now (out .entry)) w (entry FIELD (span a e ∷ byte (flags .computed) ∷ byte (flags .plus) ∷ byte (flags .method) ∷ number n ∷ byte visibility ∷ [])) r (now (out .exit)) ⌝ }
 {
-    let w1 = put_head(out, w, 31, 10);
+    let w1 = put_head(out, w, Tag::FIELD, 10);
     let w2 = put_span(out, w1, a, e);
     let w3 = put_flags(out, w2, flags);
     let w4 = put_number(out, w3, n);

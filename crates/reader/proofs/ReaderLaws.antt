@@ -1,15 +1,15 @@
 -- Laws of the reader: the lexemes of a source are what its first cursor sees, a phrase's answer is document 01's verdict, and what is cleared.
 -- Assumes nothing.
 use mathlib.Core.Path.{_≡_, refl, sym, ap, subst, subst⁻¹, _∙_}
-use mathlib.Core.Bool.{Bool, true, false, cond, _&&_, _||_}
+use mathlib.Core.Bool.{Bool, true, false, not, cond}
 use mathlib.Core.List.{List, [], _∷_, _++_, append-nil}
 use mathlib.Core.Logic.{_⊎_, inl, inr}
 use Prim.Native.Nat.{ℕ, _+_, _-_, _≤_, _<_}
 use native.Mathlib.Omega.{arith}
 use denote.Enum.Declared.{tagOf}
 use types.Run.{OneOf, miss}
-use borrow.Author.Tests.{ne-eqb, eqb-true}
-use lib.Dec.{T, eqb}
+use borrow.Author.Tests.{ne-eqb, eqb-true, not-true, not-false}
+use lib.Dec.{eqb}
 use lib.ListN.{length, take, drop, replicate, length-drop, drop-of-length-le}
 use lib.Seq.{sets, sets-eq, take-at, take-all, length-sets}
 use Rattle.strings.specs.Utf8.{Utf8, ValidTo}
@@ -20,17 +20,20 @@ use Rattle.lexemes.specs.Kept.{FirstBad}
 use Rattle.lexemes.specs.Kept as lexemes
 use Rattle.lexemes.proofs.Laws.{lexeme-not-eof}
 use Rattle.lexemes.proofs.KeptLaws.{Rest, next, kept-step, first-bad-once}
+use Rattle.grammar.specs.Numbers.{TREE, SETTING, LONG, ENCODING, LEXEME, WANTED, ABSENT, EXPRESSION, MISPLACED, ESCAPE, BLOCK, DEPTH, ROOM, met-with}
 use Rattle.grammar.specs.Trees.{none, count as size}
 use Rattle.grammar.specs.Image.{image}
 use Rattle.grammar.specs.Lexemes.{Lexeme as Token, stop-of}
 use Rattle.grammar.specs.Says.{Told}
 use Rattle.grammar.specs.Productions.{end, _▸_, eat, deep, expr, source}
 use Rattle.grammar.specs.Reading.{Outcome, Reading as Derived, ended, eaten, uneaten}
-use Rattle.grammar.specs.Answer.{Answer as Handed, Verdict, refused, tree, verdict, Judged, read, answer, output, document-01}
+use Rattle.grammar.specs.Answer.{Answer as Handed, Verdict, refused, tree, verdict, Judged, read, answer, output, valid-setting, document-01}
 use Rattle.grammar.specs.Source.{Bad, bad, Kept, kept}
+use Rattle.grammar.proofs.Chosen.{true-false, holds}
+use Rattle.grammar.proofs.NumberLaws.{refusal as met-in-reading}
 use Rattle.grammar.proofs.Source.{lexing}
 use Rattle.leaves.specs.Lexing.{Left, over, more, Stands}
-use Rattle.leaves.specs.Meets.{power, state, Seg, sorted, Breaks, Takes}
+use Rattle.leaves.specs.Meets.{power, state, Seg, Breaks, Takes}
 use Rattle.reader.specs.Reader.{refusal, numbers, written, Clean, Parsed, Parses, Finds, Reads}
 use Rattle.leaves.specs.declared.Cursor.{Cursor}
 use Rattle.leaves.specs.declared.Refusal.{Refusal}
@@ -70,7 +73,7 @@ valid-all v h = valid-whole v (omega (arith, v .within))
 
 -- What the lexemes of a source are read as is what is found out about it.
 judged-by : {g : ℕ} {s : List ℕ} {v : Verdict} → Clean g s
-    → ((xs : List Token) → Left s 0 xs → (o : Outcome) × Derived power g source none 200 0 xs o × (verdict o ≡ v)) → Judged Bad Kept document-01 g s v
+    → ((xs : List Token) → Left s 0 xs → (o : Outcome) × Derived (power g) g source none 200 0 xs o × (verdict o ≡ v)) → Judged Bad Kept document-01 g s v
 judged-by {g} {s} c f =
     let o = f (c .lexemes .0) (kept-left (c .lexemes .1)) in
     subst (λ (v : Verdict). Judged Bad Kept document-01 g s v) (o .2) (read (c .known) (c .short) (c .valid) (c .lexemes .1) (o .1))
@@ -82,8 +85,8 @@ module _ {g : ℕ} {s out : List ℕ} {c : Cursor} {a : Answer} {out′ : List �
   from-start : {xs : List Token} → Left s 0 xs → Left s (c .at) xs
   from-start {xs} l = subst⁻¹ (λ (p : ℕ). Left s p xs) (at .0) l
 
-  to-start : {xs : List Token} {o : Outcome} → Derived power g source none 200 (c .at) xs o → Derived power g source none 200 0 xs o
-  to-start {xs} {o} r = subst (λ (p : ℕ). Derived power g source none 200 p xs o) (at .0) r
+  to-start : {xs : List Token} {o : Outcome} → Derived (power g) g source none 200 (c .at) xs o → Derived (power g) g source none 200 0 xs o
+  to-start {xs} {o} r = subst (λ (p : ℕ). Derived (power g) g source none 200 p xs o) (at .0) r
 
   -- broken off
   module _ {r : Refusal} (q : a ≡ Broken r) where
@@ -102,9 +105,15 @@ module _ {g : ℕ} {s out : List ℕ} {c : Cursor} {a : Answer} {out′ : List �
               ∙ ap (λ (n : ℕ). refused (r .number) (r .place .start) n (r .detail)) (y .stop),
         ))
 
+    refusal-met : met-with (r .number) (r .detail) ≡ true
+    unfolding size
+    refusal-met =
+        let b = broke .breaks none (clean .lexemes .0) refl (from-start (kept-left (clean .lexemes .1))) in
+        holds (met-with (r .number) (r .detail)) (met-in-reading (power g) g (to-start (b .reading)))
+
     pub parses-broken : Parses g s out a out′
     unfolding Parsed
-    parses-broken = record { parsed = subst⁻¹ (λ (y : Answer). Parsed g s out y out′) q (refusal-judged, broke .sort) }
+    parses-broken = record { parsed = subst⁻¹ (λ (y : Answer). Parsed g s out y out′) q (refusal-judged, refusal-met) }
 
   -- done, up to a cursor
   module _ {c₁ : Cursor} {w k : ℕ} (q : a ≡ Done c₁ w k) where
@@ -112,7 +121,7 @@ module _ {g : ℕ} {s out : List ℕ} {c : Cursor} {a : Answer} {out′ : List �
     whole = Steps.led (t .takes (eat EOF ▸ end) 0) q
 
     -- with a lexeme there
-    more-judged : ¬ (c₁ .kind ≡ EOF) → Judged Bad Kept document-01 g s (refused 5 (c₁ .start) (c₁ .end) EOF)
+    more-judged : ¬ (c₁ .kind ≡ EOF) → Judged Bad Kept document-01 g s (refused WANTED (c₁ .start) (c₁ .end) EOF)
     unfolding size verdict
     more-judged n =
         judged-by clean (λ xs l.
@@ -120,7 +129,7 @@ module _ {g : ℕ} {s out : List ℕ} {c : Cursor} {a : Answer} {out′ : List �
         let y = sees (whole .stands (at .1)) refl (b .kept) in (
           _,
           to-start (b .back _ (uneaten (λ e. n (sym (y .kind) ∙ e)))),
-          ap (λ (n : ℕ). refused 5 n (stop-of (c₁ .at) (b .left)) EOF) (y .start) ∙ ap (λ (n : ℕ). refused 5 (c₁ .start) n EOF) (y .stop),
+          ap (λ (n : ℕ). refused WANTED n (stop-of (c₁ .at) (b .left)) EOF) (y .start) ∙ ap (λ (n : ℕ). refused WANTED (c₁ .start) n EOF) (y .stop),
         ))
 
     -- with none
@@ -142,13 +151,23 @@ module _ {g : ℕ} {s out : List ℕ} {c : Cursor} {a : Answer} {out′ : List �
     tree-stored : out′ ≡ sets out 0 (image (whole .trees none))
     tree-stored = whole .stored ∙ ap (λ (l : List ℕ). sets out 0 l) (sym image-is)
 
-    pub parses-more : {b : Answer} → ¬ (c₁ .kind ≡ EOF) → b ≡ Broken (record { number = 5; place = c₁; detail = EOF }) → Parses g s out b out′
-    unfolding Parsed sorted
+    pub parses-more : {b : Answer} → ¬ (c₁ .kind ≡ EOF) → b ≡ Broken (record { number = WANTED; place = c₁; detail = EOF }) → Parses g s out b out′
+    unfolding Parsed met-with
     parses-more n e = record { parsed = subst⁻¹ (λ (y : Answer). Parsed g s out y out′) e (more-judged n, refl) }
 
     pub parses-tree : c₁ .kind ≡ EOF → Parses g s out (Done c₁ w k) out′
     unfolding Parsed
     parses-tree e = record { parsed = (whole .trees none, tree-judged e, tree-long, tree-stored) }
+
+-- ── Settings ──────────────────────────────────────────────────────────────────────────────────────
+
+-- What the code's test `!valid(setting)` tells.
+module _ (setting : ℕ) (t : Bool) (e : t ≡ valid-setting setting) where
+  pub is-setting : not t ≡ false → valid-setting setting ≡ true
+  is-setting n = sym e ∙ not-false t n
+
+  pub no-setting : not t ≡ true → valid-setting setting ≡ false
+  no-setting n = sym e ∙ not-true t n
 
 -- ── What is found ─────────────────────────────────────────────────────────────────────────────────
 
@@ -159,7 +178,7 @@ either false = refl
 
 no-size : {n a e x : ℕ} (r : Reading) → numbers r ≡ refusal n a e x → written r ≡ 0
 unfolding written
-no-size {n} r q = ap (λ (y : Handed). cond (eqb (y .number) 0) (y .size) 0) q ∙ either (eqb n 0)
+no-size {n} r q = ap (λ (y : Handed). cond (eqb (y .number) TREE) (y .size) 0) q ∙ either (eqb n TREE)
 
 same-long : (out out′ bs : List ℕ) → out′ ≡ sets out 0 bs → length out′ ≡ length out
 same-long out out′ bs e = ap length e ∙ length-sets out 0 bs
@@ -186,9 +205,9 @@ module _ {g : ℕ} {s out out′ : List ℕ} where
     refused-by : {r : Refusal} → a ≡ Broken r → Parsed g s out (Broken r) out′
     refused-by q = subst (λ (y : Answer). Parsed g s out y out′) q (p .parsed)
 
-    pub broken-sorted : {r : Refusal} → a ≡ Broken r → sorted (r .number) (r .detail) ≡ true
+    pub broken-met : {r : Refusal} → a ≡ Broken r → met-with (r .number) (r .detail) ≡ true
     unfolding Parsed
-    broken-sorted q = refused-by q .1
+    broken-met q = refused-by q .1
 
     pub finds-broken : {r : Refusal} {y : Reading} → a ≡ Broken r → numbers y ≡ refusal (r .number) (r .place .start) (r .place .end) (r .detail) → Finds g s out y out′
     unfolding Parsed
@@ -272,25 +291,26 @@ no-image (Room n) m = refl
 
 -- ── Refusals by their numbers ─────────────────────────────────────────────────────────────────────
 
-both : (a b : Bool) → (a && b) ≡ true → (a ≡ true) × (b ≡ true)
-both true b e = (refl, e)
-both false b e = absurd (let z : T false = subst⁻¹ T e tt in z)
+-- Rows that are not met, then a row, then one that is not: it is that row.
+of-rows : (a b c d e t u v : Bool) → cond a false (cond b false (cond c false (cond d false (cond e false (cond t u (cond v false false)))))) ≡ true → t ≡ true
+of-rows true b c d e t u v h = absurd (true-false (sym h))
+of-rows false true c d e t u v h = absurd (true-false (sym h))
+of-rows false false true d e t u v h = absurd (true-false (sym h))
+of-rows false false false true e t u v h = absurd (true-false (sym h))
+of-rows false false false false true t u v h = absurd (true-false (sym h))
+of-rows false false false false false true u v h = refl
+of-rows false false false false false false u true h = absurd (true-false (sym h))
+of-rows false false false false false false u false h = absurd (true-false (sym h))
 
-other : (a b : Bool) → a ≡ false → (a || b) ≡ true → b ≡ true
-other true b f e = absurd (let z : T false = subst T f tt in z)
-other false b f e = e
+module _ {n : ℕ} (x : ℕ) (h : met-with n x ≡ true) where
+  -- a number whose row has no detail
+  pub no-detail : (k : ℕ) → met-with k x ≡ eqb x 0 → n ≡ k → x ≡ 0
+  no-detail k row e = eqb-true x 0 (sym row ∙ subst (λ (m : ℕ). met-with m x ≡ true) e h)
 
-module _ {n : ℕ} (x : ℕ) (h : sorted n x ≡ true) where
-  -- numbers but 5, 6 and 8 have no detail
-  pub no-detail : (k : ℕ) → (eqb k 5 || eqb k 6 || eqb k 8) ≡ false → n ≡ k → x ≡ 0
-  unfolding sorted
-  no-detail k f e =
-      eqb-true x 0
-      (both (eqb k 7 || eqb k 9 || eqb k 10 || eqb k 11) (eqb x 0)
-      (other (eqb k 5 || eqb k 6 || eqb k 8) ((eqb k 7 || eqb k 9 || eqb k 10 || eqb k 11) && eqb x 0) f (subst (λ (m : ℕ). sorted m x ≡ true) e h)) .1)
-
-  -- what is none of 5 to 10 is 11
-  pub eleven : ¬ (n ≡ 5) → ¬ (n ≡ 6) → ¬ (n ≡ 7) → ¬ (n ≡ 8) → ¬ (n ≡ 9) → ¬ (n ≡ 10) → n ≡ 11
-  unfolding sorted
-  eleven a b c d e f =
-      eqb-true n 11 (both (eqb n 11) (eqb x 0) (rw (ne-eqb n 5 a, ne-eqb n 6 b, ne-eqb n 7 c, ne-eqb n 8 d, ne-eqb n 9 e, ne-eqb n 10 f) at h) .0)
+  -- what is none of the others is the depth
+  pub depth-else : ¬ (n ≡ WANTED) → ¬ (n ≡ ABSENT) → ¬ (n ≡ EXPRESSION) → ¬ (n ≡ MISPLACED) → ¬ (n ≡ ESCAPE) → ¬ (n ≡ BLOCK) → n ≡ DEPTH
+  unfolding met-with
+  depth-else a b c d e f =
+      eqb-true n DEPTH
+      (of-rows (eqb n TREE) (eqb n SETTING) (eqb n LONG) (eqb n ENCODING) (eqb n LEXEME) (eqb n DEPTH) (eqb x 0) (eqb n ROOM)
+      (rw (ne-eqb n WANTED a, ne-eqb n ABSENT b, ne-eqb n EXPRESSION c, ne-eqb n MISPLACED d, ne-eqb n ESCAPE e, ne-eqb n BLOCK f) at h))

@@ -8,12 +8,12 @@ use lib.Dec.{eqb}
 use lib.ListN.{length, take, replicate}
 use lib.Seq.{sets}
 use Rattle.strings.specs.Utf8.{Utf8}
+use Rattle.grammar.specs.Numbers.{TREE, SETTING, LONG, ENCODING, LEXEME, WANTED, ABSENT, EXPRESSION, MISPLACED, ESCAPE, BLOCK, DEPTH, ROOM, met-with}
 use Rattle.grammar.specs.Trees.{Trees}
 use Rattle.grammar.specs.Image.{image}
 use Rattle.grammar.specs.Lexemes.{Lexeme as Token}
-use Rattle.grammar.specs.Answer.{Answer, Verdict, refused, tree, Judged, answer, output, document-01}
+use Rattle.grammar.specs.Answer.{Answer, Verdict, refused, tree, Judged, answer, output, valid-setting, document-01}
 use Rattle.grammar.specs.Source.{Bad, Kept, Reads01}
-use Rattle.leaves.specs.Meets.{sorted}
 use Rattle.leaves.specs.declared.Answer.{Answer as Phrased}
 use Rattle.leaves.specs.declared.Answer.the-variants.{Done, Broken}
 use Rattle.reader.specs.declared.Fields.{Fields}
@@ -26,21 +26,25 @@ use Rattle.reader.specs.declared.Reading.the-variants.{Tree, Setting, Lo
 abbrev pub refusal : ℕ → ℕ → ℕ → ℕ → Answer
 refusal n a e x = record { number = n; start = a; stop = e; detail = x; size = 0 }
 
+-- A tree: number and length.
+abbrev pub tree-of : ℕ → ℕ → Answer
+tree-of n size = record { number = n; start = 0; stop = 0; detail = 0; size = size }
+
 -- 01's number, start, end, detail and length.
 unfoldable pub numbers : Reading → Answer
-numbers (Tree n) = record { number = 0; start = 0; stop = 0; detail = 0; size = n }
-numbers Setting = refusal 1 0 0 0
-numbers Long = refusal 2 0 0 0
-numbers (Encoding n) = refusal 3 n n 0
-numbers (Lexeme a e k) = refusal 4 a e k
-numbers (Wanted a e k) = refusal 5 a e k
-numbers (Absent a e x) = refusal 6 a e x
-numbers (Expression a e) = refusal 7 a e 0
-numbers (Misplaced a e x) = refusal 8 a e x
-numbers (Escape a e) = refusal 9 a e 0
-numbers (Block a e) = refusal 10 a e 0
-numbers (Depth a e) = refusal 11 a e 0
-numbers (Room n) = record { number = 12; start = 0; stop = 0; detail = 0; size = n }
+numbers (Tree n) = tree-of TREE n
+numbers Setting = refusal SETTING 0 0 0
+numbers Long = refusal LONG 0 0 0
+numbers (Encoding n) = refusal ENCODING n n 0
+numbers (Lexeme a e k) = refusal LEXEME a e k
+numbers (Wanted a e k) = refusal WANTED a e k
+numbers (Absent a e x) = refusal ABSENT a e x
+numbers (Expression a e) = refusal EXPRESSION a e 0
+numbers (Misplaced a e x) = refusal MISPLACED a e x
+numbers (Escape a e) = refusal ESCAPE a e 0
+numbers (Block a e) = refusal BLOCK a e 0
+numbers (Depth a e) = refusal DEPTH a e 0
+numbers (Room n) = tree-of ROOM n
 
 -- The same five, as the code hands them back.
 abbrev pub answered : Fields → Answer
@@ -56,11 +60,11 @@ Reads setting source out reading out′ = Reads01 setting source (length out) (n
 
 -- How many bytes of the output are the image's.
 unfoldable pub written : Reading → ℕ
-written r = cond (eqb (numbers r .number) 0) (numbers r .size) 0
+written r = cond (eqb (numbers r .number) TREE) (numbers r .size) 0
 
 -- None of 1 to 4 is to be answered: the source has lexemes, and none is bad.
 pub record Clean (setting : ℕ) (source : List ℕ) : Type 0 where
-  pub known : setting ≤ 7
+  pub known : valid-setting setting ≡ true
   pub short : length source ≤ 65000
   pub valid : Utf8 source
   pub lexemes : (xs : List Token) × Kept source xs
@@ -70,7 +74,7 @@ unfoldable pub Parsed : ℕ → List ℕ → List ℕ → Phrased → List ℕ �
 Parsed setting source out (Done c w k) out′ =
     (ts : Trees) × Judged Bad Kept document-01 setting source (tree ts) × (w ≡ length (image ts)) × (out′ ≡ sets out 0 (image ts))
 Parsed setting source out (Broken r) out′ =
-    Judged Bad Kept document-01 setting source (refused (r .number) (r .place .start) (r .place .end) (r .detail)) × (sorted (r .number) (r .detail) ≡ true)
+    Judged Bad Kept document-01 setting source (refused (r .number) (r .place .start) (r .place .end) (r .detail)) × (met-with (r .number) (r .detail) ≡ true)
 
 pub record Parses (setting : ℕ) (source out : List ℕ) (a : Phrased) (out′ : List ℕ) : Type 0 where
   pub parsed : Parsed setting source out a out′

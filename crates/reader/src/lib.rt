@@ -1,8 +1,10 @@
 // The reader: a setting, a source, a lent output, and the whole answer of document 01.
 ghost use mathlib.Core.Path.{_≡_};
 ghost use mathlib.Core.Bool.{true};
-ghost use Rattle.leaves.specs.Meets.{sorted};
-ghost use Rattle.reader.specs.Reader.{numbers as numbers01, refusal as refusal01, written as written01, answered, Clean, Parses, Finds, Reads};
+ghost use Rattle.grammar.specs.Numbers.{met-with};
+ghost use Rattle.reader.specs.Reader.{numbers as numbers01, refusal as refusal01, tree-of as tree01, written as written01, answered, Clean, Parses, Finds, Reads};
+use grammar::numbers::Number;
+use grammar::settings;
 use leaves::Answer;
 use leaves::Refusal;
 use leaves::parser::END;
@@ -11,44 +13,44 @@ use leaves::parser::error;
 use lexemes::kept;
 use lexemes::kinds::Kind;
 
-// What becomes of a source, each case with its place and what else 01 tells of it.
+// What becomes of a source: the cases are named as their numbers (grammar::numbers), each with its place and its detail. A detail may be
+// an offset of the source, so it is as wide as a place.
 pub enum Reading {
-    Tree(usize), // 0: the image's length
-    Setting, // 1
-    Long, // 2
-    Encoding(usize), // 3: the bytes valid so far
-    Lexeme(usize, usize, u8), // 4: the first bad one and its kind
-    Wanted(usize, usize, usize), // 5: a kind
-    Absent(usize, usize, usize), // 6: a field name or a pattern
-    Expression(usize, usize), // 7
-    Misplaced(usize, usize, usize), // 8: an argument, or what a comprehension cannot have
-    Escape(usize, usize), // 9
-    Block(usize, usize), // 10
-    Depth(usize, usize), // 11
-    Room(usize), // 12: the length needed
+    Tree(usize), // the image's length
+    Setting,
+    Long,
+    Encoding(usize), // the bytes valid so far
+    Lexeme(usize, usize, u8), // the first bad one and its kind
+    Wanted(usize, usize, usize), // a kind
+    Absent(usize, usize, usize), // a field name or a pattern
+    Expression(usize, usize),
+    Misplaced(usize, usize, usize), // an argument, or what a comprehension cannot have
+    Escape(usize, usize),
+    Block(usize, usize),
+    Depth(usize, usize),
+    Room(usize), // the length needed
 }
 
-// 01's limits: the largest setting, the longest source, and how deep phrases may nest.
-const SETTINGS: u64 = 7;
-
+// 01's limits: the longest source, and how deep phrases may nest.
 const LONGEST: usize = 65_000;
 
 const DEPTH: usize = 200;
 
 // A phrase's refusal, by its number.
 fn refused(r: Refusal) -> Reading
-    requires { ⌜ sorted (r .number) (r .detail) ≡ true ⌝ }
+    requires { ⌜ met-with (r .number) (r .detail) ≡ true ⌝ }
     ensures { λ a. ⌜ numbers01 a ≡ refusal01 (r .number) (r .place .start) (r .place .end) (r .detail) ⌝ }
 {
     let place = r.place;
     let number = r.number;
+    let detail = r.detail;
     match number {
-        5 => Reading::Wanted(place.start, place.end, r.detail),
-        6 => Reading::Absent(place.start, place.end, r.detail),
-        7 => Reading::Expression(place.start, place.end),
-        8 => Reading::Misplaced(place.start, place.end, r.detail),
-        9 => Reading::Escape(place.start, place.end),
-        10 => Reading::Block(place.start, place.end),
+        Number::WANTED => Reading::Wanted(place.start, place.end, detail),
+        Number::ABSENT => Reading::Absent(place.start, place.end, detail),
+        Number::EXPRESSION => Reading::Expression(place.start, place.end),
+        Number::MISPLACED => Reading::Misplaced(place.start, place.end, detail),
+        Number::ESCAPE => Reading::Escape(place.start, place.end),
+        Number::BLOCK => Reading::Block(place.start, place.end),
         _ => Reading::Depth(place.start, place.end),
     }
 }
@@ -63,7 +65,7 @@ fn parse(setting: u64, source: &[u8], output: &mut [u8]) -> Answer
         return a;
     };
     if c.kind != Kind::EOF {
-        return error(c, 5, END);
+        return error(c, Number::WANTED, END);
     }
     a
 }
@@ -72,7 +74,8 @@ fn parse(setting: u64, source: &[u8], output: &mut [u8]) -> Answer
 fn find(setting: u64, source: &[u8], output: &mut [u8]) -> Reading
     ensures { λ r. ⌜ Finds setting (now (source .entry)) (now (output .entry)) r (now (output .exit)) ⌝ }
 {
-    if SETTINGS < setting {
+    let known = settings::valid(setting);
+    if !known {
         return Reading::Setting;
     }
     if LONGEST < source.len() {
@@ -127,15 +130,28 @@ pub struct Fields {
     pub length: u64,
 }
 
-fn refusal(number: u64, start: usize, end: usize, detail: usize) -> Fields
+fn refusal(number: u8, start: usize, end: usize, detail: usize) -> Fields
     ensures { λ f. ⌜ answered f ≡ refusal01 number start end detail ⌝ }
 {
     Fields {
-        number,
+        number: number as u64,
         start: start as u64,
         end: end as u64,
         detail: detail as u64,
         length: 0,
+    }
+}
+
+// A tree that is there: written, or without room.
+fn tree(number: u8, length: usize) -> Fields
+    ensures { λ f. ⌜ answered f ≡ tree01 number length ⌝ }
+{
+    Fields {
+        number: number as u64,
+        start: 0,
+        end: 0,
+        detail: 0,
+        length: length as u64,
     }
 }
 
@@ -144,30 +160,18 @@ pub fn numbers(r: Reading) -> Fields
     ensures { λ f. ⌜ answered f ≡ numbers01 r ⌝ }
 {
     match r {
-        Reading::Tree(n) => Fields {
-            number: 0,
-            start: 0,
-            end: 0,
-            detail: 0,
-            length: n as u64,
-        },
-        Reading::Setting => refusal(1, 0, 0, 0),
-        Reading::Long => refusal(2, 0, 0, 0),
-        Reading::Encoding(n) => refusal(3, n, n, 0),
-        Reading::Lexeme(a, e, k) => refusal(4, a, e, k as usize),
-        Reading::Wanted(a, e, k) => refusal(5, a, e, k),
-        Reading::Absent(a, e, d) => refusal(6, a, e, d),
-        Reading::Expression(a, e) => refusal(7, a, e, 0),
-        Reading::Misplaced(a, e, d) => refusal(8, a, e, d),
-        Reading::Escape(a, e) => refusal(9, a, e, 0),
-        Reading::Block(a, e) => refusal(10, a, e, 0),
-        Reading::Depth(a, e) => refusal(11, a, e, 0),
-        Reading::Room(n) => Fields {
-            number: 12,
-            start: 0,
-            end: 0,
-            detail: 0,
-            length: n as u64,
-        },
+        Reading::Tree(n) => tree(Number::TREE, n),
+        Reading::Setting => refusal(Number::SETTING, 0, 0, 0),
+        Reading::Long => refusal(Number::LONG, 0, 0, 0),
+        Reading::Encoding(n) => refusal(Number::ENCODING, n, n, 0),
+        Reading::Lexeme(a, e, k) => refusal(Number::LEXEME, a, e, k as usize),
+        Reading::Wanted(a, e, k) => refusal(Number::WANTED, a, e, k),
+        Reading::Absent(a, e, d) => refusal(Number::ABSENT, a, e, d),
+        Reading::Expression(a, e) => refusal(Number::EXPRESSION, a, e, 0),
+        Reading::Misplaced(a, e, d) => refusal(Number::MISPLACED, a, e, d),
+        Reading::Escape(a, e) => refusal(Number::ESCAPE, a, e, 0),
+        Reading::Block(a, e) => refusal(Number::BLOCK, a, e, 0),
+        Reading::Depth(a, e) => refusal(Number::DEPTH, a, e, 0),
+        Reading::Room(n) => tree(Number::ROOM, n),
     }
 }

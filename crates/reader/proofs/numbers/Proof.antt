@@ -9,6 +9,9 @@ use Rattle.reader.proofs.numbers.Tie as tie
 enum-known-r : tie.Need-enum-known-r
 enum-known-r c = search needs
 
+tree-requires : tie.Need-tree-requires
+tree-requires c κs = search needs
+
 enum-told : tie.Need-enum-told
 enum-told c = search needs
 
@@ -29,6 +32,9 @@ refusal-requires-3 c κs = search needs
 
 enum-known-r-3 : tie.Need-enum-known-r-3
 enum-known-r-3 c = search needs
+
+cast-refusal : tie.Need-cast-refusal
+cast-refusal c = search needs
 
 refusal-requires-4 : tie.Need-refusal-requires-4
 refusal-requires-4 c κs = search needs
@@ -78,9 +84,12 @@ refusal-requires-11 c κs = search needs
 enum-known-r-11 : tie.Need-enum-known-r-11
 enum-known-r-11 c = search needs
 
+tree-requires-2 : tie.Need-tree-requires-2
+tree-requires-2 c κs = search needs
+
 returns : tie.Need-returns
 unfolding numbers
-returns c = sym (ap numbers (c .before .r .given .1))
+returns c = c .tree .ensures ∙ sym (ap numbers (c .before .before .r .given .1))
 
 returns-2 : tie.Need-returns-2
 unfolding numbers
@@ -128,13 +137,14 @@ returns-12 c = c .refusal11 .ensures ∙ sym (ap numbers (c .before .before .r10
 
 returns-13 : tie.Need-returns-13
 unfolding numbers
-returns-13 c = sym (ap numbers (c .before .r11 .given .1))
+returns-13 c = c .tree2 .ensures ∙ sym (ap numbers (c .before .before .r11 .given .1))
 
 pub numbers-spec : {M : Type 1} → statement M
 numbers-spec =
     tie.close
     (tie.spec
     enum-known-r
+    tree-requires
     enum-told
     refusal-requires
     enum-told-2
@@ -142,6 +152,7 @@ numbers-spec =
     enum-known-r-2
     refusal-requires-3
     enum-known-r-3
+    cast-refusal
     refusal-requires-4
     enum-known-r-4
     refusal-requires-5
@@ -158,6 +169,7 @@ numbers-spec =
     enum-known-r-10
     refusal-requires-11
     enum-known-r-11
+    tree-requires-2
     returns
     returns-2
     returns-3

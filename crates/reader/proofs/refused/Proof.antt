@@ -2,56 +2,57 @@
 -- Assumes nothing.
 use mathlib.Core.Path.{refl, sym, ap, _∙_}
 use Prim.Native.Nat.{ℕ}
+use Rattle.grammar.specs.Numbers.{EXPRESSION, ESCAPE, BLOCK, DEPTH, met-with}
 use Rattle.reader.specs.Reader.{refusal, numbers}
-use Rattle.reader.proofs.ReaderLaws.{no-detail, eleven}
+use Rattle.reader.proofs.ReaderLaws.{no-detail, depth-else}
 use Rattle.reader.proofs.refused.Statement.{statement}
 use Rattle.reader.proofs.refused.Tie as tie
 
 returns : tie.Need-returns
-unfolding numbers
+unfolding numbers met-with
 returns c =
     let r′ = c .before .before .args .r in
     sym (ap (λ (n : ℕ). refusal n (r′ .place .start) (r′ .place .end) (r′ .detail)) (c .match .keys1))
 
 returns-2 : tie.Need-returns-2
-unfolding numbers
+unfolding numbers met-with
 returns-2 c =
     let r′ = c .before .before .args .r in
     sym (ap (λ (n : ℕ). refusal n (r′ .place .start) (r′ .place .end) (r′ .detail)) (c .match .keys2))
 
 returns-3 : tie.Need-returns-3
-unfolding numbers
+unfolding numbers met-with
 returns-3 c =
     let r′ = c .before .before .args .r in
-    let z = no-detail (r′ .detail) (c .before .before .pre) 7 refl (c .match .keys3) in
-    sym (ap (λ (n : ℕ). refusal n (r′ .place .start) (r′ .place .end) (r′ .detail)) (c .match .keys3) ∙ ap (λ (x : ℕ). refusal 7 (r′ .place .start) (r′ .place .end) x) z)
+    let z = no-detail (r′ .detail) (c .before .before .pre) EXPRESSION refl (c .match .keys3) in
+    sym (ap (λ (n : ℕ). refusal n (r′ .place .start) (r′ .place .end) (r′ .detail)) (c .match .keys3) ∙ ap (λ (x : ℕ). refusal EXPRESSION (r′ .place .start) (r′ .place .end) x) z)
 
 returns-4 : tie.Need-returns-4
-unfolding numbers
+unfolding numbers met-with
 returns-4 c =
     let r′ = c .before .before .args .r in
     sym (ap (λ (n : ℕ). refusal n (r′ .place .start) (r′ .place .end) (r′ .detail)) (c .match .keys4))
 
 returns-5 : tie.Need-returns-5
-unfolding numbers
+unfolding numbers met-with
 returns-5 c =
     let r′ = c .before .before .args .r in
-    let z = no-detail (r′ .detail) (c .before .before .pre) 9 refl (c .match .keys5) in
-    sym (ap (λ (n : ℕ). refusal n (r′ .place .start) (r′ .place .end) (r′ .detail)) (c .match .keys5) ∙ ap (λ (x : ℕ). refusal 9 (r′ .place .start) (r′ .place .end) x) z)
+    let z = no-detail (r′ .detail) (c .before .before .pre) ESCAPE refl (c .match .keys5) in
+    sym (ap (λ (n : ℕ). refusal n (r′ .place .start) (r′ .place .end) (r′ .detail)) (c .match .keys5) ∙ ap (λ (x : ℕ). refusal ESCAPE (r′ .place .start) (r′ .place .end) x) z)
 
 returns-6 : tie.Need-returns-6
-unfolding numbers
+unfolding numbers met-with
 returns-6 c =
     let r′ = c .before .before .args .r in
-    let z = no-detail (r′ .detail) (c .before .before .pre) 10 refl (c .match .keys6) in
-    sym (ap (λ (n : ℕ). refusal n (r′ .place .start) (r′ .place .end) (r′ .detail)) (c .match .keys6) ∙ ap (λ (x : ℕ). refusal 10 (r′ .place .start) (r′ .place .end) x) z)
+    let z = no-detail (r′ .detail) (c .before .before .pre) BLOCK refl (c .match .keys6) in
+    sym (ap (λ (n : ℕ). refusal n (r′ .place .start) (r′ .place .end) (r′ .detail)) (c .match .keys6) ∙ ap (λ (x : ℕ). refusal BLOCK (r′ .place .start) (r′ .place .end) x) z)
 
 returns-7 : tie.Need-returns-7
-unfolding numbers
+unfolding numbers met-with
 returns-7 c =
     let r′ = c .before .before .args .r in
-    let z = eleven (r′ .detail) (c .before .before .pre) (c .match .rest .0 .0 .0 .0 .0 .1) (c .match .rest .0 .0 .0 .0 .1) (c .match .rest .0 .0 .0 .1) (c .match .rest .0 .0 .1) (c .match .rest .0 .1) (c .match .rest .1) in
-    sym (ap (λ (n : ℕ). refusal n (r′ .place .start) (r′ .place .end) (r′ .detail)) z ∙ ap (λ (x : ℕ). refusal 11 (r′ .place .start) (r′ .place .end) x) (no-detail (r′ .detail) (c .before .before .pre) 11 refl z))
+    let z = depth-else (r′ .detail) (c .before .before .pre) (c .match .rest .0 .0 .0 .0 .0 .1) (c .match .rest .0 .0 .0 .0 .1) (c .match .rest .0 .0 .0 .1) (c .match .rest .0 .0 .1) (c .match .rest .0 .1) (c .match .rest .1) in
+    sym (ap (λ (n : ℕ). refusal n (r′ .place .start) (r′ .place .end) (r′ .detail)) z ∙ ap (λ (x : ℕ). refusal DEPTH (r′ .place .start) (r′ .place .end) x) (no-detail (r′ .detail) (c .before .before .pre) DEPTH refl z))
 
 pub refused-spec : {M : Type 1} → statement M
 refused-spec =
