@@ -60,7 +60,8 @@ impl Walk {
             Expr::BinaryOp(binary) => {
                 self.expr(&binary.lhs);
                 self.expr(&binary.rhs);
-                self.0.record(13).byte(infix_byte(binary.op)).end();
+                let record = self.0.record(13).byte(infix_byte(binary.op));
+                record.span(range(&binary.span)).end();
             }
             Expr::AssertExpr(assert) => {
                 self.assert(&assert.assert);

@@ -106,7 +106,7 @@ module _ (prefix s : ℕ) where
     form (Form.r10 a b n) x = comprehended a b n (split-at (times a Sort.bind ++ Sort.field ∷ times b Sort.bind) (Sort.iteration ∷ times n Sort.clause) x)
     form Form.r11 (All.more e (All.more o All.none)) = extension e o
     form (Form.r12 {o} h) (All.more e All.none) = sign (sign-of o h) e
-    form (Form.r13 {o} h) (All.more e (All.more f All.none)) = operation (operator-of (on exp-null-coaelse) o h) e f
+    form (Form.r13 {o} h p) (All.more e (All.more f All.none)) = operation (operator-of (on exp-null-coaelse) o h) e f
     form Form.r14 (All.more a (All.more e All.none)) = assert a e
     form (Form.r15 {n}) x = local-of n (split-at (times n Sort.bind) (Sort.expression ∷ []) x)
     form (Form.r16 {o} h p) (All.more e All.none) = import (import-of o h) e

@@ -126,7 +126,7 @@ module _ {prefix s : ℕ} where
   sign (a-sign {k} u h) e =
       operation-parens (suc (e .levels)) (tok k h ⟫ e .stretch) (λ d le ys. Spells.prefixed u lexeme (expr-of prefix e d (omega arith) (close ys) at-paren))
 
-  pub operation : {o : ℕ} {t u : Trees} → OperatorOf s o → Operand prefix s t → Operand prefix s u → Operand prefix s (tree INFIX (byte o ∷ []) (t ⊕ u))
+  pub operation : {o i j : ℕ} {t u : Trees} → OperatorOf s o → Operand prefix s t → Operand prefix s u → Operand prefix s (tree INFIX (byte o ∷ span i j ∷ []) (t ⊕ u))
   operation (an-operator {k} {l} b h n) e f =
       operation-parens (suc (e .levels + f .levels)) (e .stretch ⟫ tok k h ⟫ f .stretch)
       (λ d le ys.

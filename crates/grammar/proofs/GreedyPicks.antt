@@ -8,7 +8,7 @@ use Rattle.lexemes.specs.Kinds.{L-BRACK, L-PAREN, L-BRACE, DOT, QUESTION-MARK}
 use Rattle.grammar.specs.Tags.{INFIX}
 use Rattle.grammar.specs.Trees.{byte}
 use Rattle.grammar.specs.Lexemes.{kind-of}
-use Rattle.grammar.specs.Productions.{Phrase, end, goto, _▸_, eat, deep, close, rule, Operator, op, operators, operator-rows}
+use Rattle.grammar.specs.Productions.{Phrase, end, goto, _▸_, eat, deep, close, here as its-span, rule, Operator, op, operators, operator-rows}
 use Rattle.grammar.specs.Reading.{has, view}
 use Rattle.grammar.specs.Spells.{Lexemes, _is_then_, lexeme, Binary, Open, Continues, greedily}
 use Rattle.grammar.proofs.Chosen.{and-left, and-right}
@@ -33,13 +33,13 @@ module _ {s : ℕ} where
   tail-ends prefix m p n ys g = rows-end m p n ys g operators (operators-sound s)
 
   rows-take : {k l o : ℕ} (m p n : ℕ) (ys zs : Lexemes) → ys is k then zs → m ≤ l → {ops : List Operator} → Found s k l o ops
-      → Picks s (operator-rows m (view p ys n) ops) (eat k ▸ deep (Phrase.expr (l + 1)) ▸ close INFIX (byte o ∷ []) ▸ goto (Phrase.infix-tail m))
+      → Picks s (operator-rows m (view p ys n) ops) (eat k ▸ deep (Phrase.expr (l + 1)) ▸ close INFIX (byte o ∷ its-span (view p ys n) ∷ []) ▸ goto (Phrase.infix-tail m))
   unfolding operator-rows view
   rows-take {k} {l} m p n ys zs lexeme le (here on) = this (both (eqb k k) (leb m l) (eqb-refl k) (le→leb m l le)) on
   rows-take {k} m p n ys zs lexeme le (there {j} {l′} off f) = skip (λ t on. off (and-left (eqb k j) (leb m l′) t)) (rows-take m p n ys zs lexeme le f)
 
   pub tail-takes : {k l o : ℕ} (prefix m p n : ℕ) (ys zs : Lexemes) → ys is k then zs → Binary s k l o → m ≤ l
-      → Picks s (rule prefix (Phrase.infix-tail m) (view p ys n)) (eat k ▸ deep (Phrase.expr (l + 1)) ▸ close INFIX (byte o ∷ []) ▸ goto (Phrase.infix-tail m))
+      → Picks s (rule prefix (Phrase.infix-tail m) (view p ys n)) (eat k ▸ deep (Phrase.expr (l + 1)) ▸ close INFIX (byte o ∷ its-span (view p ys n) ∷ []) ▸ goto (Phrase.infix-tail m))
   unfolding rule
   tail-takes prefix m p n ys zs k b le = rows-take m p n ys zs k le (found s b)
 

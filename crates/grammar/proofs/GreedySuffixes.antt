@@ -34,15 +34,15 @@ module _ {G : Under} where
       an-operation o n c (λ j p le. by-row (Phrase.expr j) 0 (skip (λ t h. u .0 t)
       (skip (λ t h. u .1 t) (skip (λ t h. u .2 t) (skip (λ t h. u .3 t) at-last)))) (subs (f p) (λ us r a. stay a)))
 
-  pub infix-operation : {m k l o : ℕ} {xs ys zs ws : Lexemes} {t u : Trees} → Binary (G .setting) k l o → m ≤ l → OperationRead G l xs t ys
+  pub infix-operation : {m k l o i j : ℕ} {xs ys zs ws : Lexemes} {t u : Trees} → Binary (G .setting) k l o → m ≤ l → OperationRead G l xs t ys
       → ys is k then zs → ExprRead G (l + 1) zs u ws
-      → OperationRead G m xs (tree INFIX (byte o ∷ []) (t ⊕ u)) ws
+      → OperationRead G m xs (tree INFIX (byte o ∷ span i j ∷ []) (t ⊕ u)) ws
   unfolding count
   infix-operation {m} {k} {l} {ys = ys} {zs = zs} b le (an-operation o n c f) j e =
       an-operation o (λ t v. absurd (not-assign (G .setting) (operators-sound (G .setting)) (found (G .setting) b)
       (subst (λ (i : ℕ). T (eqb i ASSIGN)) (its j) (n t v)))) refl
       (λ i p le′. next (f i p (omega (arith, le, le′))) (λ us r a. turns (tail-takes (G .prefix) i r (count us) ys zs j b (omega (arith, le, le′)))
-      (eats j (λ r. deeps (got-expr e r) (λ vs r a′. closes (stay (alike-tree (same refl ⋆ nil) (alike-⊕ a a′))))))))
+      (eats j (λ r. deeps (got-expr e r) (λ vs r a′. closes (stay (alike-tree (same refl ⋆ spans ⋆ nil) (alike-⊕ a a′))))))))
     where
       its : {k : ℕ} {ys zs : Lexemes} → ys is k then zs → kind-of ys ≡ k
       its lexeme = refl

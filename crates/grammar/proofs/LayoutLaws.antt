@@ -117,7 +117,7 @@ form-laid (r10 a b n) =
     counted (omega (arith, members, length-list a bind (records.field ∷ times b bind), times-length b bind, times-length n clause)) (tells (a-count (a-count over)))
 form-laid r11 = tells over
 form-laid (r12 {o} h) = tells (a-byte {m = 4} {b = o} (omega arith) over)
-form-laid (r13 {o} h) = tells (a-byte {m = 20} {b = o} (omega arith) over)
+form-laid (r13 {o} h g) = tells (a-byte {m = 20} {b = o} (omega arith) (a-span over))
 form-laid r14 = tells over
 form-laid (r15 {n}) = counted (omega (arith, length-list n bind (expression ∷ []))) (tells (a-count over))
 form-laid (r16 {o} h g) = tells (a-byte {m = 3} {b = o} (omega arith) (a-span over))

@@ -6,8 +6,9 @@ use mathlib.Core.List.{List, [], _∷_}
 use Prim.Native.Nat.{ℕ}
 use lib.Dec.{T, T-not, eqb, leb}
 use borrow.Author.Tests.{eqb-true}
-use Rattle.grammar.specs.Trees.{byte}
-use Rattle.grammar.specs.Productions.{Switch, always, Body, end, goto, _▸_, eat, sub, deep, close, View, expr, infix-tail, suffixed, rule, Sign, sign, signs, sign-rows, Operator, op, operators, operator-rows}
+use Rattle.grammar.specs.Tags.{INFIX}
+use Rattle.grammar.specs.Trees.{Field, byte}
+use Rattle.grammar.specs.Productions.{Switch, always, Body, end, goto, _▸_, eat, sub, deep, close, View, here, expr, infix-tail, suffixed, rule, Sign, sign, signs, sign-rows, Operator, op, operators, operator-rows}
 use Rattle.grammar.specs.Reading.{has, choose}
 use Rattle.grammar.specs.Operators.{sign-in, prefix-of, operator-in, infix-of}
 use Rattle.grammar.specs.declared.operators.Prefix.{Prefix}
@@ -41,10 +42,14 @@ unfoldable pub switch-in : ℕ → List Operator → Switch
 switch-in k [] = always
 switch-in k (op j g l r o ∷ xs) = cond (eqb k j) g (switch-in k xs)
 
+-- A turn of the loop: an operator of kind k and byte o that stands at this place, and its second operand of this power.
+abbrev pub turn : ℕ → ℕ → Field → ℕ → ℕ → Body
+turn least k place o r = eat k ▸ deep (expr r) ▸ close INFIX (byte o ∷ place ∷ []) ▸ goto (infix-tail least)
+
 -- What the loop is where a binary operator stands, if its switch is on, and where none does.
-unfoldable pub looped : ℕ → ℕ → Bool → Infix → Body
-looped least k on (Binary o l r) = elim (leb least l && on) [ true ↦ eat k ▸ deep (expr r) ▸ close 13 (byte o ∷ []) ▸ goto (infix-tail least) | false ↦ end ]
-looped least k on NoInfix = end
+unfoldable pub looped : ℕ → ℕ → Field → Bool → Infix → Body
+looped least k place on (Binary o l r) = elim (leb least l && on) [ true ↦ turn least k place o r | false ↦ end ]
+looped least k place on NoInfix = end
 
 -- Every operator has a kind of its own.
 unfoldable absent : ℕ → List Operator → Bool
@@ -62,28 +67,28 @@ module _ (s least : ℕ) (v : View) where
   none-chosen k e (op j g l r o ∷ xs) h = by (eqb (v .kind) j) refl (none-chosen k e xs (and-right (not (eqb k j)) (absent k xs) h))
     where
       by : (t : Bool) → eqb (v .kind) j ≡ t → choose s (operator-rows least v xs) ≡ end
-          → _≡_ {A = Body} (elim (t && leb least l && has s g) [ true ↦ eat j ▸ deep (expr r) ▸ close 13 (byte o ∷ []) ▸ goto (infix-tail least) | false ↦ choose s (operator-rows least v xs) ]) end
+          → _≡_ {A = Body} (elim (t && leb least l && has s g) [ true ↦ turn least j (here v) o r | false ↦ choose s (operator-rows least v xs) ]) end
       by true i n = absurd (T-not (eqb k j) (and-left (not (eqb k j)) (absent k xs) h) (subst (λ (m : ℕ). T (eqb m j)) e (subst T (sym i) tt)))
       by false i n = n
 
-  operator-chosen : (xs : List Operator) → T (distinct xs) → choose s (operator-rows least v xs) ≡ looped least (v .kind) (has s (switch-in (v .kind) xs)) (operator-in (v .kind) xs)
+  operator-chosen : (xs : List Operator) → T (distinct xs) → choose s (operator-rows least v xs) ≡ looped least (v .kind) (here v) (has s (switch-in (v .kind) xs)) (operator-in (v .kind) xs)
   unfolding choose operator-rows operator-in switch-in looped distinct
   operator-chosen [] h = refl
   operator-chosen (op k g l r o ∷ xs) h = by (eqb (v .kind) k) refl (operator-chosen xs (and-right (absent k xs) (distinct xs) h))
     where
       taken : (u : Bool) → v .kind ≡ k
-          → _≡_ {A = Body} (elim u [ true ↦ eat k ▸ deep (expr r) ▸ close 13 (byte o ∷ []) ▸ goto (infix-tail least) | false ↦ choose s (operator-rows least v xs) ])
-          (elim u [ true ↦ eat (v .kind) ▸ deep (expr r) ▸ close 13 (byte o ∷ []) ▸ goto (infix-tail least) | false ↦ end ])
-      taken true e = ap (λ (j : ℕ). eat j ▸ deep (expr r) ▸ close 13 (byte o ∷ []) ▸ goto (infix-tail least)) (sym e)
+          → _≡_ {A = Body} (elim u [ true ↦ turn least k (here v) o r | false ↦ choose s (operator-rows least v xs) ])
+          (elim u [ true ↦ turn least (v .kind) (here v) o r | false ↦ end ])
+      taken true e = ap (λ (j : ℕ). turn least j (here v) o r) (sym e)
       taken false e = none-chosen k e xs (and-left (absent k xs) (distinct xs) h)
 
       by : (t : Bool) → eqb (v .kind) k ≡ t
-          → choose s (operator-rows least v xs) ≡ looped least (v .kind) (has s (switch-in (v .kind) xs)) (operator-in (v .kind) xs)
-          → _≡_ {A = Body} (elim (t && leb least l && has s g) [ true ↦ eat k ▸ deep (expr r) ▸ close 13 (byte o ∷ []) ▸ goto (infix-tail least) | false ↦ choose s (operator-rows least v xs) ])
-          (looped least (v .kind) (has s (cond t g (switch-in (v .kind) xs))) (cond t (Binary o l r) (operator-in (v .kind) xs)))
+          → choose s (operator-rows least v xs) ≡ looped least (v .kind) (here v) (has s (switch-in (v .kind) xs)) (operator-in (v .kind) xs)
+          → _≡_ {A = Body} (elim (t && leb least l && has s g) [ true ↦ turn least k (here v) o r | false ↦ choose s (operator-rows least v xs) ])
+          (looped least (v .kind) (here v) (has s (cond t g (switch-in (v .kind) xs))) (cond t (Binary o l r) (operator-in (v .kind) xs)))
       by true e i = taken (leb least l && has s g) (eqb-true (v .kind) k e)
       by false e i = i
 
-pub infix-chosen : (prefix s least : ℕ) (v : View) → choose s (rule prefix (infix-tail least) v) ≡ looped least (v .kind) (has s (switch-in (v .kind) operators)) (infix-of (v .kind))
+pub infix-chosen : (prefix s least : ℕ) (v : View) → choose s (rule prefix (infix-tail least) v) ≡ looped least (v .kind) (here v) (has s (switch-in (v .kind) operators)) (infix-of (v .kind))
 unfolding rule infix-of operators distinct absent
 infix-chosen prefix s least v = operator-chosen s least v operators tt

@@ -61,13 +61,13 @@ module _ (prefix : ℕ) where
       (λ t. ((λ p le. Fits.none), (λ τs x. (Sort.expression, _, Form.r12 (small o 3 (small-signs rest) h), fits-append f x, ((λ p le. one), (λ τs y. y)))))) also
       sign-keeps least v σs f rest (and-right (leb o 3) (small-signs rest) h)
 
-  operator-keeps : (least : ℕ) (v : View) (σs : List Sort) → Fits σs (Sort.expression ∷ []) → (xs : List Operator) → T (small-operators xs)
+  operator-keeps : (least : ℕ) (v : View) → v .start ≤ v .stop → (σs : List Sort) → Fits σs (Sort.expression ∷ []) → (xs : List Operator) → T (small-operators xs)
       → KeepsAll (v .kind) (v .before) (v .stop) (After (infix-tail least)) σs (operator-rows least v xs)
   unfolding Keeps KeepsAt KeepsAll Before exit operator-rows small-operators moves
-  operator-keeps least v σs f [] h = f
-  operator-keeps least v σs f (op k g l r o ∷ rest) h =
-      (λ t. ((λ p le. Fits.none), (λ τs x. (Sort.expression, _, Form.r13 (small o 19 (small-operators rest) h), fits-append f x, ((λ p le. one), (λ τs y. y)))))) also
-      operator-keeps least v σs f rest (and-right (leb o 19) (small-operators rest) h)
+  operator-keeps least v z σs f [] h = f
+  operator-keeps least v z σs f (op k g l r o ∷ rest) h =
+      (λ t. ((λ p le. Fits.none), (λ τs x. (Sort.expression, _, Form.r13 (small o 19 (small-operators rest) h) z, fits-append f x, ((λ p le. one), (λ τs y. y)))))) also
+      operator-keeps least v z σs f rest (and-right (leb o 19) (small-operators rest) h)
 
   -- At a view whose ranges go forward and whose texts are possible, with the sorts σs, as many as there are trees.
   module _ (v : View) (σs : List Sort) (o : (v .before ≤ v .start) × (v .start ≤ v .stop)) (len : length σs ≡ v .count)
@@ -151,7 +151,7 @@ module _ (prefix : ℕ) where
     keeps (expr a) f =
         sign-keeps a v σs f signs tt
     keeps (infix-tail a) f =
-        operator-keeps a v σs f operators tt
+        operator-keeps a v (o .1) σs f operators tt
     keeps suffixed f =
         ((λ p le. Fits.none), (λ τs x. ((λ p le. (Sort.expression, First.first, fits-append f x)), (λ τs y. y))))
     keeps (suffix a) b =

@@ -157,7 +157,7 @@ module _ {prefix s : ℕ} {Ends : Open → ℕ → Type 0} where
   spelled (Spells.infixed o le x k y) w =
       let a = spelled x w in
       let b = spelled y (past k (a .1)) in
-      (a-record (Form.r13 (operator-byte o)) (are-append (a .0) (b .0)), b .1)
+      (a-record (Form.r13 (operator-byte o) tt) (are-append (a .0) (b .0)), b .1)
   -- Suffixes
   spelled (Spells.whole-chain x e) w = let a = spelled x w in (first-expression (a .0 .1) (a .0 .2), a .1)
   spelled (Spells.bare x) w = let a = spelled x w in ((Sort.expression, First.first, a .0), a .1)

@@ -115,10 +115,10 @@ variable b = tree VARIABLE (span 0 0 ∷ text (b ∷ []) ∷ []) none
 
 -- The sign outermost, as it is read; the product outermost.
 abbrev sign-first : Trees
-sign-first = tree PREFIX (byte 1 ∷ []) (tree INFIX (byte 0 ∷ []) (variable 0x61 ⊕ variable 0x62))
+sign-first = tree PREFIX (byte 1 ∷ []) (tree INFIX (byte 0 ∷ span 0 0 ∷ []) (variable 0x61 ⊕ variable 0x62))
 
 abbrev product-first : Trees
-product-first = tree INFIX (byte 0 ∷ []) (tree PREFIX (byte 1 ∷ []) (variable 0x61) ⊕ variable 0x62)
+product-first = tree INFIX (byte 0 ∷ span 0 0 ∷ []) (tree PREFIX (byte 1 ∷ []) (variable 0x61) ⊕ variable 0x62)
 
 one-variable : {d m : ℕ} {w : List ℕ} {xs : Lexemes}
     → Spells 20 0 anywhere d (C.operation m) (a-lexeme IDENT w ∷ xs) (tree VARIABLE (span 0 0 ∷ text w ∷ []) none) xs

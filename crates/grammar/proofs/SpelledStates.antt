@@ -9,7 +9,7 @@ use native.Mathlib.Omega.{arith}
 use lib.Dec.{T, leb, leb→le, nleb→lt}
 use Rattle.lexemes.specs.Kinds.{COMMA}
 use Rattle.grammar.specs.Tags.{PREFIX, INFIX}
-use Rattle.grammar.specs.Trees.{Field, byte, Trees, none, tree, _⊕_, count}
+use Rattle.grammar.specs.Trees.{Field, byte, span, Trees, none, tree, _⊕_, count}
 use Rattle.grammar.specs.Lexemes.{kind-of}
 use Rattle.grammar.specs.Spells.{Lexemes, _is_then_, Unary, Binary, Open, Continues, greedily, Spells}
 use Rattle.grammar.specs.Spells.{Category as C}
@@ -91,9 +91,9 @@ module _ (R : Rules) where
   named-by (one e o) = one (Spells.name-literal e) o
 
   -- The operator that comes next, if one does, is of no higher level: the right operand would have taken it.
-  pub as-binary : {m k l o : ℕ} {x₀ y z x : Lexemes} {t u : Trees} → Binary (R .setting) k l o → m ≤ l → Sp (C.operation l) x₀ t y → y is k then z
+  pub as-binary : {m k l o a e : ℕ} {x₀ y z x : Lexemes} {t u : Trees} → Binary (R .setting) k l o → m ≤ l → Sp (C.operation l) x₀ t y → y is k then z
       → Over (l + 1) z u x
-      → Tail m x₀ (tree INFIX (byte o ∷ []) (t ⊕ u)) x
+      → Tail m x₀ (tree INFIX (byte o ∷ span a e ∷ []) (t ⊕ u)) x
   unfolding count
   as-binary {l = l} {x = x} b le e j (over g c w) = tail refl (Spells.infixed b le e j g) (λ l′ o′ b′. Spells.infixed b (by l′ o′ (leb l′ l) refl b′) e j g)
     where

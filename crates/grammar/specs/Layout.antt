@@ -42,7 +42,7 @@ rows =
     row OBJECT-COMP 0 (count ∷ count ∷ []) ∷
     row EXTENSION 2 [] ∷
     row PREFIX 1 (below 4 ∷ []) ∷
-    row INFIX 2 (below 20 ∷ []) ∷
+    row INFIX 2 (below 20 ∷ place ∷ []) ∷
     row ASSERT-EXPR 2 [] ∷
     row LOCAL 1 (count ∷ []) ∷
     row IMPORT 1 (below 3 ∷ place ∷ []) ∷

@@ -191,11 +191,11 @@ sign-rows prefix least v (sign k o ∷ rest) =
     v at k ⟹ eat k ▸ deep (expr prefix) ▸ close PREFIX (byte o ∷ []) ▸ goto (infix-tail least)
     ∣ sign-rows prefix least v rest
 
--- expr_bp's loop at each binary operator.
+-- expr_bp's loop at each binary operator: the record has the operator's own span.
 unfoldable pub operator-rows : ℕ → View → List Operator → Table
 operator-rows least v [] = otherwise end
 operator-rows least v (op k g left right o ∷ rest) =
-    when eqb (v .kind) k && leb least left with g ⟹ eat k ▸ deep (expr right) ▸ close INFIX (byte o ∷ []) ▸ goto (infix-tail least)
+    when eqb (v .kind) k && leb least left with g ⟹ eat k ▸ deep (expr right) ▸ close INFIX (byte o ∷ here v ∷ []) ▸ goto (infix-tail least)
     ∣ operator-rows least v rest
 
 -- ── Comprehensions ────────────────────────────────────────────────────────────────────────────────

@@ -106,8 +106,9 @@ pub data Form (q : Spans) : Sort → ℕ → List Field → List Sort → Type 0
   r10 : (a b n : ℕ) → Form q object OBJECT-COMP (number (a + 1 + b) ∷ number (1 + n) ∷ []) ((times a bind ++ field ∷ times b bind) ++ iteration ∷ times n clause)
   r11 : Form q expression EXTENSION [] (expression ∷ object ∷ [])
   -- "12 prefix, 13 infix: operator byte in enum order (`NullCoaelse` 18, `In` 19 always). 14 assert expression. 15 local: bind count."
+  -- Item 8: "The infix record gains the operator lexeme's span after its byte."
   r12 : {o : ℕ} → o ≤ 3 → Form q expression PREFIX (byte o ∷ []) (expression ∷ [])
-  r13 : {o : ℕ} → o ≤ 19 → Form q expression INFIX (byte o ∷ []) (expression ∷ expression ∷ [])
+  r13 : {o a e : ℕ} → o ≤ 19 → Present q a e → Form q expression INFIX (byte o ∷ span a e ∷ []) (expression ∷ expression ∷ [])
   r14 : Form q expression ASSERT-EXPR [] (assertion ∷ expression ∷ [])
   r15 : {n : ℕ} → Form q expression LOCAL (number n ∷ []) (times n bind ++ expression ∷ [])
   -- "16 import: kind byte in enum order, span. 17 error: span."

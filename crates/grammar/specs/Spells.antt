@@ -177,9 +177,9 @@ module _ (prefix s : ℕ) (Ends : Open → ℕ → Type 0) where
     operand : {d m : ℕ} {xs ys : Lexemes} {t : Trees} → Spells d suffixed xs t ys → Spells d (operation m) xs t ys
     prefixed : {d m k o : ℕ} {xs ys zs : Lexemes} {t : Trees}
         → Unary k o → xs is k then ys → Spells d (expr prefix) ys t zs → Spells d (operation m) xs (tree PREFIX (byte o ∷ []) t) zs
-    infixed : {d m k l o : ℕ} {xs ys zs ws : Lexemes} {t u : Trees} → Binary s k l o → m ≤ l
+    infixed : {d m k l o a e : ℕ} {xs ys zs ws : Lexemes} {t u : Trees} → Binary s k l o → m ≤ l
         → Spells d (operation l) xs t ys → ys is k then zs → Spells d (expr (l + 1)) zs u ws
-        → Spells d (operation m) xs (tree INFIX (byte o ∷ []) (t ⊕ u)) ws
+        → Spells d (operation m) xs (tree INFIX (byte o ∷ span a e ∷ []) (t ⊕ u)) ws
     -- 20, 23, 18, 19 and 11: `a.b`, `a?.b`, `a[i]`, `a?.[i]`, `a[i:j:k]`, `f(x, n=y) tailstrict`, `a {..}`. "Suffixes bind tightest", "`?.` need 4"
     whole-chain : {d f : ℕ} {xs ys : Lexemes} {t : Trees} → Spells d (chain f) xs t ys → Ends suffixes (kind-of ys) → Spells d suffixed xs t ys
     bare : {d : ℕ} {xs ys : Lexemes} {t : Trees} → Spells d basic xs t ys → Spells d (chain 1) xs t ys

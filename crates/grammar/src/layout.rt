@@ -49,7 +49,7 @@ pub fn layout(tag: u8) -> [u8; 7]
         Tag::OBJECT_COMP => [0, Part::COUNT, Part::COUNT, 0, 0, 0, 0],
         Tag::EXTENSION => [2, 0, 0, 0, 0, 0, 0],
         Tag::PREFIX => [1, Part::SIGN, 0, 0, 0, 0, 0],
-        Tag::INFIX => [2, Part::OPERATOR, 0, 0, 0, 0, 0],
+        Tag::INFIX => [2, Part::OPERATOR, Part::SPAN, 0, 0, 0, 0],
         Tag::ASSERT_EXPR => [2, 0, 0, 0, 0, 0, 0],
         Tag::LOCAL => [1, Part::COUNT, 0, 0, 0, 0, 0],
         Tag::IMPORT => [1, Part::THREE, Part::SPAN, 0, 0, 0, 0],

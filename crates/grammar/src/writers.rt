@@ -85,7 +85,7 @@ pub fn put_none(out: &mut [u8], w: usize, tag: u8) -> usize
     put_head(out, w, tag, 0)
 }
 
-// BOOL, PREFIX, INFIX, PARAMETER: a flag or an enum's byte.
+// BOOL, PREFIX, PARAMETER: a flag or an enum's byte.
 pub fn put_flag(out: &mut [u8], w: usize, tag: u8, b: u8) -> usize
     requires { ⌜ w < 2 ^ 40 ⌝ }
     ensures { λ r. ⌜ Wrote (now (out .entry)) w (entry tag (byte b ∷ [])) r (now (out .exit)) ⌝ }
@@ -131,7 +131,7 @@ pub fn put_mark(out: &mut [u8], w: usize, tag: u8, a: usize, e: usize) -> usize
     put_span(out, w1, a, e)
 }
 
-// IDENTITY, IMPORT: an enum's byte, a span.
+// IDENTITY, INFIX, IMPORT: an enum's byte, a span.
 pub fn put_kind(out: &mut [u8], w: usize, tag: u8, b: u8, a: usize, e: usize) -> usize
     requires { ⌜ (w < 2 ^ 40) × (a < 2 ^ 16) × (e < 2 ^ 16) ⌝ }
     ensures { λ r. ⌜ Wrote (now (out .entry)) w (entry tag (byte b ∷ span a e ∷ [])) r (now (out .exit)) ⌝ }

@@ -10,7 +10,7 @@ use borrow.Author.Tests.{eqb-true, le-leb, lt-leb}
 use denote.Enum.Declared.{tagOf}
 use Rattle.grammar.specs.Trees.{byte, span}
 use Rattle.grammar.specs.Lexemes.{Lexeme, Said}
-use Rattle.grammar.specs.Productions.{Body, end, goto, _▸_, eat, sub, deep, close, rule, expr, infix-tail, suffixed, View, expression, basic, array, binds, inside, signs, Operator, op, operators, operator-rows}
+use Rattle.grammar.specs.Productions.{Body, end, goto, _▸_, eat, sub, deep, close, rule, expr, infix-tail, suffixed, View, here, expression, basic, array, binds, inside, signs, Operator, op, operators, operator-rows}
 use Rattle.grammar.specs.Reading.{has, choose}
 use Rattle.grammar.specs.Operators.{prefix-of, sign-in}
 use Rattle.grammar.specs.declared.operators.Prefix.{Prefix}
@@ -20,7 +20,7 @@ use Rattle.grammar.specs.declared.operators.Infix.{Infix}
 use Rattle.grammar.specs.declared.operators.Infix.the-variants.{Binary, NoInfix}
 use Rattle.grammar.proofs.operators.Infix as infix-enum
 use Rattle.grammar.proofs.Chosen.{and-left, and-right, pick-yes, pick-no}
-use Rattle.grammar.proofs.OperatorLaws.{signed, prefix-chosen, looped}
+use Rattle.grammar.proofs.OperatorLaws.{signed, prefix-chosen, turn, looped}
 use Rattle.leaves.specs.Operators.{infix-in, infix-under}
 use Rattle.leaves.specs.Lexing.{Imports}
 use Rattle.leaves.specs.Meets.{power}
@@ -74,35 +74,35 @@ module _ (g least : ℕ) (v : View) where
   none-chosen k e (op j w l r o ∷ xs) h = by (eqb (v .kind) j) refl (none-chosen k e xs (and-right (not (eqb k j)) (absent k xs) h))
     where
       by : (t : Bool) → eqb (v .kind) j ≡ t → choose g (operator-rows least v xs) ≡ end
-          → _≡_ {A = Body} (elim (t && leb least l && has g w) [ true ↦ eat j ▸ deep (expr r) ▸ close 13 (byte o ∷ []) ▸ goto (infix-tail least) | false ↦ choose g (operator-rows least v xs) ]) end
+          → _≡_ {A = Body} (elim (t && leb least l && has g w) [ true ↦ turn least j (here v) o r | false ↦ choose g (operator-rows least v xs) ]) end
       by true i n = absurd (T-not (eqb k j) (and-left (not (eqb k j)) (absent k xs) h) (subst (λ (m : ℕ). T (eqb m j)) e (subst T (sym i) tt)))
       by false i n = n
 
-  operator-chosen : (xs : List Operator) → T (distinct xs) → choose g (operator-rows least v xs) ≡ looped least (v .kind) true (infix-in g (v .kind) xs)
+  operator-chosen : (xs : List Operator) → T (distinct xs) → choose g (operator-rows least v xs) ≡ looped least (v .kind) (here v) true (infix-in g (v .kind) xs)
   unfolding choose operator-rows infix-in looped distinct
   operator-chosen [] h = refl
   operator-chosen (op k w l r o ∷ xs) h = by (eqb (v .kind) k) refl (operator-chosen xs (and-right (absent k xs) (distinct xs) h))
     where
-      found : (u x : Bool) → v .kind ≡ k → choose g (operator-rows least v xs) ≡ looped least (v .kind) true (infix-in g (v .kind) xs)
+      found : (u x : Bool) → v .kind ≡ k → choose g (operator-rows least v xs) ≡ looped least (v .kind) (here v) true (infix-in g (v .kind) xs)
           → leb least l ≡ u
-          → _≡_ {A = Body} (elim (u && x) [ true ↦ eat k ▸ deep (expr r) ▸ close 13 (byte o ∷ []) ▸ goto (infix-tail least) | false ↦ choose g (operator-rows least v xs) ])
-          (looped least (v .kind) true (cond x (Binary o l r) (infix-in g (v .kind) xs)))
+          → _≡_ {A = Body} (elim (u && x) [ true ↦ turn least k (here v) o r | false ↦ choose g (operator-rows least v xs) ])
+          (looped least (v .kind) (here v) true (cond x (Binary o l r) (infix-in g (v .kind) xs)))
       found true true e i y =
-          ap (λ (j : ℕ). eat j ▸ deep (expr r) ▸ close 13 (byte o ∷ []) ▸ goto (infix-tail least)) (sym e)
-          ∙ sym (pick-yes (leb least l && true) (eat (v .kind) ▸ deep (expr r) ▸ close 13 (byte o ∷ []) ▸ goto (infix-tail least)) end (ap (λ (z : Bool). z && true) y))
+          ap (λ (j : ℕ). turn least j (here v) o r) (sym e)
+          ∙ sym (pick-yes (leb least l && true) (turn least (v .kind) (here v) o r) end (ap (λ (z : Bool). z && true) y))
       found false true e i y =
           none-chosen k e xs (and-left (absent k xs) (distinct xs) h)
-          ∙ sym (pick-no (leb least l && true) (eat (v .kind) ▸ deep (expr r) ▸ close 13 (byte o ∷ []) ▸ goto (infix-tail least)) end (ap (λ (z : Bool). z && true) y))
+          ∙ sym (pick-no (leb least l && true) (turn least (v .kind) (here v) o r) end (ap (λ (z : Bool). z && true) y))
       found true false e i y = i
       found false false e i y = i
 
-      by : (t : Bool) → eqb (v .kind) k ≡ t → choose g (operator-rows least v xs) ≡ looped least (v .kind) true (infix-in g (v .kind) xs)
-          → _≡_ {A = Body} (elim (t && leb least l && has g w) [ true ↦ eat k ▸ deep (expr r) ▸ close 13 (byte o ∷ []) ▸ goto (infix-tail least) | false ↦ choose g (operator-rows least v xs) ])
-          (looped least (v .kind) true (cond (t && has g w) (Binary o l r) (infix-in g (v .kind) xs)))
+      by : (t : Bool) → eqb (v .kind) k ≡ t → choose g (operator-rows least v xs) ≡ looped least (v .kind) (here v) true (infix-in g (v .kind) xs)
+          → _≡_ {A = Body} (elim (t && leb least l && has g w) [ true ↦ turn least k (here v) o r | false ↦ choose g (operator-rows least v xs) ])
+          (looped least (v .kind) (here v) true (cond (t && has g w) (Binary o l r) (infix-in g (v .kind) xs)))
       by true e i = found (leb least l) (has g w) (eqb-true (v .kind) k e) i refl
       by false e i = i
 
-  infix-chosen : choose g (rule (power g) (infix-tail least) v) ≡ looped least (v .kind) true (infix-under g (v .kind))
+  infix-chosen : choose g (rule (power g) (infix-tail least) v) ≡ looped least (v .kind) (here v) true (infix-under g (v .kind))
   unfolding rule infix-under operators distinct absent
   infix-chosen = operator-chosen operators tt
 
@@ -125,21 +125,21 @@ infix-kind g {k} e f = beyond g k (sym e ∙ f)
 
 module _ (g : ℕ) (c : Cursor) (xs : List Lexeme) (n least k : ℕ) (t : Said) {b : Infix} (e : b ≡ infix-under g k) where
   pub an-operator : {o l r : ℕ} → b ≡ Binary o l r → least ≤ l
-      → choose g (rule (power g) (infix-tail least) (sight c xs n k t)) ≡ eat k ▸ deep (expr r) ▸ close 13 (byte o ∷ []) ▸ goto (infix-tail least)
+      → choose g (rule (power g) (infix-tail least) (sight c xs n k t)) ≡ turn least k (span (c .start) (c .end)) o r
   unfolding sight looped
   an-operator {o} {l} {r} f h =
-      infix-chosen g least (sight c xs n k t) ∙ ap (looped least k true) (sym e ∙ f)
-      ∙ pick-yes (leb least l && true) (eat k ▸ deep (expr r) ▸ close 13 (byte o ∷ []) ▸ goto (infix-tail least)) end (ap (λ (z : Bool). z && true) (le-leb least l h))
+      infix-chosen g least (sight c xs n k t) ∙ ap (looped least k (span (c .start) (c .end)) true) (sym e ∙ f)
+      ∙ pick-yes (leb least l && true) (turn least k (span (c .start) (c .end)) o r) end (ap (λ (z : Bool). z && true) (le-leb least l h))
 
   pub weak-operator : {o l r : ℕ} → b ≡ Binary o l r → l < least → choose g (rule (power g) (infix-tail least) (sight c xs n k t)) ≡ end
   unfolding sight looped
   weak-operator {o} {l} {r} f h =
-      infix-chosen g least (sight c xs n k t) ∙ ap (looped least k true) (sym e ∙ f)
-      ∙ pick-no (leb least l && true) (eat k ▸ deep (expr r) ▸ close 13 (byte o ∷ []) ▸ goto (infix-tail least)) end (ap (λ (z : Bool). z && true) (lt-leb least l h))
+      infix-chosen g least (sight c xs n k t) ∙ ap (looped least k (span (c .start) (c .end)) true) (sym e ∙ f)
+      ∙ pick-no (leb least l && true) (turn least k (span (c .start) (c .end)) o r) end (ap (λ (z : Bool). z && true) (lt-leb least l h))
 
   pub no-operator : tagOf infix-enum.the-type b ≡ 1 → choose g (rule (power g) (infix-tail least) (sight c xs n k t)) ≡ end
   unfolding sight looped
-  no-operator f = infix-chosen g least (sight c xs n k t) ∙ ap (looped least k true) (sym e ∙ no-binary b f)
+  no-operator f = infix-chosen g least (sight c xs n k t) ∙ ap (looped least k (span (c .start) (c .end)) true) (sym e ∙ no-binary b f)
 
 -- ── Phrases of expr_basic that more than one lexeme makes ─────────────────────────────────────────
 

@@ -1162,7 +1162,7 @@ pub fn expr(
         let Answer::Done(c2, w2, _) = d else {
             return d;
         };
-        at = writers::put_flag(out, w2, Tag::INFIX, o);
+        at = writers::put_kind(out, w2, Tag::INFIX, o, cur.start, cur.end);
         cur = c2;
     }
 }

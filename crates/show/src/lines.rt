@@ -84,6 +84,7 @@ fn say_phrase(tag: u8, p: &[u8], source: &[u8]) {
                 b"* / % + - << >> < > <= >= & | ^ == != && || ?? in",
                 byte(p, 0),
             );
+            say_at(p, 1, source);
         }
         Tag::ASSERT_EXPR => say(b"assert expression"),
         Tag::LOCAL => {

@@ -79,7 +79,7 @@ fn traps() {
 fn images() {
     let image = |source: &str| reader::answer(0, ROOM, source.as_bytes()).to_string();
     assert_eq!(image("1"), "0 0 0 0 4 04000131");
-    assert_eq!(image("-a*b"), "0 0 0 0 24 060005000100026106000500030004620d0001000c000101");
+    assert_eq!(image("-a*b"), "0 0 0 0 28 060005000100026106000500030004620d000500000200030c000101");
 }
 
 /// The records with their spans blotted out.
@@ -90,7 +90,7 @@ fn shape(setting: u64, source: &str) -> Vec<(u8, Vec<u8>)> {
     for (tag, payload) in records(&answer.image) {
         let spans = match tag {
             6 | 17 | 18 | 20 | 21 | 22 | 25 | 31 | 32 | 34 => 0..4,
-            1 | 16 => 1..5,
+            1 | 13 | 16 => 1..5,
             23 => 1..13,
             29 => 2..6,
             _ => 0..0,
@@ -185,5 +185,5 @@ fn order() {
 fn deepest_tree() {
     let source = readings::expand("1⟦32499×+1⟧");
     let answer = stack::large(move || reader::answer(0, ROOM, source.as_bytes()));
-    assert_eq!((answer.number, answer.length), (0, 32_500 * 4 + 32_499 * 4));
+    assert_eq!((answer.number, answer.length), (0, 32_500 * 4 + 32_499 * 8));
 }

@@ -7,11 +7,12 @@ use mathlib.Core.Path.{refl}
 use mathlib.Core.List.{List, [], _∷_}
 use Prim.Native.Nat.{ℕ, _-_}
 use Rattle.leaves.proofs.Steps
+use Rattle.leaves.proofs.LexemeLaws.{lies}
 use Rattle.phrases.proofs.expr.Reads.{Post}
 use Rattle.phrases.proofs.+arg+args+array+assert+basic+bind+body+chain+claim+comp+cond+each+ends+expr+field+func+index+init+inside+item+link+load+local+member+name+obj+param+params+pat+rest+rhs+safe+sign+slice+spec+specs+step+value.Lts-expr as lts
 use Rattle.phrases.proofs.+arg+args+array+assert+basic+bind+body+chain+claim+comp+cond+each+ends+expr+field+func+index+init+inside+item+link+load+local+member+name+obj+param+params+pat+rest+rhs+safe+sign+slice+spec+specs+step+value.Proof.Frame.{expr-claims as K, expr-at as P}
 use Rattle.grammar.specs.Image.{entry, payload}
-use Rattle.grammar.specs.Trees.{byte}
+use Rattle.grammar.specs.Trees.{byte, span}
 use Rattle.grammar.specs.Productions.{Body, goto, end, eat, deep, close, _▸_, expr, infix-tail}
 use Rattle.leaves.specs.Meets.{state, Seg}
 use Rattle.leaves.specs.declared.Cursor.{Cursor}
@@ -59,7 +60,9 @@ module _ (t : ℕ) where
 
   -- what comes after the operand
   abbrev tail : lts.After-b (K t) (P t) Post Inv-loop μ-loop → Body
-  tail b = close 13 (byte (b .b .given .0 .0) ∷ []) ▸ goto (infix-tail (a₂ (b .before .before .before) .args .least))
+  tail b =
+      let l = b .before .before .before in let cur = l .loop .cur in
+      close 13 (byte (b .b .given .0 .0) ∷ span (cur .start) (cur .end) ∷ []) ▸ goto (infix-tail (a₂ l .args .least))
 
   opened : (c : lts.After-eat-any (K t) (P t) Post Inv-loop μ-loop) → let b = c .before .before .before .before in let l = b .before .before .before in
       So l 1 0 (deep (expr (b .b .given .0 .1 .1 .0)) ▸ tail b) 1 (c .eat-any .result) (l .loop .at) (l .loop .out)
@@ -78,10 +81,10 @@ module _ (t : ℕ) where
       So (b .before .before .before) 1 0 (tail b) 2 (c .d .given .0 .0) (c .d .given .0 .1 .0) (c .before .before .before .before .expr .last .1 .0)
   value c = Steps.took (c .before .before .before .before .expr .ensures) (c .d .given .1) (opened (c .before .before .before .before .before))
 
-  joined : (c : lts.After-put-flag (K t) (P t) Post Inv-loop μ-loop) → let d = c .before .before .before in let l = b₄ d .before .before .before in
-      So l 1 4 (goto (infix-tail (a₂ l .args .least))) 1 (d .d .given .0 .0) (c .put-flag .result) (c .put-flag .last .0)
+  joined : (c : lts.After-put-kind (K t) (P t) Post Inv-loop μ-loop) → let d = c .before .before .before in let l = b₄ d .before .before .before in
+      So l 1 8 (goto (infix-tail (a₂ l .args .least))) 1 (d .d .given .0 .0) (c .put-kind .result) (c .put-kind .last .0)
   unfolding entry payload
-  joined c = Steps.closed 4 (lit≤ tt) (c .put-flag .ensures) (value (c .before .before .before))
+  joined c = Steps.closed 8 (lit≤ tt) (c .put-kind .ensures) (value (c .before .before .before))
 
   -- ── The loop, and what each call asks ────────────────────────────────────────────────────────────
 
@@ -91,8 +94,11 @@ module _ (t : ℕ) where
   expr-requires : lts.Need-expr-requires (K t) (P t) Post Inv-loop μ-loop
   expr-requires c κs = let l = c .before .before .before .before .before .before .before in (omega (arith, a₂ l .pre .0, e₂ l .if1 .left), Steps.ready (l .loop .inv .ok) (lit≤ tt) (opened c))
 
-  put-flag-requires : lts.Need-put-flag-requires (K t) (P t) Post Inv-loop μ-loop
-  put-flag-requires c κs = let d = c .before .before in Steps.fits (b₄ d .before .before .before .loop .inv .ok) (lit≤ tt) (value d)
+  put-kind-requires : lts.Need-put-kind-requires (K t) (P t) Post Inv-loop μ-loop
+  put-kind-requires c κs =
+      let d = c .before .before in let p = b₄ d .before .before .before .loop .inv .ok in
+      let l = lies (p .stands) in let z = value d .stands (p .stands) .within in
+      (Steps.fits p (lit≤ tt) (value d), omega (arith, l .from, l .on, l .within, z, p .short), omega (arith, l .from, l .on, l .within, z, p .short))
 
   loop-less : lts.Need-loop-less (K t) (P t) Post Inv-loop μ-loop
   loop-less c = let x = c .before .before in Steps.closer (b₄ (x .before .before .before) .before .before .before .loop .inv .ok) (lit≤ tt) (joined x)
@@ -133,4 +139,4 @@ module _ (t : ℕ) where
       lts.spec (K t) (P t) Post Inv-loop μ-loop (λ c κs. search needs) returns (λ c. search needs) (λ c κs. search needs) (λ c. search needs)
       (λ c. search needs) (λ c. search needs) returns-2 loop-holds (λ c κs. search needs) (λ c. search needs) (λ c. search needs) (λ c. search needs)
       returns-3 (λ c. search needs) returns-4 (λ c κs. search needs) (λ c. search needs) expr-requires (λ c. search needs) (λ c. search needs)
-      (λ c. search needs) returns-5 put-flag-requires loop-less loop-again
+      (λ c. search needs) returns-5 put-kind-requires loop-less loop-again

@@ -538,7 +538,7 @@ abbrev pub ends-claims : ℕ → ends-lts.Claims
 ends-claims t = (array-pattern-close-reads.Asked, array-pattern-close-reads.Learnt, eat-any-reads.Asked, eat-any-reads.Learnt, pat-below t, pat.Post)
 
 abbrev pub expr-claims : ℕ → expr-lts.Claims
-expr-claims t = (error-reads.Asked, error-reads.Learnt, sign-below t, sign.Post, infix-reads.Asked, infix-reads.Learnt, eat-any-reads.Asked, eat-any-reads.Learnt, expr-below t, expr.Post, put-flag-reads.Asked, put-flag-reads.Learnt)
+expr-claims t = (error-reads.Asked, error-reads.Learnt, sign-below t, sign.Post, infix-reads.Asked, infix-reads.Learnt, eat-any-reads.Asked, eat-any-reads.Learnt, expr-below t, expr.Post, put-kind-reads.Asked, put-kind-reads.Learnt)
 
 abbrev pub field-claims : ℕ → field-lts.Claims
 field-claims t = (name-below t, name.Post, eat-any-reads.Asked, eat-any-reads.Learnt, params-below t, params.Post, eat-reads.Asked, eat-reads.Learnt, value-below t, value.Post)
