@@ -1,6 +1,6 @@
 -- Clauses and objects that are spelled greedily are read.
 -- Assumes nothing.
-use mathlib.Core.Path.{_≡_, refl, ap}
+use mathlib.Core.Path.{_≡_, refl, sym, ap, subst}
 use mathlib.Core.List.{List, [], _∷_}
 use Prim.Native.Nat.{ℕ, suc, _-_}
 use native.Mathlib.Omega.{arith}
@@ -10,7 +10,7 @@ use Rattle.lexemes.specs.Kinds.{IF-KW, IN-KW, FOR-KW}
 use Rattle.grammar.specs.Tags.{MEMBERS, OBJECT-COMP, FOR, IF-CLAUSE, OBJECT-ITERATION}
 use Rattle.grammar.specs.Trees.{byte, number, span, text, Trees, none, tree, _⊕_, count}
 use Rattle.grammar.specs.Lexemes.{Said, said, rest, kind-of}
-use Rattle.grammar.specs.Productions.{Phrase, goto, exp-object-iteration, rule, with-field, with-assert}
+use Rattle.grammar.specs.Productions.{Phrase, Body, goto, _▸_, sub, exp-object-iteration, rule, with-field, with-member}
 use Rattle.grammar.specs.Reading.{has, view}
 use Rattle.grammar.specs.Spells.{Lexemes, _is_saying_then_, worded, _is_then_, lexeme, Colons, greedily}
 use Rattle.grammar.proofs.Chosen.{and-left}
@@ -18,7 +18,7 @@ use Rattle.grammar.proofs.ImageLaws.{count-row}
 use Rattle.grammar.proofs.Alike.{⊕-assoc, same, spans, nil, _⋆_, Alike, no-trees, alike-tree, alike-⊕, alike-none, alike-count, alike-number}
 use Rattle.grammar.proofs.GreedySteps.{Under, under, Got, Goes, deeply, deeps, stay, next, eats, closes, subs, finish, from-goto, respell}
 use Rattle.grammar.proofs.GreedySteps.{at-last, this, skip, by-row, turns, begins}
-use Rattle.grammar.proofs.LexemeForms.{Not, other}
+use Rattle.grammar.proofs.LexemeForms.{Not, other, field-fault}
 use Rattle.grammar.proofs.GreedyPicks.{not-option}
 use Rattle.grammar.proofs.GreedyClaims.{ExprRead, EachOf, e-none, e-more, RowOf, r-shut, r-last, MoreOf, m-none, m-row, ClausesRead}
 use Rattle.grammar.proofs.GreedyClaims.{some-clauses, PatternRead, FieldRead, a-field-read, an-assertion, LocalRead, a-local-read, MemberRead}
@@ -31,6 +31,10 @@ less {t} {us} {cs} {vs} e a b = omega (arith, count-row us vs, alike-count a, al
 
 clause-count : (cs ws ks : Trees) → Alike cs ks → count cs ≡ count (ws ⊕ ks) - count ws
 clause-count cs ws ks a = omega (arith, alike-count a, count-row ws ks)
+
+-- One member more after those with fault c, where xs are left.
+abbrev taking : ℕ → Lexemes → Body
+taking c xs = sub Phrase.member ▸ goto (Phrase.members (with-member c (kind-of xs)))
 
 module _ {G : Under} where
   -- ── Clauses ─────────────────────────────────────────────────────────────────────────────────────
@@ -78,35 +82,32 @@ module _ {G : Under} where
 
   -- ── Objects ─────────────────────────────────────────────────────────────────────────────────────
 
-  after : {xs ys : Lexemes} {t : Trees} → MemberRead G xs t ys → ℕ → ℕ
-  after (mem-local x) c = c
-  after (mem-assert x) c = with-assert c
-  after (mem-field x) c = with-field c
-
   member-start : {xs ys : Lexemes} {t : Trees} → MemberRead G xs t ys → Not (kind-of xs) R-BRACE × Not (kind-of xs) FOR-KW
   member-start (mem-local (a-local-read lexeme f)) = ((λ t. t), (λ t. t))
   member-start (mem-assert (an-assertion lexeme f)) = ((λ t. t), (λ t. t))
   member-start (mem-field (a-field-read n f)) = (n .2, n .3)
 
-  take-member : {xs ys : Lexemes} {t : Trees} (x : MemberRead G xs t ys) (c p : ℕ) (us t₀ : Trees) → Alike t₀ us
-      → Goes G (goto (Phrase.member c)) us p xs (goto (Phrase.members (after x c))) (t₀ ⊕ t) ys
-  unfolding rule view has after
-  take-member (mem-local (a-local-read lexeme f)) c p us t₀ al = turns (this tt tt) (eats lexeme (λ r. subs (f r) (λ vs r al′. stay (alike-⊕ al al′))))
-  take-member (mem-assert (an-assertion lexeme f)) c p us t₀ al = turns (skip (λ t h. t) (this tt tt)) (subs (f p) (λ vs r al′. stay (alike-⊕ al al′)))
-  take-member (mem-field (a-field-read n f)) c p us t₀ al =
-      turns (skip (λ t h. n .0 t) (skip (λ t h. n .1 t) at-last)) (subs (f p) (λ vs r al′. stay (alike-⊕ al al′)))
+  got-member : {xs ys : Lexemes} {t : Trees} → MemberRead G xs t ys → (p : ℕ) → Got G Phrase.member p xs t ys
+  unfolding rule view has _⊕_
+  got-member (mem-local (a-local-read lexeme f)) p = begins (this tt tt) (eats lexeme (λ r. subs (f r) (λ vs r al. stay al)))
+  got-member (mem-assert (an-assertion lexeme f)) p = begins (skip (λ t h. t) (this tt tt)) (subs (f p) (λ vs r al. stay al))
+  got-member (mem-field (a-field-read n f)) p = begins (skip (λ t h. n .0 t) (skip (λ t h. n .1 t) at-last)) (subs (f p) (λ vs r al. stay al))
+
+  take-member : {xs ys : Lexemes} {t : Trees} → MemberRead G xs t ys → (c p : ℕ) (us t₀ : Trees) → Alike t₀ us
+      → Goes G (taking c xs) us p xs (goto (Phrase.members (with-member c (kind-of xs)))) (t₀ ⊕ t) ys
+  take-member x c p us t₀ al = subs (got-member x p) (λ vs r al′. stay (alike-⊕ al al′))
 
   all-after : {xs ys : Lexemes} {ts : Trees} → EachOf (MemberRead G) xs ts ys → ℕ
   all-after e-none = 4
-  all-after (e-more e x k) = after x (all-after e)
+  all-after (e-more {ys = ys} e x k) = with-member (all-after e) (kind-of ys)
 
   inside-item : {y z w : Lexemes} {ts t : Trees} (e : EachOf (MemberRead G) y ts z) (x : MemberRead G z t w) (p : ℕ)
-      → Goes G (goto Phrase.inside) none p y (goto (Phrase.members (after x (all-after e)))) (ts ⊕ t) w
+      → Goes G (goto Phrase.inside) none p y (goto (Phrase.members (with-member (all-after e) (kind-of z)))) (ts ⊕ t) w
   unfolding rule view has all-after _⊕_
   inside-item e-none x p = turns (skip (λ t h. member-start x .0 t) at-last) (take-member x 4 p none none no-trees)
-  inside-item (e-more {ts = ts} {t = t} d x′ lexeme) x p =
+  inside-item (e-more {ys = ys} {ts = ts} {t = t} d x′ lexeme) x p =
       next (inside-item d x′ p) (λ us r al. turns (this tt tt) (eats lexeme
-      (λ r. turns (skip (λ t h. member-start x .0 t) (skip (λ t h. member-start x .1 t) at-last)) (take-member x (after x′ (all-after d)) r us (ts ⊕ t) al))))
+      (λ r. turns (skip (λ t h. member-start x .0 t) (skip (λ t h. member-start x .1 t) at-last)) (take-member x (with-member (all-after d) (kind-of ys)) r us (ts ⊕ t) al))))
 
   pub object-goes : {y z w : Lexemes} {ts : Trees} → RowOf (MemberRead G) y ts z → z is R-BRACE then w → (p : ℕ)
       → Got G Phrase.inside p y (tree MEMBERS (number (count ts) ∷ []) ts) z
@@ -120,9 +121,9 @@ module _ {G : Under} where
 
   -- Object comprehensions: locals, a field, locals, clauses
   local-item : {z w : Lexemes} {t : Trees} → LocalRead G z t w → (c p : ℕ) (us t₀ : Trees) → Alike t₀ us
-      → Goes G (goto (Phrase.member c)) us p z (goto (Phrase.members c)) (t₀ ⊕ t) w
-  unfolding rule view has
-  local-item (a-local-read lexeme f) c p us t₀ al = turns (this tt tt) (eats lexeme (λ r. subs (f r) (λ vs r al′. stay (alike-⊕ al al′))))
+      → Goes G (taking c z) us p z (goto (Phrase.members c)) (t₀ ⊕ t) w
+  unfolding with-member
+  local-item (a-local-read lexeme f) c p us t₀ al = take-member (mem-local (a-local-read lexeme f)) c p us t₀ al
 
   local-start : {z w : Lexemes} {t : Trees} → LocalRead G z t w → Not (kind-of z) R-BRACE × Not (kind-of z) FOR-KW
   local-start (a-local-read lexeme f) = ((λ t. t), (λ t. t))
@@ -133,7 +134,7 @@ module _ {G : Under} where
 
   locals-goes : {y z : Lexemes} {ls : Trees} → EachOf (LocalRead G) y ls z → Not (kind-of z) R-BRACE → Not (kind-of z) FOR-KW
       → (c p : ℕ) (us t₀ : Trees) → Alike t₀ us
-      → Goes G (goto (Phrase.member c)) us p y (goto (Phrase.member c)) (t₀ ⊕ ls) z
+      → Goes G (taking c y) us p y (taking c z) (t₀ ⊕ ls) z
   unfolding rule view has
   locals-goes e-none n m c p us t₀ al = stay (alike-none al)
   locals-goes (e-more {ts = ts} {t = t} d x lexeme) n m c p us t₀ al =
@@ -163,13 +164,16 @@ module _ {G : Under} where
   object-start e-none (a-field-read n f) = n .2
   object-start (e-more e x k) f = locals-start e x .0
 
+  refault : {a b : ℕ} {c : Body} {us t : Trees} {p : ℕ} {xs ys : Lexemes} → a ≡ b → Goes G (goto (Phrase.members b)) us p xs c t ys → Goes G (goto (Phrase.members a)) us p xs c t ys
+  refault {c = c} {us} {t} {p} {xs} {ys} e g = subst (λ (n : ℕ). Goes G (goto (Phrase.members n)) us p xs c t ys) (sym e) g
+
   pub object-comprehension-goes : {x₁ x₂ x₃ x₄ x₅ x₆ : Lexemes} {ls f ms cs : Trees} → EachOf (LocalRead G) x₁ ls x₂ → FieldRead G x₂ f x₃
       → MoreOf (LocalRead G) x₃ ms x₄ → ClausesRead G x₄ cs x₅ → x₅ is R-BRACE then x₆ → (p : ℕ)
       → Got G Phrase.inside p x₁ (tree OBJECT-COMP (number (count (ls ⊕ f ⊕ ms)) ∷ number (count cs) ∷ []) (ls ⊕ f ⊕ ms ⊕ cs)) x₅
   unfolding rule view has _⊕_ with-field
-  object-comprehension-goes {ls = ls} {f = fd} {ms} {cs} e (a-field-read n g) m (some-clauses h k) lexeme p =
+  object-comprehension-goes {x₂ = x₂} {ls = ls} {f = fd} {ms} {cs} e (a-field-read n g) m (some-clauses h k) lexeme p =
       from-goto (turns (skip (λ t h. object-start e (a-field-read n g) t) at-last) (next (locals-goes e (n .2) (n .3) 4 p none none no-trees)
-      (λ us r al. turns (skip (λ t h. n .0 t) (skip (λ t h. n .1 t) at-last)) (subs (g r) (λ vs r al′. next (more-locals m h r (us ⊕ vs) (ls ⊕ fd) (alike-⊕ al al′))
+      (λ us r al. subs (got-member (mem-field (a-field-read n g)) r) (λ vs r al′. refault (field-fault 4 (kind-of x₂) (n .0) (n .1)) (next (more-locals m h r (us ⊕ vs) (ls ⊕ fd) (alike-⊕ al al′))
       (λ ws r al″. turns (this tt tt) (subs (got-clauses (some-clauses h k) (λ t. t) (λ t. t) r)
       (λ ks r al‴. turns at-last (closes (stay (alike-tree (alike-number al″ ⋆ same (ap number (clause-count cs ws ks al‴)) ⋆ nil) (alike-⊕ al″ al‴))))))))))))
 

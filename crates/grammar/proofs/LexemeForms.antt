@@ -1,13 +1,14 @@
 -- What a row's test tells of the next lexeme, in the words of Spells.antt.
 -- Assumes nothing.
-use mathlib.Core.Path.{_≡_, sym, subst}
-use mathlib.Core.Bool.{_||_, not}
+use mathlib.Core.Path.{_≡_, refl, sym, subst}
+use mathlib.Core.Bool.{Bool, true, false, _||_, not}
 use mathlib.Core.List.{[], _∷_}
 use mathlib.Core.Logic.{_⊎_, inl, inr}
 use Prim.Native.Nat.{ℕ}
 use lib.Dec.{T, T-not, eqb, eqb→eq, eqb-refl}
-use Rattle.lexemes.specs.Kinds.{EOF, STRING-DOUBLE, STRING-SINGLE, STRING-DOUBLE-VERBATIM, STRING-SINGLE-VERBATIM, STRING-BLOCK}
+use Rattle.lexemes.specs.Kinds.{EOF, STRING-DOUBLE, STRING-SINGLE, STRING-DOUBLE-VERBATIM, STRING-SINGLE-VERBATIM, STRING-BLOCK, LOCAL-KW, ASSERT-KW}
 use Rattle.grammar.specs.Lexemes.{Said, rest, kind-of, word-of}
+use Rattle.grammar.specs.Productions.{with-field, with-assert, with-member}
 use Rattle.grammar.specs.Spells.{Lexemes, _is_saying_then_, _is_then_, Quoted}
 use Rattle.grammar.proofs.Chosen.{or-cases}
 
@@ -67,3 +68,13 @@ kind-is {k} _is_then_.lexeme = eqb-refl k
 -- A kind that is k is no other.
 pub other : (j k i : ℕ) → T (not (eqb k i)) → T (eqb j k) → Not j i
 other j k i h t u = T-not (eqb k i) h (subst (λ (n : ℕ). T (eqb n i)) (eqb→eq j k t) u)
+
+-- A member that begins with neither `local` nor `assert` counts as a field.
+pub field-fault : (c k : ℕ) → Not k LOCAL-KW → Not k ASSERT-KW → with-member c k ≡ with-field c
+unfolding with-member
+field-fault c k n m = by (eqb k LOCAL-KW) (eqb k ASSERT-KW) n m
+  where
+    by : (a b : Bool) → (T a → ⊥) → (T b → ⊥) → _≡_ {A = ℕ} (elim a [ true ↦ c | false ↦ elim b [ true ↦ with-assert c | false ↦ with-field c ] ]) (with-field c)
+    by true b n m = absurd (n tt)
+    by false true n m = absurd (m tt)
+    by false false n m = refl

@@ -18,7 +18,7 @@ use Rattle.grammar.proofs.Tables.{moves, moved}
 use Rattle.grammar.proofs.Chosen.{moved-chosen}
 use Rattle.grammar.proofs.Possible.{next-possible, rest-worded}
 use Rattle.grammar.proofs.Sorts.{one}
-use Rattle.grammar.proofs.Shapes.{exit, After, Before, Keeps, KeepsAt, _also_, KeepsAll}
+use Rattle.grammar.proofs.Shapes.{exit, wherever, AfterFrom, Before, Keeps, KeepsAt, _also_, KeepsAll, anywhere}
 use Rattle.grammar.proofs.ShapesKept.{keeps}
 
 -- ── Readings ──────────────────────────────────────────────────────────────────────────────────────
@@ -88,38 +88,22 @@ module _ (prefix s : ℕ) where
   left-worded (subbed x y) w = left-worded y (left-worded x w)
   left-worded (deepened x y) w = left-worded y (left-worded x w)
 
-  -- What a body that is done takes first stands there.
-  begun : {b : Body} {ts us : Trees} {d p r : ℕ} {xs ys : List Lexeme} (low next : ℕ) (X : List Sort → Type 0) (σs : List Sort)
-      → Reading prefix s b ts d p xs (done us r ys)
-      → KeepsAt (kind-of xs) low next X σs b → Keeps low next X σs b
-  unfolding KeepsAt
-  begun low next X σs ended k = k
-  begun low next X σs (gone x) k = k
-  begun low next X σs (eaten e x) k = k e
-  begun low next X σs (leafed x) k = k
-  begun low next X σs (closed x) k = k
-  begun low next X σs (subbed x y) k = k
-  begun low next X σs (deepened x y) k = k
-
-  keeps-chosen : {ts us : Trees} {d p r : ℕ} {xs ys : List Lexeme} (low next : ℕ) (X : List Sort → Type 0) (σs : List Sort) (t : Table)
-      → Reading prefix s (choose s t) ts d p xs (done us r ys) → KeepsAll (kind-of xs) low next X σs t → Keeps low next X σs (choose s t)
+  keeps-chosen : (kind low next : ℕ) (X : List Sort → Type 0) (σs : List Sort) (t : Table) → KeepsAll kind low next X σs t → KeepsAt kind low next X σs (choose s t)
   unfolding choose KeepsAll
-  keeps-chosen low next X σs (otherwise b) x k = begun low next X σs x k
-  keeps-chosen {ts} {us} {d} {p} {r} {xs} {ys} low next X σs (row g t b ∣ rows) x (k also l) = by t (has s g) k (λ y. keeps-chosen low next X σs rows y l) x
+  keeps-chosen kind low next X σs (otherwise b) k = k
+  keeps-chosen kind low next X σs (row g t b ∣ rows) (k also l) = by t (has s g) k (keeps-chosen kind low next X σs rows l)
     where
-      by : (t a : Bool) → (T t → Keeps low next X σs b) → (Reading prefix s (choose s rows) ts d p xs (done us r ys) → Keeps low next X σs (choose s rows))
-          → Reading prefix s (elim (t && a) [ true ↦ b | false ↦ choose s rows ]) ts d p xs (done us r ys)
-          → Keeps low next X σs (elim (t && a) [ true ↦ b | false ↦ choose s rows ])
-      by true true f g x = f tt
-      by true false f g x = g x
-      by false a f g x = g x
+      by : (t a : Bool) → (T t → Keeps low next X σs b) → KeepsAt kind low next X σs (choose s rows)
+          → KeepsAt kind low next X σs (elim (t && a) [ true ↦ b | false ↦ choose s rows ])
+      by true true f g = anywhere kind low next X σs b (f tt)
+      by true false f g = g
+      by false a f g = g
 
-  keeps-production : {size : ℕ} (q : Phrase) {ts us : Trees} {d p r : ℕ} {xs ys : List Lexeme} (n : ℕ) (σs : List Sort)
-      → Reading prefix s (production prefix s q p xs n) ts d p xs (done us r ys) → Ranged size p xs → Worded xs → length σs ≡ n → Before q p σs
-      → Keeps p (stop-of p xs) (After q) σs (production prefix s q p xs n)
+  keeps-production : {size : ℕ} (q : Phrase) {p : ℕ} {xs : List Lexeme} (n : ℕ) (σs : List Sort) → Ranged size p xs → Worded xs → length σs ≡ n → Before q p σs
+      → KeepsAt (kind-of xs) p (stop-of p xs) (AfterFrom (kind-of xs) q) σs (production prefix s q p xs n)
   unfolding production view
-  keeps-production q {p = p} {xs = xs} n σs x g w len b =
-      keeps-chosen p (stop-of p xs) (After q) σs (rule prefix q (view p xs n)) x
+  keeps-production q {p} {xs} n σs g w len b =
+      keeps-chosen (kind-of xs) p (stop-of p xs) (AfterFrom (kind-of xs) q) σs (rule prefix q (view p xs n))
       (keeps prefix (view p xs n) σs (next-range g) len (next-possible w) (next-possible (rest-worded w)) q b)
 
   -- After a phrase the place is at least as the checker says.
@@ -132,32 +116,36 @@ module _ (prefix s : ℕ) where
       by false e = omega (arith, (onward x g) .0)
 
   shaped : {size : ℕ} {b : Body} {ts us : Trees} {d p r : ℕ} {xs ys : List Lexeme} → Reading prefix s b ts d p xs (done us r ys) → Ranged size p xs → Worded xs
-      → (low next : ℕ) → low ≤ p → next ≤ stop-of p xs → (X : List Sort → Type 0) (σs : List Sort) → Obeys Spans.forward σs ts → Keeps low next X σs b
+      → (low next : ℕ) → low ≤ p → next ≤ stop-of p xs → (X : List Sort → Type 0) (σs : List Sort) → Obeys Spans.forward σs ts → KeepsAt (kind-of xs) low next X σs b
       → (τs : List Sort) × X τs × Obeys Spans.forward τs us
-  unfolding Keeps
+  unfolding Keeps KeepsAt
   shaped ended g w low next h h′ X σs o k = (σs, k, o)
   shaped (gone {q} {ts} {d} {p} {xs} x) g w low next h h′ X σs o k =
-      let y = shaped x g w p (stop-of p xs) (omega arith) (omega arith) (After q) σs o (keeps-production q (count ts) σs x g w (obeys-length o) (k .0 p h)) in
-      (y .0, k .1 (y .0) (y .1), y .2)
-  shaped (eaten e x) g w low next h h′ X σs o k = shaped x (ranged-rest g) (rest-worded w) next next h′ (omega (arith, next-range (ranged-rest g))) X σs o k
-  shaped (leafed x) g w low next h h′ X σs o k =
+      let y = shaped x g w p (stop-of p xs) (omega arith) (omega arith) (AfterFrom (kind-of xs) q) σs o (keeps-production q (count ts) σs g w (obeys-length o) (k .0 p h)) in
+      (y .0, k .1 (y .0) (wherever (kind-of xs) q (y .0) (y .1)), y .2)
+  shaped (eaten {b = b} {xs = xs} e x) g w low next h h′ X σs o k =
+      shaped x (ranged-rest g) (rest-worded w) next next h′ (omega (arith, next-range (ranged-rest g))) X σs o (anywhere (kind-of (rest xs)) next next X σs b (k e))
+  shaped (leafed {b = b} {xs = xs} x) g w low next h h′ X σs o k =
       shaped x (ranged-rest g) (rest-worded w) next next h′ (omega (arith, next-range (ranged-rest g))) X _
-      (obeys-append o (Obeys.node (k .1) Fits.none Obeys.none Obeys.none)) (k .2)
-  shaped (closed x) g w low next h h′ X σs o k = shaped x g w low next h h′ X _ (Obeys.node (k .2) (k .3) o Obeys.none) (k .4)
-  shaped (subbed {q} {p = p} {xs = xs} x y) g w low next h h′ X σs o k =
+      (obeys-append o (Obeys.node (k .1) Fits.none Obeys.none Obeys.none)) (anywhere (kind-of (rest xs)) next next X (σs ++ k .0 ∷ []) b (k .2))
+  shaped (closed {b = b} {xs = xs} x) g w low next h h′ X σs o k =
+      shaped x g w low next h h′ X _ (Obeys.node (k .2) (k .3) o Obeys.none) (anywhere (kind-of xs) low next X (k .0 ∷ []) b (k .4))
+  shaped (subbed {q} {b} {p = p} {xs = xs} {ys} x y) g w low next h h′ X σs o k =
       let f = onward x g in
-      let z = shaped x g w p (stop-of p xs) (omega arith) (omega arith) (After q) [] Obeys.none (keeps-production q 0 [] x g w refl (k .0 p h)) in
-      shaped y (f .2) (left-worded x w) _ next (after-place q low next h h′ x g) (omega (arith, f .1)) X _ (obeys-append o (z .2)) (k .1 (z .0) (z .1))
-  shaped (deepened {q} {p = p} {xs = xs} x y) g w low next h h′ X σs o k =
+      let z = shaped x g w p (stop-of p xs) (omega arith) (omega arith) (AfterFrom (kind-of xs) q) [] Obeys.none (keeps-production q 0 [] g w refl (k .0 p h)) in
+      shaped y (f .2) (left-worded x w) _ next (after-place q low next h h′ x g) (omega (arith, f .1)) X _ (obeys-append o (z .2))
+      (anywhere (kind-of ys) (elim (moves q) [ true ↦ next | false ↦ low ]) next X (σs ++ z .0) b (k .1 (z .0) (z .1)))
+  shaped (deepened {q} {b} {p = p} {xs = xs} {ys} x y) g w low next h h′ X σs o k =
       let f = onward x g in
-      let z = shaped x g w p (stop-of p xs) (omega arith) (omega arith) (After q) [] Obeys.none (keeps-production q 0 [] x g w refl (k .0 p h)) in
-      shaped y (f .2) (left-worded x w) _ next (after-place q low next h h′ x g) (omega (arith, f .1)) X _ (obeys-append o (z .2)) (k .1 (z .0) (z .1))
+      let z = shaped x g w p (stop-of p xs) (omega arith) (omega arith) (AfterFrom (kind-of xs) q) [] Obeys.none (keeps-production q 0 [] g w refl (k .0 p h)) in
+      shaped y (f .2) (left-worded x w) _ next (after-place q low next h h′ x g) (omega (arith, f .1)) X _ (obeys-append o (z .2))
+      (anywhere (kind-of ys) (elim (moves q) [ true ↦ next | false ↦ low ]) next X (σs ++ z .0) b (k .1 (z .0) (wherever (kind-of xs) q (z .0) (z .1))))
 
   -- EVERY TREE THAT A DERIVATION GIVES OBEYS THE TABLE; it has one root, an expression.
   pub obeys : {size : ℕ} {depth : ℕ} {xs : List Lexeme} {us : Trees} {r : ℕ} {ys : List Lexeme} → Ranged size 0 xs → Worded xs
       → Reads prefix s depth xs (done us r ys)
       → (σ : Sort) × Is σ Sort.expression × Obeys Spans.forward (σ ∷ []) us
-  unfolding Keeps Before exit moves
+  unfolding Keeps KeepsAt Before exit moves
   obeys {xs = xs} g w x =
       let y =
       shaped x g w 0 (stop-of 0 xs) (omega arith) (omega arith) (λ (τs : List Sort). Fits τs (Sort.expression ∷ [])) [] Obeys.none

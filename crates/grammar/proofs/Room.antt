@@ -58,7 +58,7 @@ owes array-comp-end = 0
 owes elements = 0
 owes next-element = 0
 owes inside = 7
-owes (member a) = 7
+owes member = 0
 owes (members a) = 7
 owes (next-member a) = 7
 owes (comprehension a) = 7
@@ -347,9 +347,9 @@ module _ (prefix : ℕ) where
     )
     pays inside = (
       (λ t. omega arith),
-      omega arith,
+      (0, Spares.nothing, omega arith),
     )
-    pays (member c) = (
+    pays member = (
       (λ t. (tt, (λ l. (0, Spares.nothing, omega arith)))),
       (
         (λ t. (0, Spares.nothing, omega arith)),
@@ -367,7 +367,7 @@ module _ (prefix : ℕ) where
       (λ t. omega arith),
       (
         (λ t. omega arith),
-        omega arith,
+        (0, Spares.nothing, omega arith),
       ),
     )
     pays (comprehension c) = (
@@ -602,10 +602,10 @@ module _ (prefix : ℕ) where
     light array-comp-end held = (omega arith, tt)
     light elements held = (omega arith, (omega arith, tt))
     light next-element held = ((omega arith, tt), (omega arith, omega arith))
-    light inside held = ((omega arith, tt), omega arith)
-    light (member c) held = ((omega arith, omega arith), ((omega arith, omega arith), (omega arith, omega arith)))
+    light inside held = ((omega arith, tt), (omega arith, omega arith))
+    light member held = ((omega arith, tt), ((omega arith, tt), (omega arith, tt)))
     light (members c) held = (omega arith, (omega arith, (omega arith, tt)))
-    light (next-member c) held = ((omega arith, tt), (omega arith, omega arith))
+    light (next-member c) held = ((omega arith, tt), (omega arith, (omega arith, omega arith)))
     light (comprehension c) held = ((omega arith, omega arith), (omega arith, tt))
     light (comprehension-end m) held = (omega arith, tt)
     light field held = ((omega arith, omega arith), ((omega arith, omega arith), ((omega arith, omega arith), tt)))

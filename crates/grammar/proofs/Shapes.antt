@@ -16,23 +16,42 @@ use Rattle.grammar.specs.Productions.{more-clauses, for-clause, header, 
 use Rattle.grammar.specs.Productions.{pattern-starts, pattern-starts-end, array-rest, array-rest-end, pattern-ends, pattern-ends-end}
 use Rattle.grammar.specs.Productions.{array-pattern-close, object-pattern, pattern-fields, pattern-fields-end, object-rest, object-rest-end}
 use Rattle.grammar.specs.Productions.{object-pattern-close, pattern-field, pattern-into, pattern-default, default-value, default-end}
+use Rattle.grammar.specs.Productions.{with-field, with-member}
 use Rattle.grammar.specs.Words.{NameText}
 use Rattle.grammar.specs.Records.{Sort, Fits, times, Spans, Flag, Has, First, Part, Rest, Name, Method, Form}
 use Rattle.grammar.proofs.Tables.{moves}
-use Rattle.grammar.proofs.Sorts.{Members, Open}
+use Rattle.grammar.proofs.Sorts.{Members, MemberFrom, Open}
 
 -- ── What a phrase has at its start and at its end ─────────────────────────────────────────────────
 
--- At its end: one tree of a sort, or a row.
+-- At its end: one tree of a sort, or a row. A member and a field tell besides by which kind they began.
 pub data Exit : Type 0 where
   single : Sort → Exit
-  parameters clausal nothing : Exit
+  parameters clausal nothing a-field a-member : Exit
 
 abbrev pub Ends : Exit → List Sort → Type 0
 Ends (single σ) τs = Fits τs (σ ∷ [])
 Ends parameters τs = (n : ℕ) × Fits τs (times n Sort.param)
 Ends clausal τs = (n : ℕ) × Fits τs (Sort.iteration ∷ times n Sort.clause)
 Ends nothing τs = Fits τs []
+Ends a-field τs = Fits τs (Sort.field ∷ [])
+Ends a-member τs = Fits τs (Sort.member ∷ [])
+
+abbrev pub EndsFrom : ℕ → Exit → List Sort → Type 0
+EndsFrom k (single σ) τs = Ends (single σ) τs
+EndsFrom k parameters τs = Ends parameters τs
+EndsFrom k clausal τs = Ends clausal τs
+EndsFrom k nothing τs = Ends nothing τs
+EndsFrom k a-field τs = ((c : ℕ) → with-member c k ≡ with-field c) × Fits τs (Sort.field ∷ [])
+EndsFrom k a-member τs = MemberFrom k τs
+
+ends-wherever : (k : ℕ) (e : Exit) (τs : List Sort) → EndsFrom k e τs → Ends e τs
+ends-wherever k (single σ) τs x = x
+ends-wherever k parameters τs x = x
+ends-wherever k clausal τs x = x
+ends-wherever k nothing τs x = x
+ends-wherever k a-field τs x = x .1
+ends-wherever k a-member τs x = x .fits
 
 unfoldable pub exit : Phrase → Exit
 exit (expr a) = single Sort.expression
@@ -64,12 +83,12 @@ exit array-comp-end = single Sort.expression
 exit elements = single Sort.expression
 exit next-element = single Sort.expression
 exit inside = single Sort.object
-exit (member a) = single Sort.object
+exit member = a-member
 exit (members a) = single Sort.object
 exit (next-member a) = single Sort.object
 exit (comprehension a) = single Sort.object
 exit (comprehension-end a) = single Sort.object
-exit field = single Sort.field
+exit field = a-field
 exit (field-named a b) = single Sort.field
 exit (field-value a b c d e) = single Sort.field
 exit params = parameters
@@ -118,6 +137,14 @@ exit (default-end a b c) = single Sort.pattern-field
 abbrev pub After : Phrase → List Sort → Type 0
 unfolding exit
 After q τs = Ends (exit q) τs
+
+abbrev pub AfterFrom : ℕ → Phrase → List Sort → Type 0
+unfolding exit
+AfterFrom k q τs = EndsFrom k (exit q) τs
+
+pub wherever : (k : ℕ) (q : Phrase) (τs : List Sort) → AfterFrom k q τs → After q τs
+unfolding exit After AfterFrom
+wherever k q τs x = ends-wherever k (exit q) τs x
 
 -- At its start, where the last lexeme ended at p.
 abbrev pub Called : ℕ → ℕ → ℕ → ℕ → List Sort → Type 0
@@ -169,7 +196,7 @@ Before array-comp-end p σs = (n : ℕ) × Fits σs (Sort.expression ∷ Sort.it
 Before elements p σs = Many Sort.expression σs
 Before next-element p σs = Many Sort.expression σs
 Before inside p σs = Fits σs []
-Before (member a) p σs = Members a σs
+Before member p σs = Fits σs []
 Before (members a) p σs = Members a σs
 Before (next-member a) p σs = Members a σs
 Before (comprehension a) p σs = Members a σs
@@ -236,7 +263,8 @@ Keeps low next X σs (sub q ▸ b) =
 Keeps low next X σs (deep q ▸ b) =
     ((p : ℕ) → low ≤ p → Before q p []) × ((τs : List Sort) → After q τs → Keeps (elim (moves q) [ true ↦ next | false ↦ low ]) next X (σs ++ τs) b)
 
--- The same of a body that begins where a lexeme of this kind stands: if it takes one, that is of the kind that it takes.
+-- The same of a body that begins where a lexeme of this kind stands: if it takes one, that is of the kind that it takes; if it begins with a
+-- phrase, that one began there.
 unfoldable pub KeepsAt : ℕ → ℕ → ℕ → (List Sort → Type 0) → List Sort → Body → Type 0
 KeepsAt kind low next X σs end = Keeps low next X σs end
 KeepsAt kind low next X σs (fail n x) = Keeps low next X σs (fail n x)
@@ -244,7 +272,9 @@ KeepsAt kind low next X σs (goto q) = Keeps low next X σs (goto q)
 KeepsAt kind low next X σs (eat k ▸ b) = kind ≡ k → Keeps low next X σs (eat k ▸ b)
 KeepsAt kind low next X σs (leaf t fs ▸ b) = Keeps low next X σs (leaf t fs ▸ b)
 KeepsAt kind low next X σs (close t fs ▸ b) = Keeps low next X σs (close t fs ▸ b)
-KeepsAt kind low next X σs (sub q ▸ b) = Keeps low next X σs (sub q ▸ b)
+KeepsAt kind low next X σs (sub q ▸ b) =
+    ((p : ℕ) → low ≤ p → Before q p [])
+    × ((τs : List Sort) → AfterFrom kind q τs → Keeps (elim (moves q) [ true ↦ next | false ↦ low ]) next X (σs ++ τs) b)
 KeepsAt kind low next X σs (deep q ▸ b) = Keeps low next X σs (deep q ▸ b)
 
 infixr 20 _also_
@@ -255,3 +285,15 @@ pub data Both (A B : Type 0) : Type 0 where
 unfoldable pub KeepsAll : ℕ → ℕ → ℕ → (List Sort → Type 0) → List Sort → Table → Type 0
 KeepsAll kind low next X σs (otherwise b) = KeepsAt kind low next X σs b
 KeepsAll kind low next X σs (row g t b ∣ rows) = Both (T t → Keeps low next X σs b) (KeepsAll kind low next X σs rows)
+
+-- What a body keeps to it keeps to wherever it begins.
+pub anywhere : (kind low next : ℕ) (X : List Sort → Type 0) (σs : List Sort) (b : Body) → Keeps low next X σs b → KeepsAt kind low next X σs b
+unfolding Keeps KeepsAt
+anywhere kind low next X σs end k = k
+anywhere kind low next X σs (fail n x) k = k
+anywhere kind low next X σs (goto q) k = k
+anywhere kind low next X σs (eat j ▸ b) k = λ e. k
+anywhere kind low next X σs (leaf t fs ▸ b) k = k
+anywhere kind low next X σs (close t fs ▸ b) k = k
+anywhere kind low next X σs (sub q ▸ b) k = (k .0, (λ τs x. k .1 τs (wherever kind q τs x)))
+anywhere kind low next X σs (deep q ▸ b) k = k

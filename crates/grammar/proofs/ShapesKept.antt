@@ -1,7 +1,7 @@
 -- Each production keeps to what its phrase has at its start and at its end (Shapes.antt): a line for each phrase.
 -- Assumes nothing.
-use mathlib.Core.Path.{_≡_, refl, subst}
-use mathlib.Core.Bool.{Bool, true, _&&_}
+use mathlib.Core.Path.{_≡_, refl, sym, subst}
+use mathlib.Core.Bool.{Bool, true, false, _&&_, _||_}
 use mathlib.Core.List.{List, [], _∷_, _++_}
 use Prim.Native.Nat.{ℕ, suc, _+_, _-_, _≤_}
 use native.Mathlib.Omega.{arith}
@@ -9,9 +9,9 @@ use lib.Dec.{T, leb, leb→le, eqb, eqb→eq}
 use lib.ListN.{length, length-append}
 use Rattle.grammar.specs.Tags.{OBJECT-COMP, BIND, FIELD}
 use Rattle.grammar.specs.Trees.{Field, byte, number, span, text, count}
-use Rattle.lexemes.specs.Kinds.{L-BRACK, R-BRACK, COLON, IDENT}
+use Rattle.lexemes.specs.Kinds.{L-BRACK, R-BRACK, COLON, IDENT, STRING-DOUBLE, STRING-SINGLE, STRING-DOUBLE-VERBATIM, STRING-SINGLE-VERBATIM, STRING-BLOCK}
 use Rattle.grammar.specs.Lexemes.{said}
-use Rattle.grammar.specs.Productions.{Phrase, goto, _▸_, sub, View, four-are, rule, Sign, sign, signs, sign-rows, Operator, op, operators}
+use Rattle.grammar.specs.Productions.{Phrase, goto, _▸_, sub, View, four-are, is-string, with-field, with-member, rule, Sign, sign, signs, sign-rows, Operator, op, operators}
 use Rattle.grammar.specs.Productions.{operator-rows, expr, infix-tail, suffixed, suffix, null-safe, null-safe-index, bracket, member-name}
 use Rattle.grammar.specs.Productions.{null-safe-end, index-or-slice, slice-end, slice-ended, slice-step, slice-stepped, arguments, argument}
 use Rattle.grammar.specs.Productions.{argument-end, call-close, call-end, named-argument, basic, string, array, array-first, array-comp}
@@ -28,11 +28,11 @@ use Rattle.grammar.specs.Records.{Sort, Spans, Fits, times, Has, First, 
 use Rattle.grammar.proofs.Tables.{moves}
 use Rattle.grammar.proofs.Chosen.{and-left, and-right}
 use Rattle.grammar.proofs.Possible.{is-kind, a-name, a-numeral, a-text}
-use Rattle.grammar.proofs.Sorts.{0≤1, 0≤2, 1≤1, 1≤2, 2≤2, Members, add-assert, add-bind, add-field, add-named, add-unnamed, all-members}
+use Rattle.grammar.proofs.Sorts.{0≤1, 0≤2, 1≤1, 1≤2, 2≤2, Members, bind-from, assertion-from, field-from, add-named, add-unnamed, all-members}
 use Rattle.grammar.proofs.Sorts.{as-expression, count-times, first-fits, fits-append, fits-last, fits-length, fits-nil, fits-times}
 use Rattle.grammar.proofs.Sorts.{if-clause-clause, iteration-clause, name-pattern-fits, object-expression, one, no-part, open-rest, slice-form}
 use Rattle.grammar.proofs.Sorts.{times-length, told, no-field, one-field, dropped, kept}
-use Rattle.grammar.proofs.Shapes.{_also_, Indexing, Many, exit, After, Before, Keeps, KeepsAt, KeepsAll}
+use Rattle.grammar.proofs.Shapes.{_also_, Indexing, Many, exit, After, AfterFrom, Before, Keeps, KeepsAt, KeepsAll}
 
 unfoldable pub small-signs : List Sign → Bool
 small-signs [] = true
@@ -41,6 +41,10 @@ small-signs (sign k o ∷ rest) = leb o 3 && small-signs rest
 unfoldable pub small-operators : List Operator → Bool
 small-operators [] = true
 small-operators (op k g l r o ∷ rest) = leb o 19 && small-operators rest
+
+either : {C : Type 0} (a b : Bool) → T (a || b) → (T a → C) → (T b → C) → C
+either true b h f g = f tt
+either false b h f g = g h
 
 small : (o n : ℕ) (b : Bool) → T (leb o n && b) → o ≤ n
 small o n b h = leb→le o n (and-left (leb o n) b h)
@@ -54,7 +58,7 @@ onward p le = (Sort.run, First.later, one)
 
 module _ (prefix : ℕ) where
   sign-keeps : (least : ℕ) (v : View) (σs : List Sort) → Fits σs [] → (xs : List Sign) → T (small-signs xs)
-      → KeepsAll (v .kind) (v .before) (v .stop) (After (expr least)) σs (sign-rows prefix least v xs)
+      → KeepsAll (v .kind) (v .before) (v .stop) (AfterFrom (v .kind) (expr least)) σs (sign-rows prefix least v xs)
   unfolding Keeps KeepsAt KeepsAll Before exit sign-rows small-signs moves
   sign-keeps least v σs f [] h = ((λ p le. Fits.none), (λ τs x. ((λ p le. fits-append f x), (λ τs y. y))))
   sign-keeps least v σs f (sign k o ∷ rest) h =
@@ -62,7 +66,7 @@ module _ (prefix : ℕ) where
       sign-keeps least v σs f rest (and-right (leb o 3) (small-signs rest) h)
 
   operator-keeps : (least : ℕ) (v : View) → v .start ≤ v .stop → (σs : List Sort) → Fits σs (Sort.expression ∷ []) → (xs : List Operator) → T (small-operators xs)
-      → KeepsAll (v .kind) (v .before) (v .stop) (After (infix-tail least)) σs (operator-rows least v xs)
+      → KeepsAll (v .kind) (v .before) (v .stop) (AfterFrom (v .kind) (infix-tail least)) σs (operator-rows least v xs)
   unfolding Keeps KeepsAt KeepsAll Before exit operator-rows small-operators moves
   operator-keeps least v z σs f [] h = f
   operator-keeps least v z σs f (op k g l r o ∷ rest) h =
@@ -143,11 +147,29 @@ module _ (prefix : ℕ) where
         let c = eqb (v .kind₂) R-BRACK in
         a-name w₁ (and-right a b (and-left (a && b) c (and-left (a && b && c) (eqb (v .kind₃) COLON) t)))
 
+    -- What a field begins with is neither `local` nor `assert`.
+    field-kind : (k : ℕ) → ((c : ℕ) → with-member c k ≡ with-field c) → T (eqb (v .kind) k) → (c : ℕ) → with-member c (v .kind) ≡ with-field c
+    field-kind k e t c = subst (λ (j : ℕ). with-member c j ≡ with-field c) (sym (eqb→eq (v .kind) k t)) (e c)
+
+    string-kind : T (is-string v) → (c : ℕ) → with-member c (v .kind) ≡ with-field c
+    unfolding with-member
+    string-kind t =
+        let k = v .kind in
+        let a = eqb k STRING-DOUBLE in
+        let b = eqb k STRING-SINGLE in
+        let d = eqb k STRING-DOUBLE-VERBATIM in
+        let e = eqb k STRING-SINGLE-VERBATIM in
+        either (a || b || d || e) (eqb k STRING-BLOCK) t
+        (λ t. either (a || b || d) e t
+        (λ t. either (a || b) d t
+        (λ t. either a b t (field-kind STRING-DOUBLE (λ c. refl)) (field-kind STRING-SINGLE (λ c. refl)))
+        (field-kind STRING-DOUBLE-VERBATIM (λ c. refl))) (field-kind STRING-SINGLE-VERBATIM (λ c. refl))) (field-kind STRING-BLOCK (λ c. refl))
+
     abbrev pub Kept : Phrase → Type 0
-    Kept q = Before q (v .before) σs → KeepsAll (v .kind) (v .before) (v .stop) (After q) σs (rule prefix q v)
+    Kept q = Before q (v .before) σs → KeepsAll (v .kind) (v .before) (v .stop) (AfterFrom (v .kind) q) σs (rule prefix q v)
 
     pub keeps : (q : Phrase) → Kept q
-    unfolding rule signs operators Keeps KeepsAt KeepsAll Before exit moves times small-signs small-operators
+    unfolding rule signs operators Keeps KeepsAt KeepsAll Before exit moves times small-signs small-operators with-member
     keeps (expr a) f =
         sign-keeps a v σs f signs tt
     keeps (infix-tail a) f =
@@ -251,11 +273,11 @@ module _ (prefix : ℕ) where
         ((λ p le. Fits.none), (λ τs x. ((λ p le. (suc (b .0), fits-last (b .0) Sort.expression [] (b .1) x)), (λ τs y. y))))
     keeps inside f =
         (λ t. (Sort.object, _, Form.r9, f, one)) also
-        ((λ p le. no-field 0 f), (λ τs y. y))
-    keeps (member c) b =
-        (λ t. ((λ p le. Fits.none), (λ τs x. ((λ p le. add-bind b x), (λ τs y. y))))) also
-        (λ t. ((λ p le. Fits.none), (λ τs x. ((λ p le. add-assert b x), (λ τs y. y))))) also
-        ((λ p le. Fits.none), (λ τs x. ((λ p le. add-field b x), (λ τs y. y))))
+        ((λ p le. Fits.none), (λ τs x. ((λ p le. x .adds 4 σs (no-field 0 f)), (λ τs y. y))))
+    keeps member f =
+        (λ t. ((λ p le. Fits.none), (λ τs x. bind-from t (fits-append f x)))) also
+        (λ t. ((λ p le. Fits.none), (λ τs x. assertion-from t (fits-append f x)))) also
+        ((λ p le. Fits.none), (λ τs x. field-from (x .0) (fits-append f (x .1))))
     keeps (members c) b =
         (λ t. ((λ p le. b), (λ τs y. y))) also
         (λ t. ((λ p le. b), (λ τs y. y))) also
@@ -263,16 +285,16 @@ module _ (prefix : ℕ) where
     keeps (next-member c) b =
         (λ t. (let m = all-members b in (Sort.object, _, counted Sort.member (λ k. number k ∷ []) m Form.r9, m .1, one))) also
         (λ t. ((λ p le. b), (λ τs y. y))) also
-        ((λ p le. b), (λ τs y. y))
+        ((λ p le. Fits.none), (λ τs x. ((λ p le. x .adds c σs b), (λ τs y. y))))
     keeps (comprehension c) b =
         (λ t. comprehend (subst (λ (m : ℕ). Members m σs) (eqb→eq c 0 t) b)) also
         ((λ p le. Fits.none), (λ τs x. tt))
     keeps (comprehension-end m) b =
         (Sort.object, _, comprehension-form (b .0) (b .1) (b .2) m (b .3) (b .4), b .4, one)
     keeps field f =
-        (λ t. (Sort.string, Form.r5 (a-text w), ((λ p le. (Sort.string, Name.fixed, omega arith, fits-append f one)), (λ τs y. y)))) also
-        (λ t. ((λ p le. Fits.none), (λ τs x. ((λ p le. (Sort.string, Name.fixed, omega arith, fits-append f x)), (λ τs y. y))))) also
-        (λ t. ((λ p le. Fits.none), (λ τs x. ((λ p le. (Sort.expression, Name.computed, omega arith, fits-append f x)), (λ τs y. y))))) also
+        (λ t. (Sort.string, Form.r5 (a-text w), ((λ p le. (Sort.string, Name.fixed, omega arith, fits-append f one)), (λ τs y. (field-kind IDENT (λ c. refl) t, y))))) also
+        (λ t. ((λ p le. Fits.none), (λ τs x. ((λ p le. (Sort.string, Name.fixed, omega arith, fits-append f x)), (λ τs y. (string-kind t, y)))))) also
+        (λ t. ((λ p le. Fits.none), (λ τs x. ((λ p le. (Sort.expression, Name.computed, omega arith, fits-append f x)), (λ τs y. (field-kind L-BRACK (λ c. refl) t, y)))))) also
         tt
     keeps (field-named c a) b =
         (λ t. ((λ p le. (0, Fits.none)), (λ τs x. ((λ p le. (b .0, x .0, b .1, Method.method, b .2, fits-append (b .3) (x .1))), (λ τs y. y))))) also

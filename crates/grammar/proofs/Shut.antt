@@ -15,7 +15,7 @@ use Rattle.lexemes.specs.Texts.{plain}
 use Rattle.grammar.specs.Trees.{_⊕_, count}
 use Rattle.grammar.specs.Image.{payload, entry, image}
 use Rattle.grammar.specs.Lexemes.{good, said}
-use Rattle.grammar.specs.Productions.{rule, with-field, with-assert}
+use Rattle.grammar.specs.Productions.{rule, with-field, with-assert, with-member}
 use Rattle.grammar.specs.Reading.{has, choose, view, production}
 use Rattle.grammar.specs.Answer.{document-01, Answer, Verdict, verdict, Judged, answer, output}
 use Rattle.grammar.specs.Source.{Bad, Kept, Reads01}
@@ -46,16 +46,16 @@ defined : {source : List ℕ} (room : ℕ) {v : Verdict} → Judged Bad Kept doc
 defined room {v} j = record { found = v; judged = j; answered = refl; written = refl }
 
 on-none : (room : ℕ) → Defined 0 [] room (record { number = 7; start = 0; stop = 0; detail = 0; size = 0 }) (replicate room 0)
-unfolding lex rules firstBad keep lexemes.bad lexemes.dropped no-strings no-string words word-at plain low run after production choose rule view has _⊕_ count with-field with-assert good said verdict answer output
+unfolding lex rules firstBad keep lexemes.bad lexemes.dropped no-strings no-string words word-at plain low run after production choose rule view has _⊕_ count with-field with-assert with-member good said verdict answer output
 on-none room = defined room (plainly 0 [] _ _ tt tt tt refl refl tt refl)
 
 on-one : (room : ℕ) → Defined 0 one room (record { number = cond (leb 4 room) 0 12; start = 0; stop = 0; detail = 0; size = 4 })
     (cond (leb 4 room) ((0x04 ∷ 0x00 ∷ 0x01 ∷ 0x31 ∷ []) ++ replicate (room - 4) 0) (replicate room 0))
-unfolding lex rules firstBad keep lexemes.bad lexemes.dropped no-strings no-string words word-at plain low run after production choose rule view has _⊕_ count with-field with-assert good said image entry payload verdict answer output
+unfolding lex rules firstBad keep lexemes.bad lexemes.dropped no-strings no-string words word-at plain low run after production choose rule view has _⊕_ count with-field with-assert with-member good said image entry payload verdict answer output
 on-one room = defined room (plainly 0 one _ _ tt tt tt refl refl tt refl)
 
 on-one-two : (room : ℕ) → Defined 0 one-two room (record { number = 5; start = 2; stop = 3; detail = 1; size = 0 }) (replicate room 0)
-unfolding lex rules firstBad keep lexemes.bad lexemes.dropped no-strings no-string words word-at plain low run after production choose rule view has _⊕_ count with-field with-assert good said verdict answer output
+unfolding lex rules firstBad keep lexemes.bad lexemes.dropped no-strings no-string words word-at plain low run after production choose rule view has _⊕_ count with-field with-assert with-member good said verdict answer output
 on-one-two room = defined room (plainly 0 one-two _ _ tt tt tt refl refl tt refl)
 
 same : {s : ℕ} {source : List ℕ} {room : ℕ} {a a′ : Answer} {out out′ : List ℕ} → Defined s source room a out → Defined s source room a′ out′ → (a ≡ a′) × (out ≡ out′)

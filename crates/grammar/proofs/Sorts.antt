@@ -4,11 +4,13 @@ use mathlib.Core.Path.{_≡_, refl, sym, ap, subst, _∙_}
 use mathlib.Core.List.{List, [], _∷_, _++_, append-assoc, append-nil}
 use Prim.Native.Nat.{ℕ, zero, suc, _+_, _≤_}
 use native.Mathlib.Omega.{arith}
+use lib.Dec.{T, eqb, eqb→eq}
 use lib.ListN.{length}
+use Rattle.lexemes.specs.Kinds.{LOCAL-KW, ASSERT-KW}
 use Rattle.grammar.specs.Tags.{SLICE}
 use Rattle.grammar.specs.Trees.{Field, byte, span, count}
 use Rattle.grammar.specs.Lexemes.{rest}
-use Rattle.grammar.specs.Productions.{end, row, otherwise, with-field, with-assert}
+use Rattle.grammar.specs.Productions.{end, row, otherwise, with-field, with-assert, with-member}
 use Rattle.grammar.specs.Productions.{argument, string}
 use Rattle.grammar.specs.Productions.{member, members, comprehension, field}
 use Rattle.grammar.specs.Productions.{bind, assertion}
@@ -197,6 +199,31 @@ add-field (no-field n f) g = one-field n 0 (fits-append f g)
 add-field (one-field a b f) g = two-fields (suc (a + suc b)) (fits-last (a + suc b) Sort.member [] (field-members a b f) (field-member g))
 add-field (two-fields n f) g = two-fields (suc n) (fits-last n Sort.member [] f (field-member g))
 add-field (an-assert n f) g = an-assert (suc n) (fits-last n Sort.member [] f (field-member g))
+
+-- A member that began at a kind, and what it is to those before it.
+pub record MemberFrom (k : ℕ) (τs : List Sort) : Type 0 where
+  pub fits : Fits τs (Sort.member ∷ [])
+  pub adds : (c : ℕ) (σs : List Sort) → Members c σs → Members (with-member c k) (σs ++ τs)
+
+pub bind-from : {k : ℕ} {τs : List Sort} → T (eqb k LOCAL-KW) → Fits τs (Sort.bind ∷ []) → MemberFrom k τs
+unfolding with-member
+bind-from {k} {τs} t f =
+    record {
+      fits = local-member f;
+      adds = λ c σs m. subst (λ (j : ℕ). Members (with-member c j) (σs ++ τs)) (sym (eqb→eq k LOCAL-KW t)) (add-bind m f);
+    }
+
+pub assertion-from : {k : ℕ} {τs : List Sort} → T (eqb k ASSERT-KW) → Fits τs (Sort.assertion ∷ []) → MemberFrom k τs
+unfolding with-member
+assertion-from {k} {τs} t f =
+    record {
+      fits = assertion-member f;
+      adds = λ c σs m. subst (λ (j : ℕ). Members (with-member c j) (σs ++ τs)) (sym (eqb→eq k ASSERT-KW t)) (add-assert m f);
+    }
+
+pub field-from : {k : ℕ} {τs : List Sort} → ((c : ℕ) → with-member c k ≡ with-field c) → Fits τs (Sort.field ∷ []) → MemberFrom k τs
+field-from {k} {τs} e f =
+    record { fits = field-member f; adds = λ c σs m. subst (λ (j : ℕ). Members j (σs ++ τs)) (sym (e c)) (add-field m f) }
 
 pub next-is : (n : ℕ) → suc n ≡ n + 1
 next-is n = omega arith

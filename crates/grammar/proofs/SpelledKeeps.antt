@@ -22,8 +22,8 @@ use Rattle.grammar.proofs.SpelledSuffixes.{spells-member, spells-index,
 use Rattle.grammar.proofs.SpelledSuffixes.{without-step, with-no-step, with-step, spells-slice, each-arguments, last-arguments, comma-behind}
 use Rattle.grammar.proofs.SpelledSuffixes.{no-arguments, positional, by-name, spells-call, safe, safe-open, safe-indexed, dotted, safely}
 use Rattle.grammar.proofs.SpelledSuffixes.{bracketed, indexed, stepping, called}
-use Rattle.grammar.proofs.SpelledMembers.{spells-array-comprehension, each-members, last-members, member-comma, add-local, add-assert}
-use Rattle.grammar.proofs.SpelledMembers.{add-field, to-clauses, spells-object-comprehension, spells-field, with-params, spells-value}
+use Rattle.grammar.proofs.SpelledMembers.{spells-array-comprehension, each-members, last-members, member-comma, a-local-member}
+use Rattle.grammar.proofs.SpelledMembers.{an-assert-member, a-field-member, to-clauses, spells-object-comprehension, spells-field, with-params, spells-value}
 use Rattle.grammar.proofs.SpelledMembers.{spells-function, with-key, spells-iteration, add-guard, braced, extend, spells-literal}
 use Rattle.grammar.proofs.SpelledMembers.{comprehending, comprehended, each-local, inside, headed, headed-method, a-name, iffed}
 use Rattle.grammar.proofs.SpelledMembers.{functioned, header, visible, guarded}
@@ -179,25 +179,18 @@ module _ (R : Rules) where
         (λ n1. ((λ d. fresh), (λ us ys a. (behind k (last e (inner a)), (λ us ys y. y)))))
     keeps Phrase.inside p x₀ xs ts fresh =
         if-fits (λ t h. inside (λ w y k j. Spells.members k (Spells.row-shut Spells.each-none) j) refl)
-        (λ n1. ((Spells.each-none, each-local Spells.each-none), (λ us ys y. y)))
-    keeps (Phrase.member c) p x₀ xs ts (e, m) =
-        if-fits (λ t h. (
-          tt,
-          (λ k. (
-            fresh,
-            (λ us ys a. (
-              (last e (Spells.local-member (Spells.a-local k a)), add-local R m (Spells.a-local k a)),
-              (λ us ys y. y),
-            )),
-          )),
-        )) (λ n1. if-fits (λ t h. (fresh, (λ us ys a. ((last e (Spells.assert-member a), add-assert R m a), (λ us ys y. y)))))
-        (λ n2. (fresh, (λ us ys a. ((last e (Spells.field-member a), add-field R m a), (λ us ys y. y))))))
+        (λ n1. (fresh, (λ us ys a. ((last Spells.each-none (a .spelled), a .adds 4 x₀ none (each-local Spells.each-none)), (λ us ys y. y)))))
+    keeps Phrase.member p x₀ xs ts fresh =
+        if-fits (λ t h. (tt, (λ k. (fresh, (λ us ys a. a-local-member R t (Spells.a-local k a))))))
+        (λ n1. if-fits (λ t h. (fresh, (λ us ys a. an-assert-member R t a)))
+        (λ n2. (fresh, (λ us ys a. a-field-member R (λ t. n1 t tt) (λ t. n2 t tt) a))))
     keeps (Phrase.members c) p x₀ xs ts (l, m) =
         if-fits (λ t h. (tt, (λ k. ((shut R l k, member-comma R m k), (λ us ys y. y)))))
         (λ n1. if-fits (λ t h. (last-members R m, (λ us ys y. y))) (λ n2. inside (λ w y k j. Spells.members k (as-row R l) j) refl))
     keeps (Phrase.next-member c) p x₀ xs ts (e, m) =
         if-fits (λ t h. inside (λ w y k j. Spells.members k (Spells.row-shut e) j) refl)
-        (λ n1. if-fits (λ t h. (each-members R m, (λ us ys y. y))) (λ n2. ((e, m), (λ us ys y. y))))
+        (λ n1. if-fits (λ t h. (each-members R m, (λ us ys y. y)))
+        (λ n2. (fresh, (λ us ys a. ((last e (a .spelled), a .adds c x₀ ts m), (λ us ys y. y))))))
     keeps (Phrase.comprehension c) p x₀ xs ts m = if-fits (λ t h. (fresh, (λ us ys a. (to-clauses R t m a, (λ us ys y. y))))) (λ n1. (fresh, (λ us ys a. tt)))
     keeps (Phrase.comprehension-end m) p x₀ xs ts d = inside (λ w y k j. spells-object-comprehension R d k j) refl
     keeps Phrase.field p x₀ xs ts fresh =

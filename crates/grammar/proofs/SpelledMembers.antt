@@ -7,17 +7,17 @@ use Prim.Native.Nat.{ℕ, suc, _-_}
 use native.Mathlib.Omega.{arith}
 use lib.Dec.{T, T-not, eqb, eqb→eq}
 use Rattle.lexemes.specs.Kinds.{PLUS, L-BRACK, R-BRACK, L-PAREN, R-PAREN, L-BRACE, R-BRACE, COMMA, ASSIGN, IDENT}
-use Rattle.lexemes.specs.Kinds.{IF-KW, THEN-KW, FUNCTION-KW, IN-KW}
+use Rattle.lexemes.specs.Kinds.{LOCAL-KW, IF-KW, THEN-KW, FUNCTION-KW, IN-KW, ASSERT-KW}
 use Rattle.grammar.specs.Tags.{STRING, ARRAY-COMP, OBJECT-COMP, EXTENSION, BIND, NAME-PATTERN, FIELD, IF-CLAUSE, OBJECT-ITERATION}
 use Rattle.grammar.specs.Trees.{byte, number, span, text, Trees, none, node, tree, _⊕_, count}
 use Rattle.grammar.specs.Lexemes.{Said, says, nothing, good, said, rest, kind-of, word-of}
-use Rattle.grammar.specs.Productions.{exp-object-iteration, with-field, with-assert}
+use Rattle.grammar.specs.Productions.{exp-object-iteration, with-field, with-assert, with-member}
 use Rattle.grammar.specs.Reading.{has}
 use Rattle.grammar.specs.Spells.{Lexemes, _is_saying_then_, _is_then_, Perhaps, Colons, Quoted, Open, Spells}
 use Rattle.grammar.specs.Spells.{Category as C}
 use Rattle.grammar.proofs.ImageLaws.{count-row}
 use Rattle.grammar.proofs.Alike.{⊕-none, ⊕-assoc, same}
-use Rattle.grammar.proofs.LexemeForms.{told, quoted-is}
+use Rattle.grammar.proofs.LexemeForms.{Not, told, quoted-is, field-fault}
 use Rattle.grammar.proofs.SpelledStates.{Sp, retree, One, Over, plain, just, Last, shut, as-row, Rules, one, last}
 
 one-less : (t cs : Trees) → count t ≡ 1 → count cs ≡ count (t ⊕ cs) - 1
@@ -122,6 +122,34 @@ module _ (R : Rules) where
       by true b e e′ = absurd (subst (λ (m : ℕ). T (eqb m 2 || eqb m 3)) (eqb→eq c 4 (subst T (sym e) tt)) h)
       by false true e e′ = tt
       by false false e e′ = h
+
+  -- A member by itself, and what it is to those before it.
+  pub record AMember (x₀ : Lexemes) (t : Trees) (x : Lexemes) : Type 0 where
+    pub spelled : Sp R C.member x₀ t x
+    pub adds : (c : ℕ) (y₀ : Lexemes) (ts : Trees) → EachMember c y₀ ts x₀ → LastMember (with-member c (kind-of x₀)) y₀ (ts ⊕ t) x
+
+  pub a-local-member : {x₀ x : Lexemes} {t : Trees} → T (eqb (kind-of x₀) LOCAL-KW) → Sp R C.local x₀ t x → AMember x₀ t x
+  unfolding with-member
+  a-local-member {x₀} {x} {t} h l =
+      record {
+        spelled = Spells.local-member l;
+        adds = λ c y₀ ts m. subst (λ (k : ℕ). LastMember (with-member c k) y₀ (ts ⊕ t) x) (sym (eqb→eq (kind-of x₀) LOCAL-KW h)) (add-local m l);
+      }
+
+  pub an-assert-member : {x₀ x : Lexemes} {t : Trees} → T (eqb (kind-of x₀) ASSERT-KW) → Sp R C.assertion x₀ t x → AMember x₀ t x
+  unfolding with-member
+  an-assert-member {x₀} {x} {t} h a =
+      record {
+        spelled = Spells.assert-member a;
+        adds = λ c y₀ ts m. subst (λ (k : ℕ). LastMember (with-member c k) y₀ (ts ⊕ t) x) (sym (eqb→eq (kind-of x₀) ASSERT-KW h)) (add-assert m a);
+      }
+
+  pub a-field-member : {x₀ x : Lexemes} {t : Trees} → Not (kind-of x₀) LOCAL-KW → Not (kind-of x₀) ASSERT-KW → Sp R C.field x₀ t x → AMember x₀ t x
+  a-field-member {x₀} {x} {t} n n′ f =
+      record {
+        spelled = Spells.field-member f;
+        adds = λ c y₀ ts m. subst (λ (i : ℕ). LastMember i y₀ (ts ⊕ t) x) (sym (field-fault c (kind-of x₀) n n′)) (add-field m f);
+      }
 
   -- And the clauses.
   pub data WithClauses (m : ℕ) : Lexemes → Trees → Lexemes → Type 0 where

@@ -15,7 +15,7 @@ use Rattle.grammar.specs.Spells.{Category as C}
 use Rattle.grammar.proofs.SpelledStates.{Sp, One, Over, plain, Tail, Last, Rules, rules, Fresh, Opened, Behind}
 use Rattle.grammar.proofs.SpelledSuffixes.{Safe, SafeOpen, SafeIndexed, Dotted, Bracketed, Indexed, Halved, Sliced, Stepped, Stepping}
 use Rattle.grammar.proofs.SpelledSuffixes.{EachArgument, LastArgument, Arguments, Called}
-use Rattle.grammar.proofs.SpelledMembers.{Comprehending, Comprehended, EachMember, LastMember, Members, WithClauses, Inside, Headed, Signed}
+use Rattle.grammar.proofs.SpelledMembers.{Comprehending, Comprehended, EachMember, LastMember, AMember, Members, WithClauses, Inside, Headed, Signed}
 use Rattle.grammar.proofs.SpelledMembers.{Iffed, Functioned, Keyed, Visible, Guarded, Header, Named}
 use Rattle.grammar.proofs.SpelledPatterns.{deeper, Starts, Dots, Rested, Behind-rest, Closing, Shutting, Into, Defaulting, Defaulted, Entry}
 
@@ -51,7 +51,7 @@ module _ (R : Rules) where
   After Phrase.elements x₀ ts x = One R C.basic x₀ ts x
   After Phrase.next-element x₀ ts x = One R C.basic x₀ ts x
   After Phrase.inside x₀ ts x = Inside R x₀ ts x
-  After (Phrase.member c) x₀ ts x = Inside R x₀ ts x
+  After Phrase.member x₀ ts x = AMember R x₀ ts x
   After (Phrase.members c) x₀ ts x = Inside R x₀ ts x
   After (Phrase.next-member c) x₀ ts x = Inside R x₀ ts x
   After (Phrase.comprehension c) x₀ ts x = Inside R x₀ ts x
@@ -133,7 +133,7 @@ module _ (R : Rules) where
   Before Phrase.elements x₀ ts x = Behind L-BRACK (Last R (C.expr 0)) x₀ ts x
   Before Phrase.next-element x₀ ts x = Behind L-BRACK (Sp R (C.each (C.expr 0))) x₀ ts x
   Before Phrase.inside x₀ ts x = Fresh x₀ ts x
-  Before (Phrase.member c) x₀ ts x = Sp R (C.each C.member) x₀ ts x × EachMember R c x₀ ts x
+  Before Phrase.member x₀ ts x = Fresh x₀ ts x
   Before (Phrase.members c) x₀ ts x = Last R C.member x₀ ts x × LastMember R c x₀ ts x
   Before (Phrase.next-member c) x₀ ts x = Sp R (C.each C.member) x₀ ts x × EachMember R c x₀ ts x
   Before (Phrase.comprehension c) x₀ ts x = Members R c x₀ ts x

@@ -55,7 +55,7 @@ about array-comp-end = traits 0 1 true
 about elements = traits 0 1 true
 about next-element = traits 1 0 true
 about inside = traits 4 0 false
-about (member a) = traits 3 0 true
+about member = traits 3 0 true
 about (members a) = traits 2 1 false
 about (next-member a) = traits 4 0 false
 about (comprehension a) = traits 1 0 true
@@ -283,7 +283,7 @@ module _ (prefix : ℕ) where
   facts elements v = plain tt
   facts next-element v = plain tt
   facts inside v = plain tt
-  facts (member a) v = plain tt
+  facts member v = plain tt
   facts (members a) v = plain tt
   facts (next-member a) v = plain tt
   facts (comprehension a) v = plain tt

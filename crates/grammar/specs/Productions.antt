@@ -34,8 +34,8 @@ pub data Phrase : Type 0 where
   named-argument : Phrase
   basic string : Phrase
   array array-first array-comp array-comp-end elements next-element : Phrase
-  inside : Phrase
-  member members next-member comprehension : ℕ → Phrase  -- the fault of a comprehension of these members, 0 for none
+  inside member : Phrase
+  members next-member comprehension : ℕ → Phrase  -- the fault of a comprehension of these members, 0 for none
   comprehension-end : ℕ → Phrase  -- how many members
   field : Phrase
   field-named : ℕ → ℕ → Phrase  -- computed, where the name began
@@ -208,6 +208,10 @@ with-field c = elim (eqb c 4) [ true ↦ 0 | false ↦ elim (eqb c 0) [ true ↦
 unfoldable pub with-assert : ℕ → ℕ
 with-assert c = elim (eqb c 2) [ true ↦ 2 | false ↦ 3 ]
 
+-- With one member more, by the kind that it begins with: a local leaves the fault as it is.
+unfoldable pub with-member : ℕ → ℕ → ℕ
+with-member c k = elim (eqb k LOCAL-KW) [ true ↦ c | false ↦ elim (eqb k ASSERT-KW) [ true ↦ with-assert c | false ↦ with-field c ] ]
+
 -- ── The productions ───────────────────────────────────────────────────────────────────────────────
 
 -- expr
@@ -320,14 +324,15 @@ rule prefix elements v =
 rule prefix next-element v =
     v at R-BRACK ⟹ eat R-BRACK ▸ close ARRAY (number (v .count) ∷ []) ▸ end
     ∣ otherwise (expression ▸ goto elements)
--- objinside, member: between the braces
+-- member
+rule prefix member v =
+    v at LOCAL-KW ⟹ eat LOCAL-KW ▸ sub bind ▸ end
+    ∣ v at ASSERT-KW ⟹ sub assertion ▸ end
+    ∣ otherwise (sub field ▸ end)
+-- objinside: between the braces
 rule prefix inside v =
     v at R-BRACE ⟹ close MEMBERS (number 0 ∷ []) ▸ end
-    ∣ otherwise (goto (member 4))
-rule prefix (member c) v =
-    v at LOCAL-KW ⟹ eat LOCAL-KW ▸ sub bind ▸ goto (members c)
-    ∣ v at ASSERT-KW ⟹ sub assertion ▸ goto (members (with-assert c))
-    ∣ otherwise (sub field ▸ goto (members (with-field c)))
+    ∣ otherwise (sub member ▸ goto (members (with-member 4 (v .kind))))
 rule prefix (members c) v =
     v at COMMA ⟹ eat COMMA ▸ goto (next-member c)
     ∣ v at FOR-KW ⟹ goto (comprehension c)
@@ -335,7 +340,7 @@ rule prefix (members c) v =
 rule prefix (next-member c) v =
     v at R-BRACE ⟹ close MEMBERS (number (v .count) ∷ []) ▸ end
     ∣ v at FOR-KW ⟹ goto (comprehension c)
-    ∣ otherwise (goto (member c))
+    ∣ otherwise (sub member ▸ goto (members (with-member c (v .kind))))
 -- "Comprehension faults (8) come after its last clause"
 rule prefix (comprehension c) v =
     when eqb c 0 ⟹ sub clauses ▸ goto (comprehension-end (v .count))

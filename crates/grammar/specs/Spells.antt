@@ -5,8 +5,8 @@
 -- lexeme of kind k. `anywhere` asks nothing, and the grammar is as ambiguous as the language; `greedily` is 01's sentence "Each phrase takes
 -- the next lexeme whenever that can continue the innermost open phrase."
 -- For a whole source three open phrases decide between trees: operations (`-a*b`), suffixes (`error a.b`) and `optional ELSE-KW` (`if a then if
--- b then c else d`). Every other `optional` kind stands only where nothing but its own form may have it, and so decides nothing; asked for
--- there, each form is judged by itself, without what may follow it.
+-- b then c else d`). Every other `optional` kind stands only where nothing but its own form may have it, and so decides nothing (which is not
+-- proved); asked for there, each form is judged by itself, without what may follow it.
 -- Depth is the number in front: how many levels are left. A form hands it on; an expression, a pattern with brackets and the header `[k]:` take one.
 -- Assumes nothing.
 use mathlib.Core.Path.{_≡_}

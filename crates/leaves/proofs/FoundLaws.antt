@@ -3,11 +3,12 @@
 use mathlib.Core.Path.{_≡_, refl, sym, ap, subst, _∙_}
 use mathlib.Core.Bool.{Bool, true, false, cond, _&&_, _||_}
 use mathlib.Core.List.{List, [], _∷_}
-use Prim.Native.Nat.{ℕ, _/_, _%_}
+use Prim.Native.Nat.{ℕ}
 use native.Mathlib.Omega.{arith}
 use lib.Dec.{eqb}
-use borrow.Author.Tests.{eqb-true, eq-eqb, ne-eqb}
-use Rattle.grammar.specs.Productions.{with-field, with-assert, Switch, always, exp-destruct, exp-object-iteration, exp-null-coaelse, Operator, op, operators}
+use borrow.Author.Tests.{eqb-true, ne-eqb}
+use Rattle.lexemes.specs.Kinds.{LOCAL-KW, ASSERT-KW}
+use Rattle.grammar.specs.Productions.{with-field, with-assert, with-member, Switch, always, exp-destruct, exp-object-iteration, exp-null-coaelse, Operator, op, operators}
 use Rattle.grammar.specs.Reading.{has}
 use Rattle.leaves.specs.Operators.{infix-in, infix-under}
 use Rattle.grammar.specs.Operators.{infix-of, operator-in}
@@ -22,6 +23,21 @@ same-fault c a b = sym (pick-no (eqb c 4) 0 (elim (eqb c 0) [ true ↦ 2 | false
 pub assert-fault : (c : ℕ) → ¬ (c ≡ 2) → 3 ≡ with-assert c
 unfolding with-assert
 assert-fault c a = sym (pick-no (eqb c 2) 2 3 (ne-eqb c 2 a))
+
+-- a member's part in it, by the kind that it begins with
+pub local-fault : (c k : ℕ) → k ≡ LOCAL-KW → c ≡ with-member c k
+unfolding with-member
+local-fault c k e = subst (λ (m : ℕ). c ≡ with-member c m) (sym e) refl
+
+pub assert-member-fault : (c k : ℕ) → k ≡ ASSERT-KW → with-assert c ≡ with-member c k
+unfolding with-member
+assert-member-fault c k e = subst (λ (m : ℕ). with-assert c ≡ with-member c m) (sym e) refl
+
+pub field-member-fault : (c k : ℕ) → ¬ (k ≡ LOCAL-KW) → ¬ (k ≡ ASSERT-KW) → with-field c ≡ with-member c k
+unfolding with-member
+field-member-fault c k a b =
+    sym (pick-no (eqb k LOCAL-KW) c (elim (eqb k ASSERT-KW) [ true ↦ with-assert c | false ↦ with-field c ]) (ne-eqb k LOCAL-KW a)
+    ∙ pick-no (eqb k ASSERT-KW) (with-assert c) (with-field c) (ne-eqb k ASSERT-KW b))
 
 -- ── Binary operators under a setting ──────────────────────────────────────────────────────────────
 
@@ -67,12 +83,12 @@ pub same-infix : (g k : ℕ) → ¬ (k ≡ 3) → infix-of k ≡ infix-under g k
 unfolding infix-of infix-under usual is-always operators
 same-infix g k n = same-in g k operators refl n
 
-pub switched-on : (g k : ℕ) → k ≡ 3 → g / 4 % 2 ≡ 1 → Binary 18 2 3 ≡ infix-under g k
+pub switched-on : (g k : ℕ) → k ≡ 3 → has g exp-null-coaelse ≡ true → Binary 18 2 3 ≡ infix-under g k
 unfolding infix-under infix-in has operators
 switched-on g k e h =
-    subst (λ (m : ℕ). Binary 18 2 3 ≡ infix-under g m) (sym e) (sym (ap (λ (t : Bool). cond t (Binary 18 2 3) NoInfix) (eq-eqb (g / 4 % 2) 1 h)))
+    subst (λ (m : ℕ). Binary 18 2 3 ≡ infix-under g m) (sym e) (sym (ap (λ (t : Bool). cond t (Binary 18 2 3) NoInfix) h))
 
-pub switched-off : (g k : ℕ) → k ≡ 3 → ¬ (g / 4 % 2 ≡ 1) → NoInfix ≡ infix-under g k
+pub switched-off : (g k : ℕ) → k ≡ 3 → has g exp-null-coaelse ≡ false → NoInfix ≡ infix-under g k
 unfolding infix-under infix-in has operators
 switched-off g k e h =
-    subst (λ (m : ℕ). NoInfix ≡ infix-under g m) (sym e) (sym (ap (λ (t : Bool). cond t (Binary 18 2 3) NoInfix) (ne-eqb (g / 4 % 2) 1 h)))
+    subst (λ (m : ℕ). NoInfix ≡ infix-under g m) (sym e) (sym (ap (λ (t : Bool). cond t (Binary 18 2 3) NoInfix) h))

@@ -15,7 +15,7 @@ use Rattle.grammar.specs.Reading.{choose}
 use Rattle.grammar.specs.Writing.{Wrote}
 use Rattle.grammar.specs.Productions.{Phrase, Body, end, goto, fail, _▸_, eat, leaf, rule, string, object-rest-end, object-pattern-close}
 use Rattle.leaves.specs.Lexing.{Stands, Moved, Past, past, same, Faulty, no-block, no-escape, Quoting, double, single, double-verbatim, single-verbatim, block, Quotes, quotes, none as no-quotes}
-use Rattle.leaves.specs.Meets.{Ready, State, state, Seg, Eats, Leads, sorted, power}
+use Rattle.leaves.specs.Meets.{Ready, State, state, Seg, Eats, Leads, power}
 use Rattle.leaves.proofs.LexemeLaws.{lies, sight}
 use Rattle.leaves.proofs.Steps
 use Rattle.leaves.proofs.PartLaws.{lent-short, wrote-lent}
@@ -135,10 +135,9 @@ any-size k st t h = omega (arith, h, lies st .from)
 -- a literal without a text
 pub bad-answer : {g : ℕ} {s : List ℕ} {d n w u m : ℕ} {b : Body} {c : Cursor} {o o₁ : List ℕ} {a : Answer} → Stands s c → 1 < c .kind
     → ((t : List ℕ) → Means s (c .kind) (c .start) (c .end) t → ⊥) → Faulty c a → Leads g s d (state (goto string) n c w o) u b m a o₁
-unfolding sorted
-bad-answer {g} {n = n} {c = c} st h f (no-block k e) = Steps.broke (Steps.fails st refl (meaningless (fail 10 0) st k (omega arith) f (λ xs. bad-block g c xs n) Steps.here)) e
+bad-answer {g} {n = n} {c = c} st h f (no-block k e) = Steps.broke (Steps.fails st (meaningless (fail 10 0) st k (omega arith) f (λ xs. bad-block g c xs n) Steps.here)) e
 bad-answer {g} {n = n} {c = c} st h f (no-escape k e) =
-    Steps.broke (Steps.fails st refl (meaningless (fail 9 0) st refl h f (λ xs. bad-string g c xs n (c .kind) k) Steps.here)) e
+    Steps.broke (Steps.fails st (meaningless (fail 9 0) st refl h f (λ xs. bad-string g c xs n (c .kind) k) Steps.here)) e
 
 -- ── Phrases of one lexeme ─────────────────────────────────────────────────────────────────────────
 
@@ -163,7 +162,7 @@ module _ {g : ℕ} {s : List ℕ} {d : ℕ} {q : Phrase} {n w w₁ j : ℕ} {c c
 
 -- a phrase that is broken off by rule
 module _ {g : ℕ} {s : List ℕ} {d : ℕ} {q : Phrase} {n w : ℕ} {c : Cursor} {o o₁ : List ℕ} where
-  pub one-fault : {m x u k : ℕ} {b : Body} {a : Answer} → Stands s c → sorted m x ≡ true
+  pub one-fault : {m x u k : ℕ} {b : Body} {a : Answer} → Stands s c
       → ((xs : List Lexeme) (t : Said) → choose g (rule (power g) q (sight c xs n (c .kind) t)) ≡ fail m x) → a ≡ Broken (record { number = m; place = c; detail = x })
       → Leads g s d (state (goto q) n c w o) u b k a o₁
-  one-fault {m} {x} st h r e = Steps.broke (Steps.fails st h (Steps.known (fail m x) st refl r Steps.here)) e
+  one-fault {m} {x} st r e = Steps.broke (Steps.fails st (Steps.known (fail m x) st refl r Steps.here)) e

@@ -3,10 +3,10 @@
 use mathlib.Core.Path.{_≡_, refl, ap, subst⁻¹, _∙_}
 use mathlib.Core.Bool.{Bool, true, false}
 use mathlib.Core.List.{List, [], _∷_}
-use Prim.Native.Nat.{ℕ, _+_, _-_, _%_}
+use Prim.Native.Nat.{ℕ, _+_, _-_}
 use native.Mathlib.Omega.{arith}
 use lib.Dec.{eqb}
-use borrow.Author.Tests.{eq-eqb, ne-eqb}
+use borrow.Author.Tests.{ne-eqb}
 use Rattle.grammar.specs.Trees.{byte, number, span, text}
 use Rattle.grammar.specs.Lexemes.{Lexeme, Said, says, nothing, good, said}
 use Rattle.grammar.specs.Productions.{Phrase, Body, end, goto, fail, _▸_, eat, leaf, sub, deep, close, rule, exp-destruct, row, Table, otherwise, _∣_}
@@ -78,10 +78,9 @@ module _ (g : ℕ) (c : Cursor) (xs : List Lexeme) (n : ℕ) where
   off-row true b rest e = rw (e, choose) refl
   off-row false b rest e = refl
 
-  pub no-pattern : (k : ℕ) (t : Said) → ¬ (k ≡ 55) → ¬ (g % 2 ≡ 1) → is pattern k t ≡ fail 5 55
+  pub no-pattern : (k : ℕ) (t : Said) → ¬ (k ≡ 55) → has g exp-destruct ≡ false → is pattern k t ≡ fail 5 55
   unfolding choose rule sight has
-  no-pattern k t h i =
-      let off : has g exp-destruct ≡ false = ne-eqb (g % 2) 1 i in
+  no-pattern k t h off =
       let last = row exp-destruct true (fail 6 2) ∣ otherwise (fail 5 55) in
       let braces = row exp-destruct (eqb k 27) (deep object-pattern ▸ end) ∣ last in
       let brackets = row exp-destruct (eqb k 23) (deep array-pattern ▸ end) ∣ braces in
@@ -89,13 +88,13 @@ module _ (g : ℕ) (c : Cursor) (xs : List Lexeme) (n : ℕ) where
       (off-row (eqb k 36) (leaf 26 [] ▸ end) brackets off ∙ off-row (eqb k 23) (deep array-pattern ▸ end) braces off
       ∙ off-row (eqb k 27) (deep object-pattern ▸ end) last off ∙ off-row true (fail 6 2) (otherwise (fail 5 55)) off)
 
-  pub a-skip : (t : Said) → g % 2 ≡ 1 → is pattern 36 t ≡ leaf 26 [] ▸ end
+  pub a-skip : (t : Said) → has g exp-destruct ≡ true → is pattern 36 t ≡ leaf 26 [] ▸ end
   unfolding choose rule sight has
-  a-skip t i = rw (eq-eqb (g % 2) 1 i, choose) refl
+  a-skip t i = rw (i, choose) refl
 
-  pub bad-pattern : (k : ℕ) (t : Said) → ¬ (k ≡ 55) → g % 2 ≡ 1 → ¬ (k ≡ 36) → ¬ (k ≡ 23) → ¬ (k ≡ 27) → is pattern k t ≡ fail 6 2
+  pub bad-pattern : (k : ℕ) (t : Said) → ¬ (k ≡ 55) → has g exp-destruct ≡ true → ¬ (k ≡ 36) → ¬ (k ≡ 23) → ¬ (k ≡ 27) → is pattern k t ≡ fail 6 2
   unfolding choose rule sight has
-  bad-pattern k t h i a b d = simp (ne-eqb k 55 h, ne-eqb k 36 a, ne-eqb k 23 b, ne-eqb k 27 d) (rw (eq-eqb (g % 2) 1 i, choose) refl)
+  bad-pattern k t h i a b d = simp (ne-eqb k 55 h, ne-eqb k 36 a, ne-eqb k 23 b, ne-eqb k 27 d) (rw (i, choose) refl)
 
   -- ── Names of fields, strings ────────────────────────────────────────────────────────────────────
 

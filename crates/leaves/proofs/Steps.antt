@@ -16,7 +16,7 @@ use Rattle.grammar.specs.Writing.{Wrote}
 use Rattle.grammar.specs.Productions.{Phrase, Body, end, goto, fail, _▸_, Step, eat, leaf, sub, deep, close, rule}
 use Rattle.grammar.specs.Reading.{Outcome, done, broken, Reading, ended, failed, gone as read-gone, eaten, uneaten, leafed, closed as read-closed, subbed, unsubbed, deepened, undeepened, too-deep as read-too-deep, production, choose}
 use Rattle.leaves.specs.Lexing.{Left, Stands, Moved}
-use Rattle.leaves.specs.Meets.{power, Ready, State, state, Comes, Seg, Stops, sorted, Breaks, Led, Leads, Takes, TakesSome, Counted, Counts, Told, Tells, Eats}
+use Rattle.leaves.specs.Meets.{power, Ready, State, state, Comes, Seg, Stops, Breaks, Led, Leads, Takes, TakesSome, Counted, Counts, Told, Tells, Eats}
 use Rattle.grammar.proofs.ImageLaws.{image-row, count-row, image-close, image-leaf}
 use Rattle.leaves.proofs.LexemeLaws.{lies, Sees, sees, sight, seen, name-says}
 use Rattle.leaves.proofs.Answer.{the-type}
@@ -334,7 +334,6 @@ module _ {g : ℕ} {s : List ℕ} {d : ℕ} where
             let t = h .breaks (p .trees ts) (r .left) (p .counted ts z) (r .kept) in
             record { left = t .left; kept = t .kept; reading = r .back _ (t .reading) };
         stands = h .stands;
-        sort = h .sort;
       }
 
   -- the refusal of a function that leads on, takes a step, tells, or counts, is found by
@@ -384,18 +383,16 @@ module _ {g : ℕ} {s : List ℕ} {d : ℕ} where
   eat-last {a = Broken r} m h p = broke (breaks-on (refused (m .eats g d _ .takes end _) refl) p) refl
 
   -- a refusal by rule
-  pub fails : {from : State} {n e v m x w : ℕ} {c : Cursor} {o : List ℕ} → Stands s c → sorted m x ≡ true → Seg g s d from e v (state (fail m x) n c w o)
+  pub fails : {from : State} {n e v m x w : ℕ} {c : Cursor} {o : List ℕ} → Stands s c → Seg g s d from e v (state (fail m x) n c w o)
       → Breaks g s d from (record { number = m; place = c; detail = x })
-  fails st q p =
-      breaks-on (record { breaks = λ ts xs z h. record { left = xs; kept = h; reading = failed }; stands = st; sort = q }) p
+  fails st p = breaks-on (record { breaks = λ ts xs z h. record { left = xs; kept = h; reading = failed }; stands = st }) p
 
   -- a lexeme that is not there
   pub misses : {from : State} {b : Body} {n e v k w : ℕ} {c : Cursor} {o : List ℕ} → Stands s c → ¬ (c .kind ≡ k) → Seg g s d from e v (state (eat k ▸ b) n c w o)
       → Breaks g s d from (record { number = 5; place = c; detail = k })
-  unfolding sorted
   misses st q p =
       breaks-on
-      (record { breaks = λ ts xs z h. record { left = xs; kept = h; reading = uneaten (λ y. q (sym (sees st refl h .kind) ∙ y)) }; stands = st; sort = refl }) p
+      (record { breaks = λ ts xs z h. record { left = xs; kept = h; reading = uneaten (λ y. q (sym (sees st refl h .kind) ∙ y)) }; stands = st }) p
 
   -- the output is as long as it was
   pub same : {from to : State} {e v : ℕ} → Seg g s d from e v to → length (to .out) ≡ length (from .out)
@@ -436,7 +433,6 @@ module _ {g : ℕ} {s : List ℕ} {d : ℕ} where
         takes = λ b n. broke (record {
           breaks = λ ts xs z l. let t = h .breaks none xs refl l in record { left = t .left; kept = t .kept; reading = unsubbed (ungone (t .reading)) };
           stands = h .stands;
-          sort = h .sort;
         }) refl;
       }
 
@@ -470,7 +466,6 @@ module _ {g : ℕ} {s : List ℕ} {d : ℕ} where
         takes = λ b n. broke (record {
           breaks = λ ts xs z l. let t = h .breaks none xs refl l in record { left = t .left; kept = t .kept; reading = undeepened (ungone (t .reading)) };
           stands = h .stands;
-          sort = h .sort;
         }) refl;
       }
 
@@ -481,10 +476,9 @@ as-deep {g} {s} {d} {q} {c} {w} {k} {o} {o₁} {a} h m = let e : suc (d - 1) ≡
 -- no level is left
 pub too-deep : {g : ℕ} {s : List ℕ} {d : ℕ} {q : Phrase} {b : Body} {n w : ℕ} {c : Cursor} {o : List ℕ} → d ≡ 0 → Stands s c
     → Breaks g s d (state (deep q ▸ b) n c w o) (record { number = 11; place = c; detail = 0 })
-unfolding sorted
 too-deep {g} {s} {d} {q} {b} {n} {w} {c} {o} e st =
     subst⁻¹ (λ (m : ℕ). Breaks g s m (state (deep q ▸ b) n c w o) (record { number = 11; place = c; detail = 0 })) e
-    (record { breaks = λ ts xs z h. record { left = xs; kept = h; reading = read-too-deep }; stands = st; sort = refl })
+    (record { breaks = λ ts xs z h. record { left = xs; kept = h; reading = read-too-deep }; stands = st })
 
 -- ── Loops ─────────────────────────────────────────────────────────────────────────────────────────
 

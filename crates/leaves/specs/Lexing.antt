@@ -9,6 +9,7 @@ use Rattle.lexemes.specs.Kept.{NextKept}
 use Rattle.lexemes.specs.Kinds.{EOF, IDENT, ASSIGN, COMMA, L-BRACK, R-BRACK, L-PAREN, L-BRACE, COLON, DOT, QUESTION-MARK, STRING-DOUBLE, STRING-SINGLE, STRING-DOUBLE-VERBATIM, STRING-SINGLE-VERBATIM, STRING-BLOCK}
 use Rattle.lexemes.specs.Kinds.{FOR-KW, LOCAL-KW, IF-KW, FUNCTION-KW, ASSERT-KW, ERROR-KW, IMPORT-KW, IMPORTSTR-KW, IMPORTBIN-KW}
 use Rattle.grammar.specs.Productions.{exp-object-iteration, exp-null-coaelse}
+use Rattle.grammar.specs.Numbers.{ESCAPE, BLOCK}
 use Rattle.grammar.specs.Reading.{has}
 use mathlib.Core.Bool.{Bool, true, false}
 use Rattle.grammar.specs.Lexemes.{Said, Lexeme}
@@ -105,5 +106,5 @@ pub data Past (s : List ℕ) (c c₁ : Cursor) : Type 0 where
 
 -- What a string without a text is refused as.
 pub data Faulty (c : Cursor) (a : Answer) : Type 0 where
-  no-block : c .kind ≡ STRING-BLOCK → a ≡ Broken (record { number = 10; place = c; detail = 0 }) → Faulty c a
-  no-escape : (c .kind ≡ STRING-BLOCK → ⊥) → a ≡ Broken (record { number = 9; place = c; detail = 0 }) → Faulty c a
+  no-block : c .kind ≡ STRING-BLOCK → a ≡ Broken (record { number = BLOCK; place = c; detail = 0 }) → Faulty c a
+  no-escape : (c .kind ≡ STRING-BLOCK → ⊥) → a ≡ Broken (record { number = ESCAPE; place = c; detail = 0 }) → Faulty c a

@@ -1,10 +1,8 @@
 -- What a phrase function promises.
 -- Assumes nothing.
 use mathlib.Core.Path.{_≡_}
-use mathlib.Core.Bool.{Bool, true, false, _&&_, _||_}
 use mathlib.Core.List.{List, [], _∷_, _++_}
 use Prim.Native.Nat.{ℕ, suc, _+_, _-_, _*_, _≤_, _<_}
-use lib.Dec.{eqb}
 use lib.ListN.{length}
 use lib.Seq.{sets}
 use Rattle.lexemes.specs.Kinds.{R-BRACK, DOT, ASSIGN}
@@ -12,17 +10,18 @@ use Rattle.grammar.specs.Tags.{SLICE, BIND}
 use Rattle.grammar.specs.Trees.{Field, byte, number, Trees, count as size}
 use Rattle.grammar.specs.Image.{image, entry}
 use Rattle.grammar.specs.Lexemes.{Lexeme}
-use Rattle.grammar.specs.Productions.{Phrase, Body, end, goto, _▸_, Step, eat, sub, deep, close, expression, suffix, members, field-named, argument, argument-end, null-safe}
+use Rattle.grammar.specs.Productions.{Phrase, Body, end, goto, _▸_, Step, eat, sub, deep, close, expression, suffix, field-named, argument, argument-end, null-safe}
 use Rattle.grammar.specs.Reading.{Outcome, broken, Reading}
+use Rattle.grammar.specs.Answer.{prefix-power}
 use Rattle.leaves.specs.Lexing.{Left, Stands}
 use Rattle.leaves.specs.declared.Cursor.{Cursor}
 use Rattle.leaves.specs.declared.Refusal.{Refusal}
 use Rattle.leaves.specs.declared.Answer.{Answer}
 use Rattle.leaves.specs.declared.Answer.the-variants.{Done, Broken}
 
--- "prefix 20"
+-- The prefix power of a setting.
 abbrev pub power : ℕ → ℕ
-power g = 20
+power g = prefix-power g
 
 -- Where a phrase may start, with w bytes of image written: an image has at most 32 bytes for each byte that is read.
 pub record Ready (s : List ℕ) (c : Cursor) (w : ℕ) : Type 0 where
@@ -68,24 +67,16 @@ pub record Stops (g : ℕ) (s : List ℕ) (d : ℕ) (b : Body) (ts : Trees) (p :
   pub kept : Left s (r .place .at) left
   pub reading : Reading (power g) g b ts d p xs (broken (r .number) (r .place .at) left (r .detail))
 
--- 01's details: number 5 has a kind, 6 and 8 have theirs, and 7, 9, 10 and 11 have 0.
-unfoldable pub sorted : ℕ → ℕ → Bool
-sorted n x = (eqb n 5 || eqb n 6 || eqb n 8) || ((eqb n 7 || eqb n 9 || eqb n 10 || eqb n 11) && eqb x 0)
-
 -- From a state the reading ends at that refusal.
 pub record Breaks (g : ℕ) (s : List ℕ) (d : ℕ) (from : State) (r : Refusal) : Type 0 where
   pub breaks : (ts : Trees) (xs : List Lexeme) → size ts ≡ from .count → Left s (from .cursor .at) xs → Stops g s d (from .body) ts (from .cursor .at) xs r
   pub stands : Stands s (r .place)
-  pub sort : sorted (r .number) (r .detail) ≡ true
 
 -- ── Answers ───────────────────────────────────────────────────────────────────────────────────────
 
--- What a suffix, a member and a field's name tell.
+-- What a suffix and a field's name tell.
 abbrev pub suffixes : ℕ → Body
 suffixes f = goto (suffix f)
-
-abbrev pub joined : ℕ → Body
-joined c = goto (members c)
 
 abbrev pub titled : ℕ → ℕ → Body
 titled a c = goto (field-named c a)
@@ -156,10 +147,6 @@ pub record TellsEverAny (s : List ℕ) (b : Body) (c : Cursor) (w : ℕ) (o : Li
 
 pub record TellsAny (g : ℕ) (s : List ℕ) (d : ℕ) (b : Body) (c : Cursor) (w : ℕ) (o : List ℕ) (next : ℕ → Body) (n₁ : ℕ) (a : Answer) (o₁ : List ℕ) : Type 0 where
   pub tells : (n : ℕ) → Tells g s d (state b n c w o) next n₁ a o₁
-
--- One member more, whatever stood before it.
-pub record Joins (g : ℕ) (s : List ℕ) (d : ℕ) (b : Body) (c : Cursor) (w : ℕ) (o : List ℕ) (a : Answer) (o₁ : List ℕ) : Type 0 where
-  pub joins : (n : ℕ) → Tells g s d (state b n c w o) joined (n + 1) a o₁
 
 -- One argument more, whatever stood before it: m of those are named, and this one is if k is 1.
 pub record Argues (g : ℕ) (s : List ℕ) (d m k : ℕ) (c : Cursor) (w : ℕ) (o : List ℕ) (a : Answer) (o₁ : List ℕ) : Type 0 where

@@ -12,7 +12,7 @@ ghost use Rattle.lexemes.specs.Texts.{plain as plainText};
 ghost use Rattle.grammar.specs.Tags.{MEMBERS};
 ghost use Rattle.grammar.specs.Trees.{number, span};
 ghost use Rattle.grammar.specs.Says.{Means};
-ghost use Rattle.grammar.specs.Productions.{goto, end, _▸_, close, string, basic, pattern, array-pattern-close, object-pattern-close, object-rest, with-field, with-assert, member-name as memberName, call-close, field};
+ghost use Rattle.grammar.specs.Productions.{goto, end, _▸_, close, string, basic, pattern, array-pattern-close, object-pattern-close, object-rest, with-field, with-assert, with-member, member-name as memberName, call-close, field};
 ghost use Rattle.leaves.specs.Lexing.{Stands, Quoting, Quotes, Atom, Colons, Past, Faulty};
 ghost use Rattle.leaves.specs.Meets.{Ready, state, Ends, EndsAny, EndsOver, EndsUnder, TellsEver, TellsEverAny, suffixes, titled, bracketed, sliced};
 
@@ -20,6 +20,8 @@ pub mod parser; // Parser and its methods
 pub mod operators; // binary operators under a setting
 pub mod records; // records written from structs
 
+use grammar::numbers::Number;
+use grammar::settings;
 use grammar::tags::Tag;
 use grammar::writers;
 use lexemes::kinds::Kind;
@@ -54,9 +56,6 @@ pub enum Answer {
 
 // The number is how many trees a list has.
 pub type WithCount = Answer;
-
-// The number is the detail that a comprehension of the members so far would be refused with, or 0.
-pub type WithFault = Answer;
 
 // The number is the flag of the next index part: whether it is the first of its run.
 pub type WithFirst = Answer;
@@ -105,9 +104,9 @@ fn bad_string(c: Cursor) -> Answer
     ensures { λ r. ⌜ Faulty c r ⌝ }
 {
     if c.kind == Kind::STRING_BLOCK {
-        return error(c, 10, 0);
+        return error(c, Number::BLOCK, 0);
     }
-    error(c, 9, 0)
+    error(c, Number::ESCAPE, 0)
 }
 
 // parse_string_content: `string`. The text goes straight into the unused rest of the output, and its head before it.
@@ -207,7 +206,7 @@ pub fn atom(src: &[u8], out: &mut [u8], c: Cursor, w: usize) -> Answer
             if is_string_token(kind) {
                 return parse_string_content(src, out, c, w);
             }
-            error(c, 7, 0)
+            error(c, Number::EXPRESSION, 0)
         }
     }
 }
@@ -224,14 +223,14 @@ pub fn pattern_atom(src: &[u8], out: &mut [u8], c: Cursor, w: usize, set: u64) -
         let w1 = writers::put_name(out, w, Tag::NAME_PATTERN, start, end, &src[start..end]);
         return Answer::Done(eat_any(src, c), w1, 1);
     }
-    if set % 2 != 1 {
-        return error(c, 5, NAME);
+    if !settings::has_destruct(set) {
+        return error(c, Number::WANTED, NAME);
     }
     if kind == Kind::QUESTION_MARK {
         let w1 = writers::put_none(out, w, Tag::SKIP);
         return Answer::Done(eat_any(src, c), w1, 1);
     }
-    error(c, 6, 2)
+    error(c, Number::ABSENT, 2)
 }
 
 // destruct_array from its `]` on: n patterns, a rest, and m more.
@@ -357,7 +356,7 @@ pub fn members_close(out: &mut [u8], c: Cursor, w: usize, n: usize) -> Answer
 }
 
 // objinside, the loop over a comprehension's members: its fault with one field more, and with one assert more.
-pub fn with_field(fault: usize) -> usize
+fn with_field(fault: usize) -> usize
     requires { ⌜ fault ≤ 4 ⌝ }
     ensures { λ r. ⌜ (r ≡ with-field fault) × (r ≤ 4) ⌝ }
 {
@@ -370,7 +369,7 @@ pub fn with_field(fault: usize) -> usize
     fault
 }
 
-pub fn with_assert(fault: usize) -> usize
+fn with_assert(fault: usize) -> usize
     requires { ⌜ fault ≤ 4 ⌝ }
     ensures { λ r. ⌜ (r ≡ with-assert fault) × (r ≤ 4) ⌝ }
 {
@@ -378,6 +377,20 @@ pub fn with_assert(fault: usize) -> usize
         return 2;
     }
     3
+}
+
+// The same with one member more, by the kind that it begins with.
+pub fn with_member(fault: usize, kind: u8) -> usize
+    requires { ⌜ fault ≤ 4 ⌝ }
+    ensures { λ r. ⌜ (r ≡ with-member fault kind) × (r ≤ 4) ⌝ }
+{
+    if kind == Kind::LOCAL_KW {
+        return fault;
+    }
+    if kind == Kind::ASSERT_KW {
+        return with_assert(fault);
+    }
+    with_field(fault)
 }
 
 // expr_suffix: the name after `.`, an index part.
@@ -393,7 +406,7 @@ pub fn member_name(
     ensures { λ r. ⌜ TellsEver (now (src .entry)) (state (goto (memberName first safe)) 1 c w (now (out .entry))) suffixes 1 r (now (out .exit)) ⌝ }
 {
     if c.kind != Kind::IDENT {
-        return error(c, 5, NAME);
+        return error(c, Number::WANTED, NAME);
     }
     let start = c.start;
     let end = c.end;
@@ -472,7 +485,7 @@ pub fn fixed_name(src: &[u8], out: &mut [u8], c: Cursor, w: usize) -> WithComput
         return WithComputed::Done(eat_any(src, c), w1, 0);
     }
     if !is_string_token(c.kind) {
-        return error(c, 6, 1);
+        return error(c, Number::ABSENT, 1);
     }
     let a = parse_string_content(src, out, c, w);
     let Answer::Done(c1, w1, _) = a else {

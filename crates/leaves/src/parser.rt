@@ -9,6 +9,8 @@ ghost use Rattle.leaves.specs.declared.Answer.the-variants.{Broken};
 use crate::Answer;
 use crate::Cursor;
 use crate::Refusal;
+use grammar::numbers::Number;
+use grammar::settings;
 use lexemes::kept;
 use lexemes::kinds::Kind;
 
@@ -58,7 +60,7 @@ pub fn eat(src: &[u8], c: Cursor, w: usize, kind: u8) -> Answer
     if c.kind == kind {
         return Answer::Done(eat_any(src, c), w, 0);
     }
-    error(c, 5, kind as usize)
+    error(c, Number::WANTED, kind as usize)
 }
 
 // args: whether a name and `=` stand next, as 1 or 0.
@@ -99,7 +101,7 @@ pub fn header_at(src: &[u8], c: Cursor, set: u64) -> usize
     requires { ⌜ Stands (now src) c ⌝ }
     ensures { λ r. ⌜ Header set (now (src .entry)) c r ⌝ }
 {
-    if set / 2 % 2 != 1 {
+    if !settings::has_object_iteration(set) {
         return 0;
     }
     if c.kind != Kind::L_BRACK {
@@ -125,7 +127,7 @@ pub fn suffix_at(kind: u8, set: u64) -> usize
     ensures { λ r. ⌜ Suffixed set kind r ⌝ }
 {
     if kind == Kind::QUESTION_MARK {
-        if set / 4 % 2 == 1 {
+        if settings::has_null_coaelse(set) {
             return 1;
         }
         return 0;

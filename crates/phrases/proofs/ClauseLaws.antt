@@ -19,7 +19,7 @@ use Rattle.grammar.specs.Productions.{Phrase, Body, end, goto, _▸_, eat, sub,
 use Rattle.grammar.specs.Reading.{has, choose, view, production, Outcome, Reading, gone as read-gone}
 use Rattle.grammar.proofs.Chosen.{pick-yes, pick-no}
 use Rattle.leaves.specs.Lexing.{Stands, Moved, Header, header as is-header, off, no-bracket, no-key, not-closed, no-colon, Colons, none-more, one-more, two-more, Past, past, same, Clauses, at-for, comma-for, neither, comma-alone}
-use Rattle.leaves.specs.Meets.{power, State, state, Seg, Breaks, Leads, Takes, Counted, Counts, Joins}
+use Rattle.leaves.specs.Meets.{power, State, state, Seg, Breaks, Leads, Takes, Counted, Counts}
 use Rattle.leaves.proofs.LexemeLaws.{lies, Sees, sees, sees-next, sight, seen, name-says, moved-once}
 use Rattle.leaves.proofs.PartLaws.{wrote-lent}
 use Rattle.leaves.proofs.Answer.{the-type}

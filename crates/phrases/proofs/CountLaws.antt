@@ -9,7 +9,7 @@ use Rattle.grammar.specs.Trees.{Trees, none, node, count as size}
 use Rattle.grammar.specs.Image.{image}
 use Rattle.grammar.specs.Productions.{Phrase, Step, Body, end, goto, _▸_}
 use Rattle.grammar.proofs.ImageLaws.{image-length}
-use Rattle.leaves.specs.Meets.{State, state, Seg, Breaks, Takes, Counted, Counts, Joins, Argues}
+use Rattle.leaves.specs.Meets.{State, state, Seg, Breaks, Takes, Counted, Counts, Argues}
 use Rattle.leaves.proofs.Steps
 use Rattle.leaves.specs.declared.Cursor.{Cursor}
 use Rattle.leaves.specs.declared.Refusal.{Refusal}
@@ -29,9 +29,6 @@ grows h p = omega (arith, imaged (p .trees none), p .counted none refl, ap lengt
 
 pub step-grows : {g : ℕ} {s : List ℕ} {st : Step} {d w w₁ j : ℕ} {c c₁ : Cursor} {o o₁ : List ℕ} {a : Answer} → Takes g s st 1 0 d c w o a o₁ → a ≡ Done c₁ w₁ j → c .at < c₁ .at
 step-grows {g} {s} {st} {d} {w} {c = c} {o = o} m e = grows (omega arith) (Steps.took {b = end} m e (Steps.at g s d (st ▸ end) 0 c w o))
-
-pub member-grows : {g : ℕ} {s : List ℕ} {d w w₁ j : ℕ} {b : Body} {c c₁ : Cursor} {o o₁ : List ℕ} {a : Answer} → Joins g s d b c w o a o₁ → a ≡ Done c₁ w₁ j → c .at < c₁ .at
-member-grows {g} {s} {d} {w} {b = b} {c} {o = o} m e = grows (omega arith) (Steps.follows (m .joins 0) e (Steps.at g s d b 0 c w o))
 
 pub argument-grows : {g : ℕ} {s : List ℕ} {d m k w w₁ j : ℕ} {c c₁ : Cursor} {o o₁ : List ℕ} {a : Answer} → Argues g s d m k c w o a o₁ → a ≡ Done c₁ w₁ j → c .at < c₁ .at
 argument-grows h q = grows (omega arith) (Steps.led (h .argues 0 0 0) q)

@@ -121,7 +121,6 @@ module _ {g : ℕ} {s : List ℕ} {d : ℕ} where
                 reading = regone (y .1) z (u .reading);
               };
           stands = any end .stands;
-          sort = any end .sort;
         },
       )
 

@@ -1,20 +1,21 @@
 -- Laws of patterns: what their phrases go on as, and the stretch over a field's name.
 -- Assumes nothing.
 use mathlib.Core.Path.{_≡_, refl, sym, ap, subst, subst⁻¹, _∙_}
+use mathlib.Core.Bool.{true}
 use mathlib.Core.Logic.{_⊎_, inl, inr}
 use mathlib.Core.List.{List, [], _∷_}
-use Prim.Native.Nat.{ℕ, _+_, _-_, _%_, _≤_, _<_}
+use Prim.Native.Nat.{ℕ, _+_, _-_, _≤_, _<_}
 use native.Mathlib.Omega.{arith}
 use lib.Dec.{lit<, lit≤}
 use lib.Seq.{slice}
-use borrow.Author.Tests.{eq-eqb, ne-eqb}
+use borrow.Author.Tests.{ne-eqb}
 use denote.Enum.Declared.{tagOf}
 use Rattle.grammar.specs.Trees.{byte, span, text, Trees, none, node, count as size}
 use Rattle.grammar.specs.Image.{image}
 use Rattle.grammar.proofs.ImageLaws.{image-length}
 use lib.ListN.{length}
 use Rattle.grammar.specs.Lexemes.{Lexeme, Said, says, said, kind-of, word-of}
-use Rattle.grammar.specs.Productions.{Phrase, Body, Step, end, goto, _▸_, eat, sub, deep, close, rule, expression}
+use Rattle.grammar.specs.Productions.{Phrase, Body, Step, end, goto, _▸_, eat, sub, deep, close, rule, expression, exp-destruct}
 use Rattle.grammar.specs.Productions.{pattern, array-pattern, object-pattern, pattern-starts, pattern-starts-end, array-rest, array-rest-end, pattern-ends, pattern-ends-end, array-pattern-close, pattern-field, pattern-into, pattern-default, default-value, default-end, pattern-fields, pattern-fields-end, object-pattern-close, object-rest}
 use Rattle.grammar.specs.Reading.{has, choose, production, view, done, broken, Reading, ended, gone, eaten}
 use Rattle.leaves.specs.Lexing.{Stands, Moved}
@@ -91,13 +92,13 @@ module _ (g : ℕ) (c : Cursor) (xs : List Lexeme) (n : ℕ) where
 -- ── Patterns one level deeper ─────────────────────────────────────────────────────────────────────
 
 module _ (g : ℕ) (c : Cursor) (xs : List Lexeme) (n : ℕ) where
-  pub an-array : (t : Said) → g % 2 ≡ 1 → is g c xs n pattern 23 t ≡ deep array-pattern ▸ end
+  pub an-array : (t : Said) → has g exp-destruct ≡ true → is g c xs n pattern 23 t ≡ deep array-pattern ▸ end
   unfolding choose rule sight has
-  an-array t i = rw (eq-eqb (g % 2) 1 i, choose) refl
+  an-array t i = rw (i, choose) refl
 
-  pub an-object : (t : Said) → g % 2 ≡ 1 → is g c xs n pattern 27 t ≡ deep object-pattern ▸ end
+  pub an-object : (t : Said) → has g exp-destruct ≡ true → is g c xs n pattern 27 t ≡ deep object-pattern ▸ end
   unfolding choose rule sight has
-  an-object t i = rw (eq-eqb (g % 2) 1 i, choose) refl
+  an-object t i = rw (i, choose) refl
 
   array-opens : (k : ℕ) (t : Said) → is g c xs n array-pattern k t ≡ eat 23 ▸ goto pattern-starts
   unfolding choose rule sight
@@ -135,14 +136,14 @@ no-name (inr h) e = omega (arith, h, e)
 
 module _ {g : ℕ} {s : List ℕ} {d w : ℕ} {c : Cursor} {o : List ℕ} where
   -- what stands inside brackets or braces is the pattern
-  pub in-brackets : {c₁ : Cursor} {o₁ : List ℕ} {a : Answer} → Stands s c → c .kind ≡ 23 → g % 2 ≡ 1 → ¬ (d ≡ 0) → Moved s c c₁
+  pub in-brackets : {c₁ : Cursor} {o₁ : List ℕ} {a : Answer} → Stands s c → c .kind ≡ 23 → has g exp-destruct ≡ true → ¬ (d ≡ 0) → Moved s c c₁
       → Leads g s (d - 1) (state (goto pattern-starts) 0 c₁ w o) 0 end 1 a o₁ → Takes g s (sub pattern) 1 0 d c w o a o₁
   in-brackets st k i h mv m =
       let opened = Steps.known (eat 23 ▸ goto pattern-starts) st k (λ xs t. array-opens g c xs 0 23 t) (Steps.at g s (d - 1) (goto array-pattern) 0 c w o) in
       let inner = Steps.as-deep {q = array-pattern} h (Steps.tail (lit≤ tt) m (Steps.taken (lit< tt) st mv k opened)) in
       Steps.as-sub (Steps.tail (lit≤ tt) (inner .takes end 0) (Steps.known (deep array-pattern ▸ end) st k (λ xs t. an-array g c xs 0 t i) (Steps.at g s d (goto pattern) 0 c w o)))
 
-  pub in-braces : {c₁ : Cursor} {o₁ : List ℕ} {a : Answer} → Stands s c → c .kind ≡ 27 → g % 2 ≡ 1 → ¬ (d ≡ 0) → Moved s c c₁
+  pub in-braces : {c₁ : Cursor} {o₁ : List ℕ} {a : Answer} → Stands s c → c .kind ≡ 27 → has g exp-destruct ≡ true → ¬ (d ≡ 0) → Moved s c c₁
       → Leads g s (d - 1) (state (goto pattern-fields) 0 c₁ w o) 0 end 1 a o₁ → Takes g s (sub pattern) 1 0 d c w o a o₁
   in-braces st k i h mv m =
       let opened = Steps.known (eat 27 ▸ goto pattern-fields) st k (λ xs t. object-opens g c xs 0 27 t) (Steps.at g s (d - 1) (goto object-pattern) 0 c w o) in
@@ -150,7 +151,7 @@ module _ {g : ℕ} {s : List ℕ} {d w : ℕ} {c : Cursor} {o : List ℕ} where
       Steps.as-sub (Steps.tail (lit≤ tt) (inner .takes end 0) (Steps.known (deep object-pattern ▸ end) st k (λ xs t. an-object g c xs 0 t i) (Steps.at g s d (goto pattern) 0 c w o)))
 
   -- no level is left for it
-  pub none-deeper : Stands s c → (c .kind ≡ 23) ⊎ (c .kind ≡ 27) → g % 2 ≡ 1 → d ≡ 0 → Breaks g s d (state (goto pattern) 0 c w o) (record { number = 11; place = c; detail = 0 })
+  pub none-deeper : Stands s c → (c .kind ≡ 23) ⊎ (c .kind ≡ 27) → has g exp-destruct ≡ true → d ≡ 0 → Breaks g s d (state (goto pattern) 0 c w o) (record { number = 11; place = c; detail = 0 })
   none-deeper st (inl k) i h =
       Steps.breaks-on (Steps.too-deep h st) (Steps.known (deep array-pattern ▸ end) st k (λ xs t. an-array g c xs 0 t i) (Steps.at g s d (goto pattern) 0 c w o))
   none-deeper st (inr k) i h =
@@ -241,6 +242,5 @@ module _ {g : ℕ} {s : List ℕ} {d : ℕ} {n w : ℕ} {c : Cursor} {o : List �
                 reading = gone (subst⁻¹ (λ (b : Body). Reading (power g) g b ts d (c .at) xs (broken (x .0 .number) (x .0 .place .at) (t .left) (x .0 .detail))) (field-is g (c .at) xs (size ts)) (t .reading));
               };
           stands = Steps.refused (m .eats g d o .takes end n) (x .1) .stands;
-          sort = Steps.refused (m .eats g d o .takes end n) (x .1) .sort;
         },
       )

@@ -22,7 +22,7 @@ use Rattle.grammar.specs.Reading.{choose, has}
 use Rattle.grammar.specs.Productions.{Body, end, goto, fail, _▸_, eat, sub, close, rule, expression, arguments, argument, argument-end, call-close, named-argument, suffix, member-name, bracket as bracket-phrase, inside, exp-null-coaelse}
 use Rattle.grammar.proofs.Chosen.{pick-yes, pick-no}
 use Rattle.leaves.specs.Lexing.{Stands, Moved, Named, named, no-name, no-value, Suffixed, mark, dot, bracket, paren, brace, no-mark, none as no-suffix}
-use Rattle.leaves.specs.Meets.{power, State, state, Seg, Takes, Tells, TellsSome, Breaks, Argues, sorted, safely}
+use Rattle.leaves.specs.Meets.{power, State, state, Seg, Takes, Tells, TellsSome, Breaks, Argues, safely}
 use Rattle.leaves.proofs.LexemeLaws.{lies, Sees, sees-next, sight, seen, moved-once}
 use Rattle.leaves.proofs.LeafLaws.{done-once, not-both}
 use Rattle.leaves.proofs.Steps
@@ -75,13 +75,12 @@ module _ {g : ℕ} {s : List ℕ} {d : ℕ} {c : Cursor} {w : ℕ} {o : List ℕ
 
   -- where one before it has
   pub argues-fault : {m k : ℕ} {r : Answer} {o₁ : List ℕ} → Stands s c → Named s c k → k ≡ 0 → ¬ (m ≡ 0) → r ≡ Broken (record { number = 8; place = c; detail = 1 }) → Argues g s d m k c w o r o₁
-  unfolding sorted
   argues-fault {m} {k} st h e z r =
       record {
         argues = λ a u n.
             let p = Steps.goes (fail 8 1) st (λ xs y. seen (power g) g (argument a u m) n y refl refl ∙ two-fault g c xs n a u m (word-of xs) (c .kind) (not-two h e y) z)
             (Steps.at g s d (goto (argument a u m)) n c w o) in
-            Steps.broke (Steps.fails st refl p) r;
+            Steps.broke (Steps.fails st p) r;
       }
 
   -- one with a name

@@ -10,17 +10,18 @@ ghost use Rattle.grammar.specs.Trees.{span};
 ghost use Rattle.grammar.specs.Productions.{goto, end, sub, deep, expr as exprPhrase, infix-tail, suffixed, suffix as suffixPhrase, bracket, slice-end, slice-step, arguments, basic as basicPhrase, array as arrayPhrase, inside as insidePhrase, comprehension, clauses, for-clause, assertion};
 ghost use Rattle.grammar.specs.Productions.{member as memberPhrase, field as fieldPhrase, field-value, params as paramsPhrase, param as paramPhrase, binds, local-body, bind as bindPhrase, pattern, array-rest, array-rest-end, pattern-fields, pattern-field, pattern-default};
 ghost use Rattle.leaves.specs.Lexing.{Named, Header as HeaderAt, Imports, Suffixed};
-ghost use Rattle.leaves.specs.Meets.{Ready, state, Leads, LeadsAny, Takes, TakesSome, Counts, Tells, TellsSome, TellsAny, Joins, Argues, suffixes, titled, bound as bound-by, safely};
+ghost use Rattle.leaves.specs.Meets.{Ready, state, Leads, LeadsAny, Takes, TakesSome, Counts, Tells, TellsSome, TellsAny, Argues, suffixes, titled, bound as bound-by, safely};
+use grammar::numbers::Number;
 use grammar::operators::Infix;
 use grammar::operators::Prefix;
 use grammar::operators::unary_op;
+use grammar::settings;
 use grammar::tags::Tag;
 use grammar::writers;
 use leaves::Answer;
 use leaves::Cursor;
 use leaves::WithComputed;
 use leaves::WithCount;
-use leaves::WithFault;
 use leaves::WithFirst;
 use leaves::array_close;
 use leaves::array_pattern_close;
@@ -44,8 +45,7 @@ use leaves::records::Header;
 use leaves::records::Span;
 use leaves::slice_close;
 use leaves::visibility;
-use leaves::with_assert;
-use leaves::with_field;
+use leaves::with_member;
 use lexemes::kinds::Kind;
 
 // prefix_binding_power
@@ -182,11 +182,11 @@ fn pat(src: &[u8], out: &mut [u8], c: Cursor, w: usize, left: usize, set: u64) -
             return leaves::pattern_atom(src, out, c, w, set);
         }
     }
-    if set % 2 != 1 {
-        return error(c, 5, NAME);
+    if !settings::has_destruct(set) {
+        return error(c, Number::WANTED, NAME);
     }
     if left == 0 {
-        return error(c, 11, 0);
+        return error(c, Number::DEPTH, 0);
     }
     let mut cur = eat_any(src, c);
     if object {
@@ -443,7 +443,7 @@ fn arg(
 {
     if k == 0 {
         if named != 0 {
-            return error(c, 8, 1);
+            return error(c, Number::MISPLACED, 1);
         }
         return expr(src, out, c, w, left, set, 0);
     }
@@ -613,37 +613,17 @@ fn value(
 }
 
 // member: member.
-fn member(
-    src: &[u8],
-    out: &mut [u8],
-    c: Cursor,
-    w: usize,
-    left: usize,
-    set: u64,
-    fault: usize,
-) -> WithFault
-    requires { ⌜ Ready (now src) c w × (fault ≤ 4) ⌝ }
-    ensures { λ r. ⌜ Joins set (now (src .entry)) left (goto (memberPhrase fault)) c w (now (out .entry)) r (now (out .exit)) ⌝ }
+fn member(src: &[u8], out: &mut [u8], c: Cursor, w: usize, left: usize, set: u64) -> Answer
+    requires { ⌜ Ready (now src) c w ⌝ }
+    ensures { λ r. ⌜ Takes set (now (src .entry)) (sub memberPhrase) 1 0 left c w (now (out .entry)) r (now (out .exit)) ⌝ }
 {
     if c.kind == Kind::LOCAL_KW {
-        let a = bind(src, out, eat_any(src, c), w, left, set);
-        let Answer::Done(c1, w1, _) = a else {
-            return a;
-        };
-        return WithFault::Done(c1, w1, fault);
+        return bind(src, out, eat_any(src, c), w, left, set);
     }
     if c.kind == Kind::ASSERT_KW {
-        let a = assert(src, out, c, w, left, set);
-        let Answer::Done(c1, w1, _) = a else {
-            return a;
-        };
-        return WithFault::Done(c1, w1, with_assert(fault));
+        return assert(src, out, c, w, left, set);
     }
-    let a = field(src, out, c, w, left, set);
-    let Answer::Done(c1, w1, _) = a else {
-        return a;
-    };
-    WithFault::Done(c1, w1, with_field(fault))
+    field(src, out, c, w, left, set)
 }
 
 // for_spec, after its `for`: for-clause.
@@ -676,7 +656,7 @@ fn each(src: &[u8], out: &mut [u8], c: Cursor, w: usize, left: usize, set: u64) 
     ensures { λ r. ⌜ Leads set (now (src .entry)) left (state (goto for-clause) 0 c w (now (out .entry))) 0 end 1 r (now (out .exit)) ⌝ }
 {
     if left == 0 {
-        return error(c, 11, 0);
+        return error(c, Number::DEPTH, 0);
     }
     let key = eat_any(src, c);
     let bracket = eat_any(src, key);
@@ -746,13 +726,13 @@ fn inside(src: &[u8], out: &mut [u8], c: Cursor, w: usize, left: usize, set: u64
     let mut n: usize = 0;
     let mut fault: usize = 4;
     loop {
-        let a = member(src, out, cur, at, left, set, fault);
-        let WithFault::Done(c1, w1, f) = a else {
+        let a = member(src, out, cur, at, left, set);
+        let Answer::Done(c1, w1, _) = a else {
             return a;
         };
         n += 1;
         at = w1;
-        fault = f;
+        fault = with_member(fault, cur.kind);
         cur = past_comma(src, c1);
         if cur.kind == Kind::FOR_KW {
             return comp(src, out, cur, at, left, set, n, fault);
@@ -785,7 +765,7 @@ fn comp(
         return a;
     };
     if fault != 0 {
-        return error(c1, 8, fault);
+        return error(c1, Number::MISPLACED, fault);
     }
     let w2 = writers::put_counts(out, w1, n, m);
     Answer::Done(c1, w2, 1)
@@ -1142,7 +1122,7 @@ pub fn expr(
     ensures { λ r. ⌜ Takes set (now (src .entry)) (deep (exprPhrase least)) 1 0 left c w (now (out .entry)) r (now (out .exit)) ⌝ }
 {
     if left == 0 {
-        return error(c, 11, 0);
+        return error(c, Number::DEPTH, 0);
     }
     let a = sign(src, out, c, w, left - 1, set, least);
     let Answer::Done(c1, w1, _) = a else {

@@ -11,6 +11,7 @@ use crate::say::say_characters;
 use crate::say::say_number;
 use crate::say::say_text;
 use crate::say::say_times;
+use grammar::numbers::Number;
 use lexemes::kinds::Kind;
 use libc::STDOUT_FILENO;
 
@@ -93,29 +94,29 @@ fn say_misplaced(detail: u8) {
 }
 
 // What is wrong, in words.
-fn say_fault(number: u64, detail: u8) {
+fn say_fault(number: u8, detail: u8) {
     match number {
-        3 => say(b"the bytes are not UTF-8"),
-        4 => say_bad_lexeme(detail),
-        5 => say_wanted(detail),
-        6 => {
+        Number::ENCODING => say(b"the bytes are not UTF-8"),
+        Number::LEXEME => say_bad_lexeme(detail),
+        Number::WANTED => say_wanted(detail),
+        Number::ABSENT => {
             if detail == 1 {
                 say(b"a field name is wanted");
             } else {
                 say(b"a name or a pattern is wanted");
             }
         }
-        7 => say(b"an expression is wanted"),
-        8 => say_misplaced(detail),
-        9 => say(b"a string has an escape that does not exist"),
-        10 => say(b"a text block cannot be decoded"),
+        Number::EXPRESSION => say(b"an expression is wanted"),
+        Number::MISPLACED => say_misplaced(detail),
+        Number::ESCAPE => say(b"a string has an escape that does not exist"),
+        Number::BLOCK => say(b"a text block cannot be decoded"),
         _ => say(b"phrases stand more than 200 deep in each other"),
     }
 }
 
 // What stands at the place.
-fn say_there(number: u64, source: &[u8], start: usize, end: usize) {
-    if number == 3 {
+fn say_there(number: u8, source: &[u8], start: usize, end: usize) {
+    if number == Number::ENCODING {
         if start < source.len() {
             say(b"; the byte 0x");
             io::print_hex(STDOUT_FILENO, wide(source[start]) as u64, 2);
@@ -236,7 +237,7 @@ fn say_line(source: &[u8], start: usize, end: usize) {
     say(b"\n");
 }
 
-// A detail, which is a kind or below 5.
+// A number or a detail, which is a kind or below 5.
 fn small(n: u64) -> u8 {
     if n > 255 {
         return 0;
@@ -245,15 +246,15 @@ fn small(n: u64) -> u8 {
 }
 
 // A refusal that has a place.
-fn tell_place(f: Refusal, source: &[u8]) {
+fn tell_place(number: u8, f: Refusal, source: &[u8]) {
     let start = f.start as usize;
     let end = f.end as usize;
     say_place(source, start);
     say(b": ");
-    say_fault(f.number, small(f.detail));
-    say_there(f.number, source, start, end);
+    say_fault(number, small(f.detail));
+    say_there(number, source, start, end);
     say(b".\n");
-    if f.number != 3 {
+    if number != Number::ENCODING {
         say_line(source, start, end);
         return;
     }
@@ -267,15 +268,15 @@ fn tell_place(f: Refusal, source: &[u8]) {
 pub fn tell(name: &[u8], f: Refusal, source: &[u8]) {
     say_characters(name);
     say(b":");
-    let number = f.number;
+    let number = small(f.number);
     match number {
-        1 => say(b" the setting is above 7.\n"),
-        2 => say(b" the file is longer than 65,000 bytes, the most that is read.\n"),
-        12 => {
+        Number::SETTING => say(b" the setting is above 7.\n"),
+        Number::LONG => say(b" the file is longer than 65,000 bytes, the most that is read.\n"),
+        Number::ROOM => {
             say(b" the tree takes ");
             say_number(f.length as usize);
             say(b" bytes, more than there is room for.\n");
         }
-        _ => tell_place(f, source),
+        _ => tell_place(number, f, source),
     }
 }

@@ -6,7 +6,6 @@ use Rattle.grammar.specs.Productions.{goto, string}
 use Rattle.leaves.proofs.LeafLaws.{bytes-short, fits, is-quoted, not-quoted, one-fault, one-leaf, one-name, within}
 use Rattle.leaves.proofs.LeafRules.{a-dollar, a-false, a-null, a-self, a-super, a-true, a-variable, basic-string, no-atom}
 use Rattle.leaves.proofs.LexemeLaws.{lies}
-use Rattle.leaves.specs.Meets.{sorted}
 use lib.Dec.{lit<}
 use lib.Seq.{slice}
 use mathlib.Core.Path.{refl}
@@ -225,7 +224,6 @@ returns-9 c =
     record { ends = λ g d. one-name 6 st (matched′ .keys8) (λ xs. a-variable g (args′ .c) xs 0 name) (eat-any7′ .ensures) (put-name′ .ensures) }
 
 returns-10 : tie.Need-returns-10
-unfolding sorted
 returns-10 c =
     let pre′ = c .before .before .before .before .before .before .pre in
     let matched′ = c .before .before .before .match in
@@ -238,7 +236,7 @@ returns-10 c =
     let none = not-quoted (is-string-token′ .ensures) (if1′ .left) in
     record {
       ends = λ g d.
-          one-fault st refl
+          one-fault st
           (λ xs t. no-atom g (args′ .c) xs 0 (args′ .c .kind) t (pre′ .1) (others .0 .0 .0 .0 .0 .0 .0 .1) (others .0 .0 .0 .0 .0 .0 .1) (others .0 .0 .0 .0 .0 .1) (others .0 .0 .0 .0 .1) (others .0 .0 .0 .1) (others .0 .0 .1) (others .0 .1) (others .1) none)
           (error′ .ensures);
     }

@@ -8,7 +8,6 @@ use Rattle.leaves.proofs.LeafLaws.{bytes-short, fits, is-quoted, not-qu
 use Rattle.leaves.proofs.LeafRules.{field-name, field-string, no-field}
 use Rattle.leaves.proofs.LexemeLaws.{lies}
 use Rattle.leaves.proofs.PartLaws.{wrote-lent}
-use Rattle.leaves.specs.Meets.{sorted}
 use borrow.Author.Tests.{not-false, not-true}
 use lib.Seq.{slice}
 use mathlib.Core.List.{List, [], _∷_}
@@ -72,7 +71,6 @@ error-requires : tie.Need-error-requires
 error-requires c κs = search needs
 
 returns-2 : tie.Need-returns-2
-unfolding sorted
 returns-2 c =
     let pre′ = c .before .before .before .before .before .before .before .pre in
     let is-string-token′ = c .before .before .is-string-token in
@@ -85,7 +83,7 @@ returns-2 c =
     record {
       tells = λ g d.
           Steps.broke-telling
-          (Steps.fails st refl (Steps.known (fail 6 1) st refl (λ xs t. no-field g (args′ .c) xs 0 (args′ .c .kind) t (if1′ .left) none (pre′ .1)) Steps.here))
+          (Steps.fails st (Steps.known (fail 6 1) st refl (λ xs t. no-field g (args′ .c) xs 0 (args′ .c .kind) t (if1′ .left) none (pre′ .1)) Steps.here))
           (error′ .ensures);
     }
 

@@ -9,7 +9,6 @@ use Rattle.leaves.proofs.LeafLaws.{bytes-short, fits, text-size, within
 use Rattle.leaves.proofs.LeafRules.{a-member, no-member}
 use Rattle.leaves.proofs.LexemeLaws.{lies}
 use Rattle.leaves.proofs.PartLaws.{wrote-lent}
-use Rattle.leaves.specs.Meets.{sorted}
 use lib.Seq.{slice}
 use mathlib.Core.List.{List, [], _∷_}
 use mathlib.Core.Path.{refl}
@@ -22,7 +21,6 @@ error-requires : tie.Need-error-requires
 error-requires c κs = search needs
 
 returns : tie.Need-returns
-unfolding sorted
 returns c =
     let pre′ = c .before .before .before .before .before .pre in
     let args′ = c .before .before .before .before .before .args in
@@ -32,7 +30,7 @@ returns c =
     record {
       tells = λ g d.
           Steps.broke-telling
-          (Steps.fails st refl (Steps.known (fail 5 55) st refl (λ xs t. no-member g (args′ .c) xs 1 (args′ .first) (args′ .safe) (args′ .c .kind) t (if1′ .taken)) Steps.here))
+          (Steps.fails st (Steps.known (fail 5 55) st refl (λ xs t. no-member g (args′ .c) xs 1 (args′ .first) (args′ .safe) (args′ .c .kind) t (if1′ .taken)) Steps.here))
           (error′ .ensures);
     }
 

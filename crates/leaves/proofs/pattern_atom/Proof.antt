@@ -5,10 +5,10 @@ use Rattle.grammar.specs.Image.{entry, payload}
 use Rattle.leaves.proofs.LeafLaws.{bytes-short, fits, one-fault, one-leaf, one-name, within}
 use Rattle.leaves.proofs.LeafRules.{a-name, a-skip, bad-pattern, no-pattern}
 use Rattle.leaves.proofs.LexemeLaws.{lies}
-use Rattle.leaves.specs.Meets.{sorted}
 use lib.Dec.{lit<}
 use lib.Seq.{slice}
-use mathlib.Core.Path.{refl}
+use mathlib.Core.Path.{refl, sym, _∙_}
+use borrow.Author.Tests.{not-true, not-false}
 use native.Mathlib.Omega.{arith}
 use Rattle.leaves.proofs.pattern_atom.Statement.{statement}
 use Rattle.leaves.proofs.pattern_atom.Tie as tie
@@ -55,19 +55,22 @@ returns c =
     let name = slice (args′ .c .start) (args′ .c .end) src in
     record { ends = λ d. one-name 25 st (if1′ .taken) (λ xs. a-name (args′ .set) (args′ .c) xs 0 name) (eat-any′ .ensures) (put-name′ .ensures) }
 
+has-destruct-requires : tie.Need-has-destruct-requires
+has-destruct-requires c κs = search needs
+
 error-requires : tie.Need-error-requires
 error-requires c κs = search needs
 
 returns-2 : tie.Need-returns-2
-unfolding sorted
 returns-2 c =
-    let pre′ = c .before .before .before .before .before .pre in
-    let args′ = c .before .before .before .before .before .args in
-    let if1′ = c .before .before .if1 in
-    let if2′ = c .before .if2 in
+    let pre′ = c .before .before .before .before .before .before .pre in
+    let args′ = c .before .before .before .before .before .before .args in
+    let if1′ = c .before .before .before .if1 in
+    let tested = c .before .before .has-destruct in
+    let off = sym (tested .ensures) ∙ not-true (tested .result) (c .before .if2 .taken) in
     let error′ = c .error in
     let st = pre′ .0 .stands in
-    record { ends = λ d. one-fault st refl (λ xs t. no-pattern (args′ .set) (args′ .c) xs 0 (args′ .c .kind) t (if1′ .left) (if2′ .taken)) (error′ .ensures) }
+    record { ends = λ d. one-fault st (λ xs t. no-pattern (args′ .set) (args′ .c) xs 0 (args′ .c .kind) t (if1′ .left) off) (error′ .ensures) }
 
 put-none-requires : tie.Need-put-none-requires
 put-none-requires c κs = search needs
@@ -81,33 +84,35 @@ same-length-2 c = search needs
 returns-3 : tie.Need-returns-3
 unfolding entry payload
 returns-3 c =
-    let pre′ = c .before .before .before .before .before .before .before .before .before .before .pre in
+    let pre′ = c .before .before .before .before .before .before .before .before .before .before .before .pre in
     let if3′ = c .before .before .before .before .before .if3 in
-    let args′ = c .before .before .before .before .before .before .before .before .before .before .args in
-    let if2′ = c .before .before .before .before .before .before .if2 in
+    let args′ = c .before .before .before .before .before .before .before .before .before .before .before .args in
+    let else2 = c .before .before .before .before .before .before in
+    let tested = else2 .before .has-destruct in
+    let on = sym (tested .ensures) ∙ not-false (tested .result) (else2 .if2 .left) in
     let eat-any2′ = c .eat-any2 in
     let put-none′ = c .before .before .before .put-none in
     let st = pre′ .0 .stands in
-    record { ends = λ d. one-leaf st (if3′ .taken) (lit< tt) (λ xs t. a-skip (args′ .set) (args′ .c) xs 0 t (if2′ .left)) (eat-any2′ .ensures) (omega arith) (put-none′ .ensures) }
+    record { ends = λ d. one-leaf st (if3′ .taken) (lit< tt) (λ xs t. a-skip (args′ .set) (args′ .c) xs 0 t on) (eat-any2′ .ensures) (omega arith) (put-none′ .ensures) }
 
 error-requires-2 : tie.Need-error-requires-2
 error-requires-2 c κs = search needs
 
 returns-4 : tie.Need-returns-4
-unfolding sorted
 returns-4 c =
-    let pre′ = c .before .before .before .before .before .before .pre in
-    let args′ = c .before .before .before .before .before .before .args in
-    let if1′ = c .before .before .before .if1 in
-    let if2′ = c .before .before .if2 in
+    let pre′ = c .before .before .before .before .before .before .before .pre in
+    let args′ = c .before .before .before .before .before .before .before .args in
+    let if1′ = c .before .before .before .before .if1 in
+    let tested = c .before .before .before .has-destruct in
+    let on = sym (tested .ensures) ∙ not-false (tested .result) (c .before .before .if2 .left) in
     let if3′ = c .before .if3 in
     let error2′ = c .error2 in
     let st = pre′ .0 .stands in
     record {
       ends = λ d.
-          one-fault st refl (λ xs t. bad-pattern (args′ .set) (args′ .c) xs 0 (args′ .c .kind) t (if1′ .left) (if2′ .left) (if3′ .left) (pre′ .1) (pre′ .2))
+          one-fault st (λ xs t. bad-pattern (args′ .set) (args′ .c) xs 0 (args′ .c .kind) t (if1′ .left) on (if3′ .left) (pre′ .1) (pre′ .2))
           (error2′ .ensures);
     }
 
 pub pattern-atom-spec : {M : Type 1} → statement M
-pattern-atom-spec = tie.close (tie.spec sub-put-name part-put-name-start part-put-name-end put-name-requires eat-any-requires same-length returns error-requires returns-2 put-none-requires eat-any-requires-2 same-length-2 returns-3 error-requires-2 returns-4)
+pattern-atom-spec = tie.close (tie.spec sub-put-name part-put-name-start part-put-name-end put-name-requires eat-any-requires same-length returns has-destruct-requires error-requires returns-2 put-none-requires eat-any-requires-2 same-length-2 returns-3 error-requires-2 returns-4)

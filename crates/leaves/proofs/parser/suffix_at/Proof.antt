@@ -2,26 +2,27 @@
 -- Assumes nothing.
 use Prim.Native.Nat.{_-_}
 use Rattle.leaves.specs.Lexing.{mark, dot, bracket, paren, brace, no-mark, none}
-use borrow.Author.Tests.{eq-eqb, ne-eqb}
-use Rattle.grammar.specs.Reading.{has}
+use mathlib.Core.Path.{sym, _∙_}
+use borrow.Author.Needs.{needs}
 use Rattle.leaves.proofs.parser.suffix_at.Statement.{statement}
 use Rattle.leaves.proofs.parser.suffix_at.Tie as tie
 use Rattle.leaves.proofs.parser.suffix_at.Reads as reads
 use Rattle.leaves.proofs.parser.suffix_at.Lts as lts
 
+has-null-coaelse-requires : tie.Need-has-null-coaelse-requires
+has-null-coaelse-requires c κs = search needs
+
 returns : tie.Need-returns
-unfolding has
 returns c =
-    let if1′ = c .before .if1 in
-    let if2′ = c .if2 in
-    mark (if1′ .taken) (eq-eqb _ 1 (if2′ .taken))
+    let tested = c .before .has-null-coaelse in
+    let if1′ = c .before .before .if1 in
+    mark (if1′ .taken) (sym (tested .ensures) ∙ c .if2 .taken)
 
 returns-2 : tie.Need-returns-2
-unfolding has
 returns-2 c =
-    let if1′ = c .before .if1 in
-    let if2′ = c .if2 in
-    no-mark (if1′ .taken) (ne-eqb _ 1 (if2′ .left))
+    let tested = c .before .has-null-coaelse in
+    let if1′ = c .before .before .if1 in
+    no-mark (if1′ .taken) (sym (tested .ensures) ∙ c .if2 .left)
 
 returns-3 : tie.Need-returns-3
 returns-3 c =
@@ -50,4 +51,4 @@ returns-7 c =
     none (if1′ .left) (match′ .rest .0 .0 .0 .1) (match′ .rest .0 .0 .1) (match′ .rest .0 .1) (match′ .rest .1)
 
 pub suffix-at-spec : {M : Type 1} → statement M
-suffix-at-spec = tie.close (tie.spec returns returns-2 returns-3 returns-4 returns-5 returns-6 returns-7)
+suffix-at-spec = tie.close (tie.spec has-null-coaelse-requires returns returns-2 returns-3 returns-4 returns-5 returns-6 returns-7)

@@ -53,7 +53,6 @@ module _ (t : ℕ) where
   valued c = Steps.took (c .before .before .before .before .expr2 .ensures) (c .a .given .1) (headed (c₃ c))
 
   -- ── What each call asks ─────────────────────────────────────────────────────────────────────────
-
   expr-requires-2 : lts.Need-expr-requires-2 (K t) (P t) Post
   expr-requires-2 c κs = let p = a₂ c .pre in (omega (arith, p .0), Steps.ready (p .1 .0) (omega arith) (headed c))
 
@@ -67,7 +66,6 @@ module _ (t : ℕ) where
   put-word-requires c κs = let a = c .before .before .before in let p = a₃ a .pre .1 .0 in (Steps.fits p (lit≤ tt) (valued a), omega (arith, bytes-short p))
 
   -- ── What each return owes ───────────────────────────────────────────────────────────────────────
-
   returns : lts.Need-returns (K t) (P t) Post
   returns c = let x = c .before .before in let p = x .before .before .before .pre .1 in argues-fault (p .0 .stands) (p .1) (x .if1 .taken) (c .before .if2 .taken) (c .error .ensures)
 
@@ -98,7 +96,5 @@ module _ (t : ℕ) where
 
   -- All of them, in the order of the code.
   pub met : {M : Type 1} → lts.Closed (K t) (P t) Post M
-  met =
-      lts.spec (K t) (P t) Post (λ c κs. search needs) returns (λ c κs. search needs) (λ c. search needs) returns-2 (λ c κs. search needs)
-      (λ c κs. search needs) expr-requires-2 (λ c. search needs) (λ c. search needs) (λ c. search needs) returns-3 sub-put-word sub-put-word
-      part-put-word-end put-word-requires (λ c. search needs) returns-4
+  met = lts.spec (K t) (P t) Post (λ c κs. search needs) returns (λ c κs. search needs) (λ c. search needs) returns-2 (λ c κs. search needs) (λ c κs. search needs) expr-requires-2
+      (λ c. search needs) (λ c. search needs) (λ c. search needs) returns-3 sub-put-word sub-put-word part-put-word-end put-word-requires (λ c. search needs) returns-4

@@ -81,7 +81,6 @@ module _ (t : ℕ) where
   next c = let a = c .before .before .before .before in argument-on (there a) (c .before .if2 .left) (c .eat-any .ensures) (took a)
 
   -- ── What each call asks ─────────────────────────────────────────────────────────────────────────
-
   call-close-requires-2 : lts.Need-call-close-requires-2 (K t) (P t) Post Inv-loop μ-loop
   call-close-requires-2 c κs =
       let a = c .before .before .before .before in
@@ -100,7 +99,6 @@ module _ (t : ℕ) where
   add-named c = let i = l₂ (c .before) .loop .inv in omega (arith, i .1, few (c .before), i .0 .ok .short, i .0 .ok .stands .within)
 
   -- ── The loop, and what each return owes ─────────────────────────────────────────────────────────
-
   loop-holds : lts.Need-loop-holds (K t) (P t) Post Inv-loop μ-loop
   loop-holds c = (Steps.begun (c .before .before .pre .1 .0), omega arith)
 
@@ -132,7 +130,5 @@ module _ (t : ℕ) where
 
   -- All of them, in the order of the code.
   pub met : {M : Type 1} → lts.Closed (K t) (P t) Post M
-  met =
-      lts.spec (K t) (P t) Post Inv-loop μ-loop loop-holds (λ c κs. search needs) (λ c. search needs) returns (λ c κs. search needs)
-      (λ c κs. search needs) (λ c. search needs) (λ c. search needs) (λ c. search needs) returns-2 sub-unnamed add-unnamed add-named
-      call-close-requires-2 (λ c. search needs) returns-3 eat-any-requires loop-less loop-again
+  met = lts.spec (K t) (P t) Post Inv-loop μ-loop loop-holds (λ c κs. search needs) (λ c. search needs) returns (λ c κs. search needs) (λ c κs. search needs) (λ c. search needs)
+      (λ c. search needs) (λ c. search needs) returns-2 sub-unnamed add-unnamed add-named call-close-requires-2 (λ c. search needs) returns-3 eat-any-requires loop-less loop-again

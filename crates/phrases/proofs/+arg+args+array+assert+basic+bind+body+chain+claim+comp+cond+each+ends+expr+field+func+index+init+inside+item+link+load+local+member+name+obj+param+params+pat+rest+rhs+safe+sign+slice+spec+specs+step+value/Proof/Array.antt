@@ -42,7 +42,6 @@ module _ (t : ℕ) where
   So a b n c w o = let x = a .args in Seg (x .set) (x .src .now) (x .left) (state (goto array) 0 (x .c) (x .w) (x .out .now)) 0 0 (state b n c w o)
 
   -- ── The first element ───────────────────────────────────────────────────────────────────────────
-
   abbrev a₁ : lts.Else1 (K t) (P t) Post Inv-loop μ-loop → Begin
   a₁ c = c .before .before .before .before
 
@@ -63,7 +62,6 @@ module _ (t : ℕ) where
   there c = first c .stands (a₂ c .pre .1 .stands)
 
   -- ── A comprehension ─────────────────────────────────────────────────────────────────────────────
-
   abbrev c₃ : lts.After-past-comma (K t) (P t) Post Inv-loop μ-loop → lts.After-a (K t) (P t) Post Inv-loop μ-loop
   c₃ c = c .before .before .before .before .before
 
@@ -92,7 +90,6 @@ module _ (t : ℕ) where
   listed c = Steps.took (Steps.counted (x₄ c .specs .ensures) (c .d .given .1) .0) refl (clausal (x₄ c .before))
 
   -- ── Elements ────────────────────────────────────────────────────────────────────────────────────
-
   listing : (c : lts.Else2 (K t) (P t) Post Inv-loop μ-loop) → let a = c .before .before .before in So (a₂ a) (goto elements) 1 (a .a .given .0 .0) (a .a .given .0 .1 .0) (x₂ a .expr .last .1 .0)
   listing c = let a = c .before .before .before in array-no-for (there a) (c .before .clauses-at .ensures) (c .if2 .left) (first a)
 
@@ -135,7 +132,6 @@ module _ (t : ℕ) where
   again c = Steps.took (x₃ c .expr2 .ensures) (c .b .given .1) (more (x₃ c .before .before))
 
   -- ── What each call asks ─────────────────────────────────────────────────────────────────────────
-
   clauses-at-requires : lts.Need-clauses-at-requires (K t) (P t) Post Inv-loop μ-loop
   clauses-at-requires c κs = there (c .before)
 
@@ -155,7 +151,6 @@ module _ (t : ℕ) where
   expr-requires-2 c κs = let l = l₁ (c .before .before .before) in (omega (arith, a₅ l .pre .0), Steps.ready (l .loop .inv .0 .ok) (lit≤ tt) (more (c .before)))
 
   -- ── The loop, and what each return owes ─────────────────────────────────────────────────────────
-
   loop-holds : lts.Need-loop-holds (K t) (P t) Post Inv-loop μ-loop
   loop-holds c = let a = c .before .before .before in (Steps.begun (Steps.ready (a₂ a .pre .1) (lit≤ tt) (listing c)), omega (arith, step-grows (x₂ a .expr .ensures) (a .a .given .1)))
 
@@ -223,9 +218,7 @@ module _ (t : ℕ) where
 
   -- All of them, in the order of the code.
   pub met : {M : Type 1} → lts.Closed (K t) (P t) Post M
-  met =
-      lts.spec (K t) (P t) Post Inv-loop μ-loop (λ c κs. search needs) (λ c. search needs) returns (λ c κs. search needs) (λ c. search needs)
-      (λ c. search needs) (λ c. search needs) returns-2 clauses-at-requires past-comma-requires specs-requires (λ c. search needs) (λ c. search needs)
-      same-length-3 returns-3 array-close-requires-2 same-length-4 returns-4 loop-holds (λ c κs. search needs) same-length-5 returns-5
-      (λ c κs. search needs) array-close-requires-4 same-length-6 returns-6 expr-requires-2 (λ c. search needs) (λ c. search needs) same-length-7
+  met = lts.spec (K t) (P t) Post Inv-loop μ-loop (λ c κs. search needs) (λ c. search needs) returns (λ c κs. search needs) (λ c. search needs) (λ c. search needs) (λ c. search needs) returns-2
+      clauses-at-requires past-comma-requires specs-requires (λ c. search needs) (λ c. search needs) same-length-3 returns-3 array-close-requires-2 same-length-4 returns-4 loop-holds
+      (λ c κs. search needs) same-length-5 returns-5 (λ c κs. search needs) array-close-requires-4 same-length-6 returns-6 expr-requires-2 (λ c. search needs) (λ c. search needs) same-length-7
       returns-7 (λ c. search needs) loop-less loop-again

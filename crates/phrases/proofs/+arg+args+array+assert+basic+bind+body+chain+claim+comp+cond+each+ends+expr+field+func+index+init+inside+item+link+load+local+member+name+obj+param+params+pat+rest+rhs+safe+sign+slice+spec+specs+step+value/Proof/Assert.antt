@@ -28,7 +28,6 @@ module _ (t : ℕ) where
   So a e b n c w o = let x = a .args in Seg (x .set) (x .src .now) (x .left) (state (goto assertion) 0 (x .c) (x .w) (x .out .now)) e 0 (state b n c w o)
 
   -- ── `assert` e ──────────────────────────────────────────────────────────────────────────────────
-
   begun : (a : lts.Start (K t) (P t) Post) → So a 0 (eat ASSERT-KW ▸ goto condition) 0 (a .args .c) (a .args .w) (a .args .out .now)
   begun a = let x = a .args in Steps.known (eat ASSERT-KW ▸ goto condition) (a .pre .1 .stands) refl (λ xs t. asserts-on (x .set) (x .c) xs 0 (x .c .kind) t) Steps.here
 
@@ -66,7 +65,6 @@ module _ (t : ℕ) where
   record-of c m = close ASSERT (span (from (c₂ c)) (c .b .given .0 .0 .at) ∷ byte m ∷ []) ▸ end
 
   -- ── `:` e ───────────────────────────────────────────────────────────────────────────────────────
-
   abbrev c₃ : lts.After-eat-any (K t) (P t) Post → lts.After-b (K t) (P t) Post
   c₃ c = c .before .before .before .before .before
 
@@ -85,7 +83,6 @@ module _ (t : ℕ) where
   valued c = Steps.took (c .before .before .before .before .expr2 .ensures) (c .d .given .1) (past (c₄ c))
 
   -- ── What each call asks ─────────────────────────────────────────────────────────────────────────
-
   expr-requires : lts.Need-expr-requires (K t) (P t) Post
   expr-requires c κs = let a = c .before .before in let p = a₁ a .pre in (omega (arith, p .0), Steps.ready (p .1) (lit≤ tt) (opened a))
 
@@ -106,7 +103,6 @@ module _ (t : ℕ) where
   put-marked-requires-2 c κs = let d = c .before .before in let b = c₃ (c₄ d) in (Steps.fits (a₂ b .pre .1) (lit≤ tt) (valued d), short b .0, short b .1)
 
   -- ── What each return owes ───────────────────────────────────────────────────────────────────────
-
   returns : lts.Need-returns (K t) (P t) Post
   returns c = let x = c .before .before in Steps.as-sub (Steps.passed (Steps.eats-broken (x .eat .ensures) (c .before .match .keys2)) (begun (x .before .before .before)))
 
@@ -134,7 +130,6 @@ module _ (t : ℕ) where
 
   -- All of them, in the order of the code.
   pub met : {M : Type 1} → lts.Closed (K t) (P t) Post M
-  met =
-      lts.spec (K t) (P t) Post (λ c κs. search needs) (λ c. search needs) (λ c. search needs) returns expr-requires (λ c. search needs)
-      (λ c. search needs) (λ c. search needs) returns-2 put-marked-requires (λ c. search needs) returns-3 eat-any-requires expr-requires-2
-      (λ c. search needs) (λ c. search needs) (λ c. search needs) returns-4 put-marked-requires-2 same-length-4 returns-5
+  met = lts.spec (K t) (P t) Post (λ c κs. search needs) (λ c. search needs) (λ c. search needs) returns expr-requires (λ c. search needs) (λ c. search needs) (λ c. search needs) returns-2
+      put-marked-requires (λ c. search needs) returns-3 eat-any-requires expr-requires-2 (λ c. search needs) (λ c. search needs) (λ c. search needs) returns-4 put-marked-requires-2 same-length-4
+      returns-5

@@ -37,7 +37,6 @@ module _ (t : ℕ) where
   So f v b n c w o = let x = a₀ f .args in Seg (x .set) (x .src .now) (x .left) (state (goto basic) 0 (x .c) (x .w) (x .out .now)) 1 v (state b n c w o)
 
   -- ── The lexeme that opens a phrase ──────────────────────────────────────────────────────────────
-
   abbrev Opens : Fork → Body → Cursor → Type 0
   Opens f b c = let x = a₀ f .args in So f 0 b 0 c (x .w) (x .out .now)
 
@@ -65,7 +64,6 @@ module _ (t : ℕ) where
   raising c = let f = c .before .before .before in opens f (expression ▸ record-of f) (lit< tt) (c .eat-any5 .ensures) (c .before .before .match .keys8) (λ xs t. an-error _ _ xs 0 t)
 
   -- ── What stands inside ──────────────────────────────────────────────────────────────────────────
-
   abbrev c₁ : lts.After-a (K t) (P t) Post → lts.After-eat-any (K t) (P t) Post
   c₁ c = c .before .before .before .before .before
 
@@ -88,7 +86,6 @@ module _ (t : ℕ) where
   raised c = Steps.took (c .before .before .before .before .expr2 .ensures) (c .a3 .given .1) (raising (c₅ c))
 
   -- ── What each call asks ─────────────────────────────────────────────────────────────────────────
-
   expr-requires : lts.Need-expr-requires (K t) (P t) Post
   expr-requires c κs = let p = a₀ (c .before .before .before) .pre in (omega (arith, p .0), Steps.ready (p .1) (lit≤ tt) (paren c))
 
@@ -123,7 +120,6 @@ module _ (t : ℕ) where
   load-requires-3 c κs = let p = a₀ (c .before .before) .pre in (omega (arith, p .0), (p .1, imports-at (c .before .match .keys11) normal))
 
   -- ── What each return owes ───────────────────────────────────────────────────────────────────────
-
   returns : lts.Need-returns (K t) (P t) Post
   returns c = let x = c .before .before .before .before in Steps.as-sub (Steps.passed (Steps.takes-broken (x .expr .ensures) (c .before .match2 .keys2)) (paren (x .before)))
 
@@ -172,11 +168,9 @@ module _ (t : ℕ) where
 
   -- All of them, in the order of the code.
   pub met : {M : Type 1} → lts.Closed (K t) (P t) Post M
-  met =
-      lts.spec (K t) (P t) Post (λ c κs. search needs) expr-requires (λ c. search needs) (λ c. search needs) (λ c. search needs) returns eat-requires
-      (λ c κs. search needs) array-requires (λ c κs. search needs) inside-requires (λ c. search needs) (λ c. search needs) (λ c. search needs)
-      returns-2 eat-requires-2 (λ c κs. search needs) local-requires (λ c κs. search needs) (λ c κs. search needs) (λ c κs. search needs)
-      (λ c κs. search needs) expr-requires-2 (λ c. search needs) (λ c. search needs) (λ c. search needs) returns-3 put-mark-requires load-requires
-      load-requires-2 load-requires-3 (λ c κs. search needs) (λ c. search needs) returns-4 (λ c. search needs) returns-5 (λ c. search needs) returns-6
-      (λ c. search needs) returns-7 (λ c. search needs) returns-8 (λ c. search needs) returns-9 (λ c. search needs) returns-10 (λ c. search needs)
-      returns-11 (λ c. search needs) returns-12 (λ c. search needs) returns-13 (λ c. search needs) returns-14 (λ c. search needs) returns-15
+  met = lts.spec (K t) (P t) Post (λ c κs. search needs) expr-requires (λ c. search needs) (λ c. search needs) (λ c. search needs) returns eat-requires (λ c κs. search needs) array-requires
+      (λ c κs. search needs) inside-requires (λ c. search needs) (λ c. search needs) (λ c. search needs) returns-2 eat-requires-2 (λ c κs. search needs) local-requires (λ c κs. search needs)
+      (λ c κs. search needs) (λ c κs. search needs) (λ c κs. search needs) expr-requires-2 (λ c. search needs) (λ c. search needs) (λ c. search needs) returns-3 put-mark-requires load-requires
+      load-requires-2 load-requires-3 (λ c κs. search needs) (λ c. search needs) returns-4 (λ c. search needs) returns-5 (λ c. search needs) returns-6 (λ c. search needs) returns-7
+      (λ c. search needs) returns-8 (λ c. search needs) returns-9 (λ c. search needs) returns-10 (λ c. search needs) returns-11 (λ c. search needs) returns-12 (λ c. search needs) returns-13
+      (λ c. search needs) returns-14 (λ c. search needs) returns-15

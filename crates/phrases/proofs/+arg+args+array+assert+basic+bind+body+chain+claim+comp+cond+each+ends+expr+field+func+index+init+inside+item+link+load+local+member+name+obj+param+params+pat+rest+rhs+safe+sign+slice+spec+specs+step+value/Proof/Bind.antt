@@ -31,7 +31,6 @@ module _ (t : ℕ) where
   So a e v b n c w o = let x = a .args in Seg (x .set) (x .src .now) (x .left) (state (goto bind) 0 (x .c) (x .w) (x .out .now)) e v (state b n c w o)
 
   -- ── A pattern ───────────────────────────────────────────────────────────────────────────────────
-
   abbrev a₁ : lts.Then1 (K t) (P t) Post → lts.Start (K t) (P t) Post
   a₁ c = c .before .before .before .before
 
@@ -46,7 +45,6 @@ module _ (t : ℕ) where
   into c = Steps.took (x₂ c .pat .ensures) (c .a .given .1) (other (x₂ c .before .before))
 
   -- ── A name ──────────────────────────────────────────────────────────────────────────────────────
-
   abbrev x₃ : lts.After-eat-any (K t) (P t) Post → lts.After-put-name (K t) (P t) Post
   x₃ c = c .before .before .before
 
@@ -73,7 +71,6 @@ module _ (t : ℕ) where
   plain c = let e = c .before .before in Steps.known (bound 0 0) (e .eat-any .ensures .stands) refl (λ xs t. simp (ne-eqb _ L-PAREN (c .if2 .taken))) (named e)
 
   -- ── Its parameters ──────────────────────────────────────────────────────────────────────────────
-
   abbrev c₄ : lts.After-eat-any2 (K t) (P t) Post → lts.After-eat-any (K t) (P t) Post
   c₄ c = c .before .before .before .before
 
@@ -105,7 +102,6 @@ module _ (t : ℕ) where
   shut c = Steps.ate (c .before .before .eat .ensures) (c .d .given .1) (listed (c₆ c))
 
   -- ── What each call asks ─────────────────────────────────────────────────────────────────────────
-
   rhs-requires : lts.Need-rhs-requires (K t) (P t) Post
   rhs-requires c κs = let a = c .before .before in let p = a₁ (x₂ a .before .before) .pre in (omega (arith, p .0), (Steps.ready (p .1) (lit≤ tt) (into a), omega arith))
 
@@ -136,7 +132,6 @@ module _ (t : ℕ) where
       (omega (arith, p .0), (Steps.ready (p .1) (lit≤ tt) (shut d), omega (arith, few, d .before .before .eat .ensures .moved _ _ _ (d .d .given .1) .0)))
 
   -- ── What each return owes ───────────────────────────────────────────────────────────────────────
-
   returns : lts.Need-returns (K t) (P t) Post
   returns c = let x = c .before .before .before .before in Steps.as-sub (Steps.passed (Steps.takes-broken (x .pat .ensures) (c .before .match .keys2)) (other (x .before .before)))
 
@@ -166,8 +161,6 @@ module _ (t : ℕ) where
 
   -- All of them, in the order of the code.
   pub met : {M : Type 1} → lts.Closed (K t) (P t) Post M
-  met =
-      lts.spec (K t) (P t) Post (λ c κs. search needs) (λ c. search needs) (λ c. search needs) (λ c. search needs) returns rhs-requires
-      (λ c. search needs) returns-2 sub-put-name sub-put-name part-put-name-end put-name-requires (λ c κs. search needs) rhs-requires-2
-      (λ c. search needs) returns-3 (λ c κs. search needs) params-requires (λ c. search needs) (λ c. search needs) (λ c. search needs) returns-4
-      eat-requires (λ c. search needs) (λ c. search needs) (λ c. search needs) returns-5 rhs-requires-3 same-length-6 returns-6
+  met = lts.spec (K t) (P t) Post (λ c κs. search needs) (λ c. search needs) (λ c. search needs) (λ c. search needs) returns rhs-requires (λ c. search needs) returns-2 sub-put-name sub-put-name
+      part-put-name-end put-name-requires (λ c κs. search needs) rhs-requires-2 (λ c. search needs) returns-3 (λ c κs. search needs) params-requires (λ c. search needs) (λ c. search needs)
+      (λ c. search needs) returns-4 eat-requires (λ c. search needs) (λ c. search needs) (λ c. search needs) returns-5 rhs-requires-3 same-length-6 returns-6

@@ -48,7 +48,6 @@ module _ (t : ℕ) where
   valued c = Steps.took (c .before .before .before .before .expr .ensures) (c .b .given .1) (opened (c₂ c))
 
   -- ── What each call asks ─────────────────────────────────────────────────────────────────────────
-
   expr-requires : lts.Need-expr-requires (K t) (P t) Post
   expr-requires c κs = let a = c .before .before in let p = a₁ a .pre in (omega (arith, p .0), Steps.ready (p .1 .0) (lit≤ tt) (opened a))
 
@@ -56,7 +55,6 @@ module _ (t : ℕ) where
   put-count-requires c κs = let b = c .before .before in let p = a₁ (c₂ b) .pre .1 in (Steps.fits (p .0) (lit≤ tt) (valued b), few (p .0) (p .1))
 
   -- ── What each return owes ───────────────────────────────────────────────────────────────────────
-
   returns : lts.Need-returns (K t) (P t) Post
   returns c = let x = c .before .before in Steps.passed (Steps.eats-broken (x .eat .ensures) (c .before .match .keys2)) (begun (x .before .before .before))
 
@@ -69,6 +67,5 @@ module _ (t : ℕ) where
 
   -- All of them, in the order of the code.
   pub met : {M : Type 1} → lts.Closed (K t) (P t) Post M
-  met =
-      lts.spec (K t) (P t) Post (λ c κs. search needs) (λ c. search needs) (λ c. search needs) returns expr-requires (λ c. search needs)
-      (λ c. search needs) (λ c. search needs) returns-2 put-count-requires (λ c. search needs) returns-3
+  met = lts.spec (K t) (P t) Post (λ c κs. search needs) (λ c. search needs) (λ c. search needs) returns expr-requires (λ c. search needs) (λ c. search needs) (λ c. search needs) returns-2
+      put-count-requires (λ c. search needs) returns-3

@@ -68,14 +68,12 @@ module _ (t : ℕ) where
   on c = Steps.follows (x₃ c .link .ensures .tells) (c .b .given .1) Steps.here
 
   -- ── What each call asks ─────────────────────────────────────────────────────────────────────────
-
   link-requires : lts.Need-link-requires (K t) (P t) Post Inv-loop μ-loop
   link-requires c κs =
       let l = c .before .before .before in
       (omega (arith, a₂ l .pre .0), (l .loop .inv .0 .ok, suffix-there (c .before .before .suffix-at .ensures) (c .before .if1 .left), l .loop .inv .1))
 
   -- ── The loop, and what each return owes ─────────────────────────────────────────────────────────
-
   returns : lts.Need-returns (K t) (P t) Post Inv-loop μ-loop
   returns c = let x = c .before .before .before .before in Steps.as-sub (Steps.passed (Steps.takes-broken (x .basic .ensures) (c .before .match .keys2)) (begun (x .before .before .before .before)))
 
@@ -101,7 +99,5 @@ module _ (t : ℕ) where
 
   -- All of them, in the order of the code.
   pub met : {M : Type 1} → lts.Closed (K t) (P t) Post M
-  met =
-      lts.spec (K t) (P t) Post Inv-loop μ-loop (λ c κs. search needs) (λ c. search needs) (λ c. search needs) (λ c. search needs) returns loop-holds
-      (λ c κs. search needs) (λ c. search needs) returns-2 link-requires (λ c. search needs) (λ c. search needs) (λ c. search needs) returns-3
-      loop-less loop-again
+  met = lts.spec (K t) (P t) Post Inv-loop μ-loop (λ c κs. search needs) (λ c. search needs) (λ c. search needs) (λ c. search needs) returns loop-holds (λ c κs. search needs) (λ c. search needs)
+      returns-2 link-requires (λ c. search needs) (λ c. search needs) (λ c. search needs) returns-3 loop-less loop-again

@@ -54,7 +54,6 @@ module _ (t : ℕ) where
   valued c = Steps.took (c .before .before .before .before .expr .ensures) (c .d .given .1) (ended (c₃ c))
 
   -- ── What each call asks ─────────────────────────────────────────────────────────────────────────
-
   eat-requires : lts.Need-eat-requires (K t) (P t) Post
   eat-requires c κs = let a = c .before in (lit< tt, asserted a .stands (a₁ a .pre .1 .0 .stands))
 
@@ -65,7 +64,6 @@ module _ (t : ℕ) where
   put-none-requires c κs = let d = c .before .before in Steps.fits (a₃ d .pre .1 .0) (lit≤ tt) (valued d)
 
   -- ── What each return owes ───────────────────────────────────────────────────────────────────────
-
   returns : lts.Need-returns (K t) (P t) Post
   returns c = let x = c .before .before .before .before in Steps.passed (Steps.takes-broken (x .assert .ensures) (c .before .match .keys2)) (begun (x .before .before .before .before))
 
@@ -84,7 +82,5 @@ module _ (t : ℕ) where
 
   -- All of them, in the order of the code.
   pub met : {M : Type 1} → lts.Closed (K t) (P t) Post M
-  met =
-      lts.spec (K t) (P t) Post (λ c κs. search needs) (λ c. search needs) (λ c. search needs) (λ c. search needs) returns eat-requires
-      (λ c. search needs) (λ c. search needs) (λ c. search needs) returns-2 expr-requires (λ c. search needs) (λ c. search needs) (λ c. search needs)
-      returns-3 put-none-requires same-length-4 returns-4
+  met = lts.spec (K t) (P t) Post (λ c κs. search needs) (λ c. search needs) (λ c. search needs) (λ c. search needs) returns eat-requires (λ c. search needs) (λ c. search needs)
+      (λ c. search needs) returns-2 expr-requires (λ c. search needs) (λ c. search needs) (λ c. search needs) returns-3 put-none-requires same-length-4 returns-4

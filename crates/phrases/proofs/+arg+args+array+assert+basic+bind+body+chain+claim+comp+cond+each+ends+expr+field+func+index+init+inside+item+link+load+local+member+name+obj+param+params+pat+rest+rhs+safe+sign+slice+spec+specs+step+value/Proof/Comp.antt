@@ -14,7 +14,7 @@ use Rattle.grammar.specs.Tags.{OBJECT-COMP}
 use Rattle.grammar.specs.Image.{entry, payload}
 use Rattle.grammar.specs.Trees.{number}
 use Rattle.grammar.specs.Productions.{Body, goto, end, fail, sub, close, _▸_, comprehension, comprehension-end, clauses}
-use Rattle.leaves.specs.Meets.{state, Seg, Takes, sorted}
+use Rattle.leaves.specs.Meets.{state, Seg, Takes}
 use Rattle.leaves.specs.declared.Answer.the-variants.{Done}
 use Rattle.leaves.proofs.LeafLaws.{few}
 use Rattle.phrases.proofs.KeywordLaws.{clauses-break, good-clauses, bad-clauses, clauses-end}
@@ -55,7 +55,6 @@ module _ (t : ℕ) where
       (Steps.known (sub clauses ▸ goto (comprehension-end (x .n))) (a₁ a .pre .1 .0 .stands) refl (λ xs t. good-clauses (x .set) (x .c) xs (x .n) (x .fault) (x .c .kind) t (c .if1 .left)) Steps.here)
 
   -- ── What each call asks ─────────────────────────────────────────────────────────────────────────
-
   put-counts-requires : lts.Need-put-counts-requires (K t) (P t) Post
   put-counts-requires c κs =
       let e = c .before in
@@ -64,7 +63,6 @@ module _ (t : ℕ) where
       (Steps.fits (p .0) (lit≤ tt) (read e), few (p .0) (p .2), omega (arith, listed a .1, read e .stands (p .0 .stands) .within, p .0 .short))
 
   -- ── What each return owes ───────────────────────────────────────────────────────────────────────
-
   returns : lts.Need-returns (K t) (P t) Post
   returns c =
       let x = c .before .before .before .before in
@@ -72,8 +70,7 @@ module _ (t : ℕ) where
       clauses-break (a .args .fault) (a .pre .1 .0 .stands) (x .specs .ensures) (c .before .match .keys2)
 
   returns-2 : lts.Need-returns-2 (K t) (P t) Post
-  unfolding sorted
-  returns-2 c = let e = c .before in Steps.broke (Steps.fails (faulty e .stands (a₁ (e .before .before) .pre .1 .0 .stands)) refl (faulty e)) (c .error .ensures)
+  returns-2 c = let e = c .before in Steps.broke (Steps.fails (faulty e .stands (a₁ (e .before .before) .pre .1 .0 .stands)) (faulty e)) (c .error .ensures)
 
   returns-3 : lts.Need-returns-3 (K t) (P t) Post
   unfolding entry payload
@@ -89,6 +86,5 @@ module _ (t : ℕ) where
 
   -- All of them, in the order of the code.
   pub met : {M : Type 1} → lts.Closed (K t) (P t) Post M
-  met =
-      lts.spec (K t) (P t) Post (λ c κs. search needs) (λ c. search needs) (λ c. search needs) (λ c. search needs) returns (λ c κs. search needs)
-      (λ c. search needs) returns-2 put-counts-requires (λ c. search needs) returns-3
+  met = lts.spec (K t) (P t) Post (λ c κs. search needs) (λ c. search needs) (λ c. search needs) (λ c. search needs) returns (λ c κs. search needs) (λ c. search needs) returns-2
+      put-counts-requires (λ c. search needs) returns-3

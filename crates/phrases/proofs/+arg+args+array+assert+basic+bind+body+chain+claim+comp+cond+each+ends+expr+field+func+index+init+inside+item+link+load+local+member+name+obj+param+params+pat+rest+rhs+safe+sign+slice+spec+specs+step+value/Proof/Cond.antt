@@ -27,7 +27,6 @@ module _ (t : ℕ) where
   tail a = goto (else-part (a .args .c .start) (a .args .c .end))
 
   -- ── `if` e `then` e ─────────────────────────────────────────────────────────────────────────────
-
   abbrev a₀ : lts.After-eat-any (K t) (P t) Post → lts.Start (K t) (P t) Post
   a₀ c = c .before .before .before .before
 
@@ -60,7 +59,6 @@ module _ (t : ℕ) where
   chosen c = Steps.took (c .before .before .before .before .expr2 .ensures) (c .d .given .1) (thened (c₃ c))
 
   -- ── `else` e ────────────────────────────────────────────────────────────────────────────────────
-
   abbrev c₄ : lts.After-eat-any2 (K t) (P t) Post → lts.After-d (K t) (P t) Post
   c₄ c = c .before .before .before .before .before
 
@@ -80,7 +78,6 @@ module _ (t : ℕ) where
   value c = Steps.took (c .before .before .before .before .expr3 .ensures) (c .e .given .1) (past (c₅ c))
 
   -- ── What each call asks ─────────────────────────────────────────────────────────────────────────
-
   eat-any-requires : lts.Need-eat-any-requires (K t) (P t) Post
   eat-any-requires c κs = c .before .before .before .pre .1 .0 .stands
 
@@ -106,7 +103,6 @@ module _ (t : ℕ) where
   put-marked-requires-2 c κs = let e = c .before .before in let p = a₃ (c₄ (c₅ e)) .pre .1 .0 in (Steps.fits p (lit≤ tt) (value e), within p .0, within p .1)
 
   -- ── What each return owes ───────────────────────────────────────────────────────────────────────
-
   returns : lts.Need-returns (K t) (P t) Post
   returns c = let x = c .before .before .before .before in Steps.passed (Steps.takes-broken (x .expr .ensures) (c .before .match .keys2)) (opened (x .before))
 
@@ -144,8 +140,6 @@ module _ (t : ℕ) where
 
   -- All of them, in the order of the code.
   pub met : {M : Type 1} → lts.Closed (K t) (P t) Post M
-  met =
-      lts.spec (K t) (P t) Post eat-any-requires expr-requires (λ c. search needs) (λ c. search needs) (λ c. search needs) returns eat-requires
-      (λ c. search needs) (λ c. search needs) (λ c. search needs) returns-2 expr-requires-2 (λ c. search needs) (λ c. search needs)
-      (λ c. search needs) returns-3 put-marked-requires same-length-4 returns-4 eat-any-requires-2 expr-requires-3 (λ c. search needs)
-      (λ c. search needs) same-length-5 returns-5 put-marked-requires-2 same-length-6 returns-6
+  met = lts.spec (K t) (P t) Post eat-any-requires expr-requires (λ c. search needs) (λ c. search needs) (λ c. search needs) returns eat-requires (λ c. search needs) (λ c. search needs)
+      (λ c. search needs) returns-2 expr-requires-2 (λ c. search needs) (λ c. search needs) (λ c. search needs) returns-3 put-marked-requires same-length-4 returns-4 eat-any-requires-2
+      expr-requires-3 (λ c. search needs) (λ c. search needs) same-length-5 returns-5 put-marked-requires-2 same-length-6 returns-6

@@ -47,7 +47,6 @@ module _ (t : ℕ) where
       Seg (a .set) (a .src .now) (a .left) (state (goto for-clause) 0 (a .c) (a .w) (a .out .now)) e 0 (state b n c w o)
 
   -- ── The header, a pattern, `in` e ────────────────────────────────────────────────────────────────
-
   headed : (h : Head) → So h (size h) (sub pattern ▸ eat 76 ▸ expression ▸ shape h) 0 (h .visibility .result .cursor) (a₁ h .args .w) (a₁ h .args .out .now)
   headed h =
       let p = a₁ h .pre .1 in let colon = h .before .before in let left = colon .before .before .before .if1 .left in
@@ -78,7 +77,6 @@ module _ (t : ℕ) where
       iteration-closed (key h .start) (key h .end) (h .visibility .result .byte) (lies (stood h) .within) (c .put-iteration .ensures) (value (c .before .before .before .before))
 
   -- ── What each call asks ──────────────────────────────────────────────────────────────────────────
-
   pat-requires : lts.Need-pat-requires (K t) (P t) Post
   pat-requires c κs = let p = a₁ (c .before .before) .pre in (omega (arith, p .0), Steps.ready (p .1 .0) (omega arith) (headed (c .before .before)))
 
@@ -104,7 +102,6 @@ module _ (t : ℕ) where
       (Steps.fits r (lit≤ tt) (value (c .before .before .before)), omega (arith, short))
 
   -- ── What each return owes ────────────────────────────────────────────────────────────────────────
-
   returns : lts.Need-returns (K t) (P t) Post
   returns c = let p = c .before .before .before .before .pre .1 in too-deep-clause (c .before .if1 .taken) (p .0 .stands) (p .1) (c .error .ensures)
 
@@ -125,8 +122,6 @@ module _ (t : ℕ) where
 
   -- All of them, in the order of the code.
   pub met : {M : Type 1} → lts.Closed (K t) (P t) Post M
-  met =
-      lts.spec (K t) (P t) Post (λ c κs. search needs) returns (λ c κs. search needs) (λ c κs. search needs) (λ c κs. search needs)
-      (λ c κs. search needs) (λ c κs. search needs) pat-requires (λ c. search needs) (λ c. search needs) (λ c. search needs) returns-2 eat-requires
-      (λ c. search needs) (λ c. search needs) (λ c. search needs) returns-3 expr-requires (λ c. search needs) (λ c. search needs) (λ c. search needs)
-      returns-4 sub-put-iteration part-put-iteration-start part-put-iteration-end put-iteration-requires same-length-4 returns-5
+  met = lts.spec (K t) (P t) Post (λ c κs. search needs) returns (λ c κs. search needs) (λ c κs. search needs) (λ c κs. search needs) (λ c κs. search needs) (λ c κs. search needs) pat-requires
+      (λ c. search needs) (λ c. search needs) (λ c. search needs) returns-2 eat-requires (λ c. search needs) (λ c. search needs) (λ c. search needs) returns-3 expr-requires (λ c. search needs)
+      (λ c. search needs) (λ c. search needs) returns-4 sub-put-iteration part-put-iteration-start part-put-iteration-end put-iteration-requires same-length-4 returns-5

@@ -42,7 +42,6 @@ module _ (t : ℕ) where
       Seg (a .set) (a .src .now) (a .left) (state (goto (l .loop .inv .0)) (a .n + l .loop .m) (l .loop .cur) (l .loop .at) (l .loop .out)) e 0 (state b n c w o)
 
   -- ── `,` and a pattern ────────────────────────────────────────────────────────────────────────────
-
   comma : (c : lts.After-eat-any (K t) (P t) Post Inv-loop μ-loop) → let l = c .before .before .before in let a = a₁ l in
       So l 1 (goto (pattern-ends (a .args .n) (a .args .keep) (word a))) (a .args .n + l .loop .m) (c .eat-any .result) (l .loop .at) (l .loop .out)
   comma c =
@@ -70,7 +69,6 @@ module _ (t : ℕ) where
       Steps.count-is sum (Steps.took (c .before .before .before .before .pat .ensures) (c .a .given .1) (opened (c .before .before .before .before .before .before)))
 
   -- ── The loop, and what each call asks ────────────────────────────────────────────────────────────
-
   loop-holds : lts.Need-loop-holds (K t) (P t) Post Inv-loop μ-loop
   loop-holds c =
       let a = c .before .before in let n = a .args .n in
@@ -98,7 +96,6 @@ module _ (t : ℕ) where
       (pattern-ends-end (a .args .n) (a .args .keep) (word a), at-pattern, Steps.turned (i .2) (lit≤ tt) (one v), omega (arith, i .3, one v .onward))
 
   -- ── What each return owes ────────────────────────────────────────────────────────────────────────
-
   returns : lts.Need-returns (K t) (P t) Post Inv-loop μ-loop
   returns c =
       let l = c .before .before .before .before .before .before in let a = a₁ l .args in let i = l .loop .inv in
@@ -121,7 +118,5 @@ module _ (t : ℕ) where
 
   -- All of them, in the order of the code.
   pub met : {M : Type 1} → lts.Closed (K t) (P t) Post M
-  met =
-      lts.spec (K t) (P t) Post Inv-loop μ-loop loop-holds (λ c κs. search needs) (λ c. search needs) returns (λ c κs. search needs)
-      array-pattern-close-requires-2 (λ c. search needs) returns-2 pat-requires (λ c. search needs) (λ c. search needs) (λ c. search needs) returns-3
-      add-m loop-less loop-again
+  met = lts.spec (K t) (P t) Post Inv-loop μ-loop loop-holds (λ c κs. search needs) (λ c. search needs) returns (λ c κs. search needs) array-pattern-close-requires-2 (λ c. search needs) returns-2
+      pat-requires (λ c. search needs) (λ c. search needs) (λ c. search needs) returns-3 add-m loop-less loop-again

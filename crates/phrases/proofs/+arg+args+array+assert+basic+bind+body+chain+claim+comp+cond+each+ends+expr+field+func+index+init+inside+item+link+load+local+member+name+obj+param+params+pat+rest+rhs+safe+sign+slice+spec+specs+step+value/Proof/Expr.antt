@@ -51,7 +51,6 @@ module _ (t : ℕ) where
   whole l = Steps.then (head (l .before .before)) (l .loop .inv .seg)
 
   -- ── An operator and its second operand ───────────────────────────────────────────────────────────
-
   -- a stretch of one turn, of which e bytes are taken and v are owed
   abbrev So : Turn → ℕ → ℕ → Body → ℕ → Cursor → ℕ → List ℕ → Type 0
   So l e v b n c w o =
@@ -87,7 +86,6 @@ module _ (t : ℕ) where
   joined c = Steps.closed 8 (lit≤ tt) (c .put-kind .ensures) (value (c .before .before .before))
 
   -- ── The loop, and what each call asks ────────────────────────────────────────────────────────────
-
   loop-holds : lts.Need-loop-holds (K t) (P t) Post Inv-loop μ-loop
   loop-holds c = Steps.begun (Steps.ready (a₁ (c .before) .pre .1) (lit≤ tt) (head (c .before)))
 
@@ -107,7 +105,6 @@ module _ (t : ℕ) where
   loop-again c = let x = c .before .before in Steps.turned (b₄ (x .before .before .before) .before .before .before .loop .inv) (lit≤ tt) (joined x)
 
   -- ── What each return owes ────────────────────────────────────────────────────────────────────────
-
   returns : lts.Need-returns (K t) (P t) Post Inv-loop μ-loop
   returns c = record { takes = λ b n. Steps.broke (Steps.too-deep (c .before .if1 .taken) (c .before .before .before .before .pre .1 .stands)) (c .error .ensures) }
 
@@ -135,8 +132,6 @@ module _ (t : ℕ) where
 
   -- All of them, in the order of the code.
   pub met : {M : Type 1} → lts.Closed (K t) (P t) Post M
-  met =
-      lts.spec (K t) (P t) Post Inv-loop μ-loop (λ c κs. search needs) returns (λ c. search needs) (λ c κs. search needs) (λ c. search needs)
-      (λ c. search needs) (λ c. search needs) returns-2 loop-holds (λ c κs. search needs) (λ c. search needs) (λ c. search needs) (λ c. search needs)
-      returns-3 (λ c. search needs) returns-4 (λ c κs. search needs) (λ c. search needs) expr-requires (λ c. search needs) (λ c. search needs)
-      (λ c. search needs) returns-5 put-kind-requires loop-less loop-again
+  met = lts.spec (K t) (P t) Post Inv-loop μ-loop (λ c κs. search needs) returns (λ c. search needs) (λ c κs. search needs) (λ c. search needs) (λ c. search needs) (λ c. search needs) returns-2
+      loop-holds (λ c κs. search needs) (λ c. search needs) (λ c. search needs) (λ c. search needs) returns-3 (λ c. search needs) returns-4 (λ c κs. search needs) (λ c. search needs) expr-requires
+      (λ c. search needs) (λ c. search needs) (λ c. search needs) returns-5 put-kind-requires loop-less loop-again

@@ -25,7 +25,6 @@ module _ (t : ℕ) where
   So a e v b n c w o = Seg (a .args .set) (a .args .src .now) (a .args .left) (state (goto field) 0 (a .args .c) (a .args .w) (a .args .out .now)) e v (state b n c w o)
 
   -- ── The name ─────────────────────────────────────────────────────────────────────────────────────
-
   abbrev Name : Type 0
   Name = lts.After-a (K t) (P t) Post
 
@@ -50,7 +49,6 @@ module _ (t : ℕ) where
   title c = let r = a₁ c .pre .1 in (within r .0, place r (there c), Steps.told-small (c .before .before .before .before .name .ensures) (c .a .given .1))
 
   -- ── `(` parameters `)` ───────────────────────────────────────────────────────────────────────────
-
   abbrev n₂ : lts.After-eat-any (K t) (P t) Post → Name
   n₂ c = c .before .before .before .before .before
 
@@ -79,7 +77,6 @@ module _ (t : ℕ) where
       Steps.count-is (let z : 1 + n ≡ n + 1 = omega arith in z) (Steps.ate (c .before .before .eat .ensures) (c .d .given .1) (listed (c .before .before .before .before)))
 
   -- ── `+`, or neither ──────────────────────────────────────────────────────────────────────────────
-
   abbrev n₅ : lts.After-eat-any2 (K t) (P t) Post → Name
   n₅ c = c .before .before .before .before .before .before .before
 
@@ -97,7 +94,6 @@ module _ (t : ℕ) where
   plain c = Steps.known (worth (n₆ c) 0 0) (there (n₆ c)) refl (λ xs t. simp (ne-eqb _ 25 (c .before .before .if1 .left), ne-eqb _ 16 (c .if2 .left))) (named (n₆ c))
 
   -- ── What each call asks ──────────────────────────────────────────────────────────────────────────
-
   eat-any-requires : lts.Need-eat-any-requires (K t) (P t) Post
   eat-any-requires c κs = there (c .before .before .before .before)
 
@@ -127,7 +123,6 @@ module _ (t : ℕ) where
       (omega (arith, p .0), (Steps.ready (p .1) (lit≤ tt) (plain (c .before)), title n .0, title n .1, title n .2, omega arith))
 
   -- ── What each return owes ────────────────────────────────────────────────────────────────────────
-
   returns : lts.Need-returns (K t) (P t) Post
   returns c = Steps.as-sub (Steps.passed (Steps.tells-broken (c .before .before .before .before .name .ensures) (c .before .match .keys2)) Steps.here)
 
@@ -154,8 +149,6 @@ module _ (t : ℕ) where
 
   -- All of them, in the order of the code.
   pub met : {M : Type 1} → lts.Closed (K t) (P t) Post M
-  met =
-      lts.spec (K t) (P t) Post (λ c κs. search needs) (λ c. search needs) (λ c. search needs) (λ c. search needs) returns eat-any-requires
-      params-requires (λ c. search needs) (λ c. search needs) (λ c. search needs) returns-2 eat-requires (λ c. search needs) (λ c. search needs)
-      same-length-3 returns-3 value-requires same-length-4 returns-4 eat-any-requires-2 value-requires-2 (λ c. search needs) returns-5
-      value-requires-3 (λ c. search needs) returns-6
+  met = lts.spec (K t) (P t) Post (λ c κs. search needs) (λ c. search needs) (λ c. search needs) (λ c. search needs) returns eat-any-requires params-requires (λ c. search needs)
+      (λ c. search needs) (λ c. search needs) returns-2 eat-requires (λ c. search needs) (λ c. search needs) same-length-3 returns-3 value-requires same-length-4 returns-4 eat-any-requires-2
+      value-requires-2 (λ c. search needs) returns-5 value-requires-3 (λ c. search needs) returns-6

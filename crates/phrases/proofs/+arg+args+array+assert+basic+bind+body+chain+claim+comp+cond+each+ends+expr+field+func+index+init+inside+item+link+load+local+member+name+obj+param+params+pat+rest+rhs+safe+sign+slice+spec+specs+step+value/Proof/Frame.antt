@@ -117,6 +117,7 @@ use Rattle.phrases.proofs.value.Reads as value
 use Rattle.phrases.proofs.value.Kinds as value-kinds
 use Rattle.phrases.proofs.+arg+args+array+assert+basic+bind+body+chain+claim+comp+cond+each+ends+expr+field+func+index+init+inside+item+link+load+local+member+name+obj+param+params+pat+rest+rhs+safe+sign+slice+spec+specs+step+value.Lts-value as value-lts
 use Rattle.grammar.proofs.operators.unary_op.Reads as unary-op-reads
+use Rattle.grammar.proofs.settings.has_destruct.Reads as has-destruct-reads
 use Rattle.grammar.proofs.writers.put_bind.Reads as put-bind-reads
 use Rattle.grammar.proofs.writers.put_count.Reads as put-count-reads
 use Rattle.grammar.proofs.writers.put_counts.Reads as put-counts-reads
@@ -143,8 +144,7 @@ use Rattle.leaves.proofs.past_comma.Reads as past-comma-reads
 use Rattle.leaves.proofs.pattern_atom.Reads as pattern-atom-reads
 use Rattle.leaves.proofs.slice_close.Reads as slice-close-reads
 use Rattle.leaves.proofs.visibility.Reads as visibility-reads
-use Rattle.leaves.proofs.with_assert.Reads as with-assert-reads
-use Rattle.leaves.proofs.with_field.Reads as with-field-reads
+use Rattle.leaves.proofs.with_member.Reads as with-member-reads
 use Rattle.leaves.proofs.operators.infix.Reads as infix-reads
 use Rattle.leaves.proofs.parser.clauses_at.Reads as clauses-at-reads
 use Rattle.leaves.proofs.parser.eat.Reads as eat-reads
@@ -553,7 +553,7 @@ abbrev pub init-claims : ℕ → init-lts.Claims
 init-claims t = (put-pattern-field-reads.Asked, put-pattern-field-reads.Learnt, eat-any-reads.Asked, eat-any-reads.Learnt, expr-below t, expr.Post)
 
 abbrev pub inside-claims : ℕ → inside-lts.Claims
-inside-claims t = (members-close-reads.Asked, members-close-reads.Learnt, member-below t, member.Post, past-comma-reads.Asked, past-comma-reads.Learnt, comp-below t, comp.Post)
+inside-claims t = (members-close-reads.Asked, members-close-reads.Learnt, member-below t, member.Post, with-member-reads.Asked, with-member-reads.Learnt, past-comma-reads.Asked, past-comma-reads.Learnt, comp-below t, comp.Post)
 
 abbrev pub item-claims : ℕ → item-lts.Claims
 item-claims t = (eat-reads.Asked, eat-reads.Learnt, init-below t, init.Post, eat-any-reads.Asked, eat-any-reads.Learnt, pat-below t, pat.Post)
@@ -568,7 +568,7 @@ abbrev pub local-claims : ℕ → local-lts.Claims
 local-claims t = (body-below t, body.Post, bind-below t, bind.Post, eat-any-reads.Asked, eat-any-reads.Learnt)
 
 abbrev pub member-claims : ℕ → member-lts.Claims
-member-claims t = (eat-any-reads.Asked, eat-any-reads.Learnt, bind-below t, bind.Post, assert-below t, assert.Post, with-assert-reads.Asked, with-assert-reads.Learnt, field-below t, field.Post, with-field-reads.Asked, with-field-reads.Learnt)
+member-claims t = (eat-any-reads.Asked, eat-any-reads.Learnt, bind-below t, bind.Post, assert-below t, assert.Post, field-below t, field.Post)
 
 abbrev pub name-claims : ℕ → name-lts.Claims
 name-claims t = (fixed-name-reads.Asked, fixed-name-reads.Learnt, eat-any-reads.Asked, eat-any-reads.Learnt, expr-below t, expr.Post, eat-reads.Asked, eat-reads.Learnt)
@@ -583,7 +583,7 @@ abbrev pub params-claims : ℕ → params-lts.Claims
 params-claims t = (param-below t, param.Post, eat-any-reads.Asked, eat-any-reads.Learnt)
 
 abbrev pub pat-claims : ℕ → pat-lts.Claims
-pat-claims t = (pattern-atom-reads.Asked, pattern-atom-reads.Learnt, error-reads.Asked, error-reads.Learnt, eat-any-reads.Asked, eat-any-reads.Learnt, obj-below t, obj.Post, array-pattern-close-reads.Asked, array-pattern-close-reads.Learnt, rest-below t, rest.Post, pat-below t, pat.Post)
+pat-claims t = (pattern-atom-reads.Asked, pattern-atom-reads.Learnt, has-destruct-reads.Asked, has-destruct-reads.Learnt, error-reads.Asked, error-reads.Learnt, eat-any-reads.Asked, eat-any-reads.Learnt, obj-below t, obj.Post, array-pattern-close-reads.Asked, array-pattern-close-reads.Learnt, rest-below t, rest.Post, pat-below t, pat.Post)
 
 abbrev pub rest-claims : ℕ → rest-lts.Claims
 rest-claims t = (eat-any-reads.Asked, eat-any-reads.Learnt, ends-below t, ends.Post)

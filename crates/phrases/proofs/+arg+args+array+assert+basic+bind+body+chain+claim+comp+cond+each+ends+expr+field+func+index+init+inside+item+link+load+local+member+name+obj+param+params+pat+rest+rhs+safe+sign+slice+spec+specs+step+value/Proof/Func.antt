@@ -30,7 +30,6 @@ module _ (t : ℕ) where
   shape a n = close 21 (span (a .args .c .start) (a .args .c .end) ∷ number n ∷ []) ▸ end
 
   -- ── `function` `(` parameters `)` ────────────────────────────────────────────────────────────────
-
   opened : (c : lts.After-eat-any (K t) (P t) Post) → let a = c .before .before .before in So a 1 0 (eat 25 ▸ sub params ▸ eat 26 ▸ tail a) 0 (c .eat-any .result) (a .args .w) (a .args .out .now)
   opened c =
       let a = c .before .before .before in let st = a .pre .1 .0 .stands in
@@ -55,7 +54,6 @@ module _ (t : ℕ) where
   listed c = Steps.count-is (none-before (many c)) (Steps.took-owing (Steps.counted (c .before .before .before .before .params .ensures) (c .b .given .1) .0) refl (inside (a₃ c)))
 
   -- ── The body ─────────────────────────────────────────────────────────────────────────────────────
-
   bodied : (c : lts.After-d (K t) (P t) Post) → let b = c .before .before .before .before in let a = a₂ (a₃ b) in
       So a 3 4 (expression ▸ shape a (many b)) (many b) (c .d .given .0 .0) (c .d .given .0 .1 .0) (b .before .before .before .before .params .last .1 .0)
   bodied c =
@@ -72,7 +70,6 @@ module _ (t : ℕ) where
   value c = Steps.took (c .before .before .before .before .expr .ensures) (c .e .given .1) (bodied (d₅ c))
 
   -- ── What each call asks ──────────────────────────────────────────────────────────────────────────
-
   params-requires : lts.Need-params-requires (K t) (P t) Post
   params-requires c κs = let p = a₂ (c .before .before) .pre in (omega (arith, p .0), Steps.ready (p .1 .0) (lit≤ tt) (inside (c .before .before)))
 
@@ -89,7 +86,6 @@ module _ (t : ℕ) where
       (Steps.fits r (lit≤ tt) (value (c .before .before)), within r .0, within r .1, omega (arith, few, listed b .stands (r .stands) .within, r .short))
 
   -- ── What each return owes ────────────────────────────────────────────────────────────────────────
-
   returns : lts.Need-returns (K t) (P t) Post
   returns c = let x = c .before .before in Steps.passed (Steps.eats-broken (x .eat .ensures) (c .before .match .keys2)) (opened (x .before))
 
@@ -111,7 +107,6 @@ module _ (t : ℕ) where
 
   -- All of them, in the order of the code.
   pub met : {M : Type 1} → lts.Closed (K t) (P t) Post M
-  met =
-      lts.spec (K t) (P t) Post (λ c κs. search needs) (λ c κs. search needs) (λ c. search needs) (λ c. search needs) returns params-requires
-      (λ c. search needs) (λ c. search needs) (λ c. search needs) returns-2 eat-requires-2 (λ c. search needs) (λ c. search needs) (λ c. search needs)
-      returns-3 expr-requires (λ c. search needs) (λ c. search needs) (λ c. search needs) returns-4 put-function-requires same-length-4 returns-5
+  met = lts.spec (K t) (P t) Post (λ c κs. search needs) (λ c κs. search needs) (λ c. search needs) (λ c. search needs) returns params-requires (λ c. search needs) (λ c. search needs)
+      (λ c. search needs) returns-2 eat-requires-2 (λ c. search needs) (λ c. search needs) (λ c. search needs) returns-3 expr-requires (λ c. search needs) (λ c. search needs) (λ c. search needs)
+      returns-4 put-function-requires same-length-4 returns-5

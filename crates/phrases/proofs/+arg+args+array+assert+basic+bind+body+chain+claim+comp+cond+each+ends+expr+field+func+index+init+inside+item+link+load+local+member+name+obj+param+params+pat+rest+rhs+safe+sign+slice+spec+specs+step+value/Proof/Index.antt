@@ -31,7 +31,6 @@ module _ (t : ℕ) where
   tail a = goto (index-or-slice (a .args .first) (a .args .c .start))
 
   -- ── `:` ──────────────────────────────────────────────────────────────────────────────────────────
-
   abbrev a₁ : lts.After-eat-any (K t) (P t) Post → lts.Start (K t) (P t) Post
   a₁ c = c .before .before .before .before .before .before
 
@@ -42,7 +41,6 @@ module _ (t : ℕ) where
       Steps.taken (lit< tt) st (c .eat-any .ensures) is (Steps.known (eat 29 ▸ goto (slice-end 0 0 0)) st is (λ xs t. refl) Steps.here)
 
   -- ── e ────────────────────────────────────────────────────────────────────────────────────────────
-
   opened : (c : lts.Else1 (K t) (P t) Post) → let a = c .before .before .before .before in So a 0 (expression ▸ tail a) 1 (a .args .c) (a .args .w) (a .args .out .now)
   unfolding rule choose has sight
   opened c = Steps.known (expression ▸ tail (c .before .before .before .before)) (c .before .before .before .before .pre .1 .0 .stands) refl (λ xs t. simp (ne-eqb _ 29 (c .if1 .left))) Steps.here
@@ -57,7 +55,6 @@ module _ (t : ℕ) where
   there c = read c .stands (a₃ c .pre .1 .0 .stands)
 
   -- ── e `:` ────────────────────────────────────────────────────────────────────────────────────────
-
   abbrev c₄ : lts.After-eat-any2 (K t) (P t) Post → lts.After-a (K t) (P t) Post
   c₄ c = c .before .before .before .before .before
 
@@ -70,7 +67,6 @@ module _ (t : ℕ) where
       (Steps.known (eat 29 ▸ goto (slice-end 1 (a₃ v .args .c .start) (v .a .given .0 .0 .at))) (there v) is (λ xs t. refl) (read v))
 
   -- ── e `]` ────────────────────────────────────────────────────────────────────────────────────────
-
   -- the record
   abbrev shape : lts.After-a (K t) (P t) Post → Body
   shape c = close 20 (span (a₃ c .args .c .start) (c .a .given .0 .0 .at) ∷ byte (a₃ c .args .first) ∷ byte 0 ∷ []) ▸ goto (suffix 0)
@@ -87,7 +83,6 @@ module _ (t : ℕ) where
   over c = Steps.ate (c .before .before .eat .ensures) (c .b .given .1) (closing (c .before .before .before))
 
   -- ── What each call asks ──────────────────────────────────────────────────────────────────────────
-
   slice-requires : lts.Need-slice-requires (K t) (P t) Post
   slice-requires c κs = let p = a₁ c .pre in (omega (arith, p .0), (Steps.ready (p .1 .0) (lit≤ tt) (bare c), lit≤ tt, lit< tt, lit< tt))
 
@@ -108,7 +103,6 @@ module _ (t : ℕ) where
       (Steps.fits (p .0) (lit≤ tt) (over (c .before .before)), within (p .0) .0, omega (arith, there v .within, p .0 .short), p .1)
 
   -- ── What each return owes ────────────────────────────────────────────────────────────────────────
-
   returns : lts.Need-returns (K t) (P t) Post
   returns c = let x = c .before .before in Steps.tail-telling (lit≤ tt) (x .slice .ensures .tells 1) (bare (x .before))
 
@@ -127,7 +121,6 @@ module _ (t : ℕ) where
 
   -- All of them, in the order of the code.
   pub met : {M : Type 1} → lts.Closed (K t) (P t) Post M
-  met =
-      lts.spec (K t) (P t) Post (λ c κs. search needs) slice-requires (λ c. search needs) returns (λ c κs. search needs) (λ c. search needs)
-      (λ c. search needs) (λ c. search needs) returns-2 eat-any-requires-2 slice-requires-2 (λ c. search needs) returns-3 eat-requires
-      (λ c. search needs) (λ c. search needs) (λ c. search needs) returns-4 put-index-requires (λ c. search needs) returns-5
+  met = lts.spec (K t) (P t) Post (λ c κs. search needs) slice-requires (λ c. search needs) returns (λ c κs. search needs) (λ c. search needs) (λ c. search needs) (λ c. search needs) returns-2
+      eat-any-requires-2 slice-requires-2 (λ c. search needs) returns-3 eat-requires (λ c. search needs) (λ c. search needs) (λ c. search needs) returns-4 put-index-requires (λ c. search needs)
+      returns-5

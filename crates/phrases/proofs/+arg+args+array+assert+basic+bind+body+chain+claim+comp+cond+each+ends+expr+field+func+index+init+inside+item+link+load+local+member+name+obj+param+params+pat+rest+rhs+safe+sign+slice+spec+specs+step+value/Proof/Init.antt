@@ -39,7 +39,6 @@ module _ (t : ℕ) where
   fields a h f e l = byte (a .args .into) ∷ byte h ∷ span f e ∷ text l ∷ []
 
   -- ── `=` e ────────────────────────────────────────────────────────────────────────────────────────
-
   abbrev a₁ : lts.After-eat-any (K t) (P t) Post → lts.Start (K t) (P t) Post
   a₁ c = c .before .before .before .before .before
 
@@ -59,7 +58,6 @@ module _ (t : ℕ) where
   value c = Steps.took (c .before .before .before .before .expr .ensures) (c .a .given .1) (opened (c₁ c))
 
   -- ── What each call asks ──────────────────────────────────────────────────────────────────────────
-
   expr-requires : lts.Need-expr-requires (K t) (P t) Post
   expr-requires c κs = let p = a₁ (c .before) .pre in (omega (arith, p .0), Steps.ready (p .1 .0) (lit≤ tt) (opened (c .before)))
 
@@ -71,7 +69,6 @@ module _ (t : ℕ) where
       (Steps.fits r (lit≤ tt) (value v), from, omega (arith, value v .stands (r .stands) .within, r .short), omega (arith, short))
 
   -- ── What each return owes ────────────────────────────────────────────────────────────────────────
-
   returns : lts.Need-returns (K t) (P t) Post
   unfolding entry payload
   returns c =
@@ -98,7 +95,5 @@ module _ (t : ℕ) where
 
   -- All of them, in the order of the code.
   pub met : {M : Type 1} → lts.Closed (K t) (P t) Post M
-  met =
-      lts.spec (K t) (P t) Post (λ c. search needs) (λ c. search needs) (λ c. search needs) (λ c κs. search needs) (λ c. search needs) returns
-      (λ c κs. search needs) expr-requires (λ c. search needs) (λ c. search needs) (λ c. search needs) returns-2 (λ c. search needs)
-      (λ c. search needs) (λ c. search needs) put-pattern-field-requires-2 (λ c. search needs) returns-3
+  met = lts.spec (K t) (P t) Post (λ c. search needs) (λ c. search needs) (λ c. search needs) (λ c κs. search needs) (λ c. search needs) returns (λ c κs. search needs) expr-requires
+      (λ c. search needs) (λ c. search needs) (λ c. search needs) returns-2 (λ c. search needs) (λ c. search needs) (λ c. search needs) put-pattern-field-requires-2 (λ c. search needs) returns-3

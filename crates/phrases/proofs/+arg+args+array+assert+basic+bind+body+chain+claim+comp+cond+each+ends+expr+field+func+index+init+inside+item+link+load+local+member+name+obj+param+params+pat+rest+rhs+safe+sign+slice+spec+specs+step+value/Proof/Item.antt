@@ -31,7 +31,6 @@ module _ (t : ℕ) where
   So a e b n c w o = Seg (a .args .set) (a .args .src .now) (a .args .left) (state (goto pattern-field) 0 (a .args .c) (a .args .w) (a .args .out .now)) e 0 (state b n c w o)
 
   -- ── The name ─────────────────────────────────────────────────────────────────────────────────────
-
   abbrev a₁ : lts.After-a (K t) (P t) Post → lts.Start (K t) (P t) Post
   a₁ c = c .before .before .before .before .before
 
@@ -46,7 +45,6 @@ module _ (t : ℕ) where
   paid c = let m = c .before .before .eat .ensures .moved _ _ _ (c .a .given .1) in let l = lies (a₁ c .pre .1 .stands) in omega (arith, m .0, m .2, l .from, l .on)
 
   -- ── Without a pattern ────────────────────────────────────────────────────────────────────────────
-
   bare : (c : lts.Then1 (K t) (P t) Post) → let n = c .before .before .before in let a = a₁ n in
       So a (size a) (goto (pattern-default 0 (word a))) 0 (n .a .given .0 .0) (n .a .given .0 .1 .0) (a .args .out .now)
   bare c =
@@ -54,7 +52,6 @@ module _ (t : ℕ) where
       Steps.known (goto (pattern-default 0 (word a))) (there n) refl (λ xs t. into-none (a .args .set) _ xs 0 (word a) _ t (c .if1 .taken)) (named n)
 
   -- ── `:` and a pattern ────────────────────────────────────────────────────────────────────────────
-
   abbrev c₂ : lts.After-eat-any (K t) (P t) Post → lts.After-a (K t) (P t) Post
   c₂ c = c .before .before .before .before .before
 
@@ -73,7 +70,6 @@ module _ (t : ℕ) where
   into c = Steps.took (c .before .before .before .before .pat .ensures) (c .b .given .1) (opened (e₃ c))
 
   -- ── What each call asks ──────────────────────────────────────────────────────────────────────────
-
   init-requires : lts.Need-init-requires (K t) (P t) Post
   init-requires c κs =
       let p = a₁ (c .before .before .before .before) .pre in let l = lies (p .1 .stands) in
@@ -91,7 +87,6 @@ module _ (t : ℕ) where
       (omega (arith, p .0), (Steps.ready (p .1) (omega arith) (into b), l .on, l .within))
 
   -- ── What each return owes ────────────────────────────────────────────────────────────────────────
-
   returns : lts.Need-returns (K t) (P t) Post
   returns c = Steps.as-sub (Steps.passed (field-broken (c .before .before .eat .ensures) (c .before .match .keys2)) Steps.here)
 
@@ -106,7 +101,5 @@ module _ (t : ℕ) where
 
   -- All of them, in the order of the code.
   pub met : {M : Type 1} → lts.Closed (K t) (P t) Post M
-  met =
-      lts.spec (K t) (P t) Post (λ c κs. search needs) (λ c. search needs) (λ c. search needs) returns init-requires (λ c. search needs) returns-2
-      eat-any-requires pat-requires (λ c. search needs) (λ c. search needs) (λ c. search needs) returns-3 init-requires-2 (λ c. search needs)
-      returns-4
+  met = lts.spec (K t) (P t) Post (λ c κs. search needs) (λ c. search needs) (λ c. search needs) returns init-requires (λ c. search needs) returns-2 eat-any-requires pat-requires
+      (λ c. search needs) (λ c. search needs) (λ c. search needs) returns-3 init-requires-2 (λ c. search needs) returns-4

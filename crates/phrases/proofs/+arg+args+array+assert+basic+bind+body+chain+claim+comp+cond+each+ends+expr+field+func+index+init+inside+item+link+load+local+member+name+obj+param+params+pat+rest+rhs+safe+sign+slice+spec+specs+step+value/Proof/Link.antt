@@ -29,7 +29,6 @@ module _ (t : ℕ) where
       Seg (a .set) (a .src .now) (a .left) (state (goto (suffix (a .first))) 1 (a .c) (a .w) (a .out .now)) e v (state b n c w o)
 
   -- ── One lexeme ───────────────────────────────────────────────────────────────────────────────────
-
   -- past it, on to body b
   abbrev On : Past → Body → Type 0
   On p b = So p 1 0 b 1 (p .eat-any .result) (a₁ p .args .w) (a₁ p .args .out .now)
@@ -52,7 +51,6 @@ module _ (t : ℕ) where
       past-brace (p .0 .stands) (c .before .eat-any .ensures) (at-brace (p .1) (r .0 .0 .0 .1) (r .0 .0 .1) (r .0 .1) (r .1)) Steps.here
 
   -- ── `{` members `}` ──────────────────────────────────────────────────────────────────────────────
-
   abbrev r₂ : lts.After-a (K t) (P t) Post → lts.At-match-rest (K t) (P t) Post
   r₂ c = c .before .before .before .before .before .before
 
@@ -65,7 +63,6 @@ module _ (t : ℕ) where
   over c = Steps.ate (c .before .before .eat .ensures) (c .b .given .1) (object (c .before .before .before .before))
 
   -- ── What each call asks ──────────────────────────────────────────────────────────────────────────
-
   safe-requires : lts.Need-safe-requires (K t) (P t) Post
   safe-requires c κs = let p = a₁ (c .before .before) .pre in (omega (arith, p .0), (Steps.ready (p .1 .0) (lit≤ tt) (questioned (c .before)), p .1 .2))
 
@@ -88,7 +85,6 @@ module _ (t : ℕ) where
   put-none-requires c κs = Steps.fits (a₁ (r₂ (c .before .before .before .before .before .before) .before) .pre .1 .0) (lit≤ tt) (over (c .before .before))
 
   -- ── What each return owes ────────────────────────────────────────────────────────────────────────
-
   returns : lts.Need-returns (K t) (P t) Post
   returns c = let x = c .before .before .before .before in passed-on (Steps.takes-broken (x .inside .ensures) (c .before .match2 .keys2)) (braced (x .before .before))
 
@@ -115,8 +111,6 @@ module _ (t : ℕ) where
 
   -- All of them, in the order of the code.
   pub met : {M : Type 1} → lts.Closed (K t) (P t) Post M
-  met =
-      lts.spec (K t) (P t) Post (λ c κs. search needs) safe-requires member-name-requires index-requires args-requires inside-requires
-      (λ c. search needs) (λ c. search needs) (λ c. search needs) returns eat-requires (λ c. search needs) (λ c. search needs) (λ c. search needs)
-      returns-2 put-none-requires (λ c. search needs) returns-3 (λ c. search needs) returns-4 (λ c. search needs) returns-5 (λ c. search needs)
-      returns-6 (λ c. search needs) returns-7
+  met = lts.spec (K t) (P t) Post (λ c κs. search needs) safe-requires member-name-requires index-requires args-requires inside-requires (λ c. search needs) (λ c. search needs) (λ c. search needs)
+      returns eat-requires (λ c. search needs) (λ c. search needs) (λ c. search needs) returns-2 put-none-requires (λ c. search needs) returns-3 (λ c. search needs) returns-4 (λ c. search needs)
+      returns-5 (λ c. search needs) returns-6 (λ c. search needs) returns-7

@@ -45,7 +45,6 @@ module _ (t : ℕ) where
   value c = Steps.took (c₁ c .expr .ensures) (c .a .given .1) (opened (c₁ c .before))
 
   -- ── What each call asks ─────────────────────────────────────────────────────────────────────────
-
   expr-requires : lts.Need-expr-requires (K t) (P t) Post
   expr-requires c κs = let p = a₀ c .pre in (omega (arith, p .0), Steps.ready (p .1 .0) (lit≤ tt) (opened c))
 
@@ -53,7 +52,6 @@ module _ (t : ℕ) where
   put-kind-requires c κs = let a = c .before .before in let p = a₁ a .pre .1 .0 in (Steps.fits p (lit≤ tt) (value a), within p .0, within p .1)
 
   -- ── What each return owes ───────────────────────────────────────────────────────────────────────
-
   returns : lts.Need-returns (K t) (P t) Post
   returns c = let x = c .before .before .before .before in Steps.passed (Steps.takes-broken (x .expr .ensures) (c .before .match .keys2)) (opened (x .before))
 
@@ -63,6 +61,4 @@ module _ (t : ℕ) where
 
   -- All of them, in the order of the code.
   pub met : {M : Type 1} → lts.Closed (K t) (P t) Post M
-  met =
-      lts.spec (K t) (P t) Post (λ c κs. search needs) expr-requires (λ c. search needs) (λ c. search needs) (λ c. search needs) returns
-      put-kind-requires (λ c. search needs) returns-2
+  met = lts.spec (K t) (P t) Post (λ c κs. search needs) expr-requires (λ c. search needs) (λ c. search needs) (λ c. search needs) returns put-kind-requires (λ c. search needs) returns-2

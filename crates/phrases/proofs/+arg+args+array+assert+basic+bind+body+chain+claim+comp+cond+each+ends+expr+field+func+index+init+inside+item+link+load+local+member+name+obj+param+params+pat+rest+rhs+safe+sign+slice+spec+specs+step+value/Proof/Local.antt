@@ -60,7 +60,6 @@ module _ (t : ℕ) where
       Steps.taken (lit< tt) st (c .eat-any .ensures) comma (Steps.known (eat 33 ▸ goto binds) st comma (λ xs t. refl) (bound a))
 
   -- ── The loop, and what each call asks ───────────────────────────────────────────────────────────
-
   loop-holds : lts.Need-loop-holds (K t) (P t) Post Inv-loop μ-loop
   loop-holds c = (Steps.begun (c .before .before .pre .1), omega arith)
 
@@ -89,7 +88,6 @@ module _ (t : ℕ) where
   loop-again c = let i = l₃ (l₄ c) .loop .inv in (Steps.turned (i .0) (lit≤ tt) (next c), omega (arith, i .1, next c .onward))
 
   -- ── What each return owes ───────────────────────────────────────────────────────────────────────
-
   returns : lts.Need-returns (K t) (P t) Post Inv-loop μ-loop
   unfolding rule choose has sight
   returns c =
@@ -110,6 +108,5 @@ module _ (t : ℕ) where
 
   -- All of them, in the order of the code.
   pub met : {M : Type 1} → lts.Closed (K t) (P t) Post M
-  met =
-      lts.spec (K t) (P t) Post Inv-loop μ-loop loop-holds body-requires (λ c. search needs) returns bind-requires (λ c. search needs)
-      (λ c. search needs) (λ c. search needs) returns-2 add-n body-requires-2 (λ c. search needs) returns-3 eat-any-requires loop-less loop-again
+  met = lts.spec (K t) (P t) Post Inv-loop μ-loop loop-holds body-requires (λ c. search needs) returns bind-requires (λ c. search needs) (λ c. search needs) (λ c. search needs) returns-2 add-n
+      body-requires-2 (λ c. search needs) returns-3 eat-any-requires loop-less loop-again

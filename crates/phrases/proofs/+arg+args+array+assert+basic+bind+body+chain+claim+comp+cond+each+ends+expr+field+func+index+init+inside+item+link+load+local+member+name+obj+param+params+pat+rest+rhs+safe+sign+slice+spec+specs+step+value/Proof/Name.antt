@@ -43,7 +43,6 @@ module _ (t : ℕ) where
   value c = Steps.took (c₁ c .expr .ensures) (c .a .given .1) (opened (c₁ c .before))
 
   -- ── What each call asks ─────────────────────────────────────────────────────────────────────────
-
   expr-requires : lts.Need-expr-requires (K t) (P t) Post
   expr-requires c κs = let p = a₀ c .pre in (omega (arith, p .0), Steps.ready (p .1) (lit≤ tt) (opened c))
 
@@ -51,7 +50,6 @@ module _ (t : ℕ) where
   eat-requires c κs = (lit< tt, value (c .before) .stands (a₁ (c .before) .pre .1 .stands))
 
   -- ── What each return owes ───────────────────────────────────────────────────────────────────────
-
   returns : lts.Need-returns (K t) (P t) Post
   returns c = let x = c .before .before in let a = x .before .before .before .before .before .before .args in x .fixed-name .ensures .tells (a .set) (a .left)
 
@@ -66,7 +64,5 @@ module _ (t : ℕ) where
 
   -- All of them, in the order of the code.
   pub met : {M : Type 1} → lts.Closed (K t) (P t) Post M
-  met =
-      lts.spec (K t) (P t) Post (λ c κs. search needs) (λ c. search needs) returns (λ c κs. search needs) expr-requires (λ c. search needs)
-      (λ c. search needs) (λ c. search needs) returns-2 eat-requires (λ c. search needs) (λ c. search needs) (λ c. search needs) returns-3
-      (λ c. search needs) returns-4
+  met = lts.spec (K t) (P t) Post (λ c κs. search needs) (λ c. search needs) returns (λ c κs. search needs) expr-requires (λ c. search needs) (λ c. search needs) (λ c. search needs) returns-2
+      eat-requires (λ c. search needs) (λ c. search needs) (λ c. search needs) returns-3 (λ c. search needs) returns-4

@@ -71,7 +71,6 @@ module _ (t : ℕ) where
       (Steps.known (eat 33 ▸ goto pattern-fields) st comma (λ xs t. fields-more (a₀ (l₃ a) .args .set) _ xs _ t) (one a))
 
   -- ── The loop, and what each call asks ───────────────────────────────────────────────────────────
-
   loop-holds : lts.Need-loop-holds (K t) (P t) Post Inv-loop μ-loop
   loop-holds c = (Steps.begun (c .before .before .pre .1), omega arith)
 
@@ -100,7 +99,6 @@ module _ (t : ℕ) where
   loop-again c = let i = l₃ (l₄ c) .loop .inv in (Steps.turned (i .0) (lit≤ tt) (next c), omega (arith, i .1, next c .onward))
 
   -- ── What each return owes ───────────────────────────────────────────────────────────────────────
-
   returns : lts.Need-returns (K t) (P t) Post Inv-loop μ-loop
   returns c =
       let x = c .before .before in let brace = x .before .before in let l = brace .before .before in let a = a₀ l .args in
@@ -127,7 +125,6 @@ module _ (t : ℕ) where
 
   -- All of them, in the order of the code.
   pub met : {M : Type 1} → lts.Closed (K t) (P t) Post M
-  met =
-      lts.spec (K t) (P t) Post Inv-loop μ-loop loop-holds (λ c κs. search needs) (λ c. search needs) returns (λ c κs. search needs)
-      object-rest-requires (λ c. search needs) returns-2 item-requires (λ c. search needs) (λ c. search needs) (λ c. search needs) returns-3 add-n
-      object-pattern-close-requires-2 (λ c. search needs) returns-4 eat-any-requires-2 loop-less loop-again
+  met = lts.spec (K t) (P t) Post Inv-loop μ-loop loop-holds (λ c κs. search needs) (λ c. search needs) returns (λ c κs. search needs) object-rest-requires (λ c. search needs) returns-2
+      item-requires (λ c. search needs) (λ c. search needs) (λ c. search needs) returns-3 add-n object-pattern-close-requires-2 (λ c. search needs) returns-4 eat-any-requires-2 loop-less
+      loop-again

@@ -35,7 +35,6 @@ module _ (t : ℕ) where
   into c = Steps.took (c₁ c .pat .ensures) (c .a .given .1) (begun (a₁ c))
 
   -- ── `=` e ───────────────────────────────────────────────────────────────────────────────────────
-
   abbrev c₂ : lts.After-eat-any (K t) (P t) Post → lts.After-a (K t) (P t) Post
   c₂ c = c .before .before .before .before .before
 
@@ -56,7 +55,6 @@ module _ (t : ℕ) where
   value c = Steps.took (c₃ c .expr .ensures) (c .b .given .1) (opened (c₃ c .before))
 
   -- ── What each call asks ─────────────────────────────────────────────────────────────────────────
-
   pat-requires : lts.Need-pat-requires (K t) (P t) Post
   pat-requires c κs = let p = c .before .before .before .pre in (omega (arith, p .0), p .1)
 
@@ -73,7 +71,6 @@ module _ (t : ℕ) where
   put-flag-requires-2 c κs = let b = c .before .before in Steps.fits (a₃ b .pre .1) (lit≤ tt) (value b)
 
   -- ── What each return owes ───────────────────────────────────────────────────────────────────────
-
   returns : lts.Need-returns (K t) (P t) Post
   returns c =
       let x = c .before .before .before .before in let broken = c .before .match .keys2 in
@@ -103,7 +100,5 @@ module _ (t : ℕ) where
 
   -- All of them, in the order of the code.
   pub met : {M : Type 1} → lts.Closed (K t) (P t) Post M
-  met =
-      lts.spec (K t) (P t) Post pat-requires (λ c. search needs) (λ c. search needs) (λ c. search needs) returns put-flag-requires (λ c. search needs)
-      returns-2 eat-any-requires expr-requires (λ c. search needs) (λ c. search needs) (λ c. search needs) returns-3 put-flag-requires-2 same-length-4
-      returns-4
+  met = lts.spec (K t) (P t) Post pat-requires (λ c. search needs) (λ c. search needs) (λ c. search needs) returns put-flag-requires (λ c. search needs) returns-2 eat-any-requires expr-requires
+      (λ c. search needs) (λ c. search needs) (λ c. search needs) returns-3 put-flag-requires-2 same-length-4 returns-4

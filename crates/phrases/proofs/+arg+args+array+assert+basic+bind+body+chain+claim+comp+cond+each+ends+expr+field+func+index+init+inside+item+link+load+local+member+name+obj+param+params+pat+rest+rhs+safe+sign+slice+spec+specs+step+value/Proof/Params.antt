@@ -92,6 +92,5 @@ module _ (t : ℕ) where
 
   -- All of them, in the order of the code.
   pub met : {M : Type 1} → lts.Closed (K t) (P t) Post M
-  met =
-      lts.spec (K t) (P t) Post Inv-loop μ-loop loop-holds (λ c. search needs) returns param-requires (λ c. search needs) (λ c. search needs)
-      (λ c. search needs) returns-2 add-n (λ c. search needs) returns-3 eat-any-requires loop-less loop-again
+  met = lts.spec (K t) (P t) Post Inv-loop μ-loop loop-holds (λ c. search needs) returns param-requires (λ c. search needs) (λ c. search needs) (λ c. search needs) returns-2 add-n
+      (λ c. search needs) returns-3 eat-any-requires loop-less loop-again

@@ -3,7 +3,8 @@ use borrow.Author.Needs.{needs}
 use native.Mathlib.Omega.{arith}
 use lib.Dec.{lit<, lit≤}
 use lib.ListN.{length}
-use mathlib.Core.Path.{_≡_, refl}
+use mathlib.Core.Bool.{true}
+use mathlib.Core.Path.{_≡_, refl, sym, _∙_}
 use mathlib.Core.Logic.{_⊎_, inl, inr, ⊎-elim}
 use mathlib.Core.List.{List, []}
 use Prim.Native.Nat.{ℕ, _+_, _-_, _≤_}
@@ -13,8 +14,9 @@ use Rattle.phrases.proofs.pat.Reads.{Post}
 use Rattle.phrases.proofs.+arg+args+array+assert+basic+bind+body+chain+claim+comp+cond+each+ends+expr+field+func+index+init+inside+item+link+load+local+member+name+obj+param+params+pat+rest+rhs+safe+sign+slice+spec+specs+step+value.Lts-pat as lts
 use Rattle.phrases.proofs.+arg+args+array+assert+basic+bind+body+chain+claim+comp+cond+each+ends+expr+field+func+index+init+inside+item+link+load+local+member+name+obj+param+params+pat+rest+rhs+safe+sign+slice+spec+specs+step+value.Proof.Frame.{pat-claims as K, pat-at as P}
 use Rattle.phrases.proofs.CountLaws.{step-grows}
-use Rattle.grammar.specs.Productions.{Body, goto, end, eat, sub, _▸_, pattern, pattern-starts, pattern-starts-end, array-pattern-close, array-rest}
-use Rattle.leaves.specs.Meets.{Ready, state, Seg, sorted, Leads, Takes}
+use Rattle.grammar.specs.Productions.{Body, goto, end, eat, sub, _▸_, pattern, pattern-starts, pattern-starts-end, array-pattern-close, array-rest, exp-destruct}
+use Rattle.grammar.specs.Reading.{has}
+use Rattle.leaves.specs.Meets.{Ready, state, Seg, Leads, Takes}
 use Rattle.leaves.specs.declared.Cursor.{Cursor}
 use Rattle.leaves.specs.declared.Answer.{Answer}
 use Rattle.leaves.proofs.LeafLaws.{moved-on, onward, one-fault}
@@ -30,7 +32,6 @@ abbrev pub μ-loop : lts.MeasureT-loop
 
 module _ (t : ℕ) where
   -- ── Around the loop ─────────────────────────────────────────────────────────────────────────────
-
   abbrev Begin : Type 0
   Begin = lts.Start (K t) (P t) Post Inv-loop μ-loop
 
@@ -42,7 +43,11 @@ module _ (t : ℕ) where
   either c = ⊎-elim (λ x. inr (eqb-true (a₀ c .args .c .kind) 27 (not-false _ (x .1 .left)))) (λ y. inl (y .left)) (c .if1 .came)
 
   abbrev a₁ : lts.After-eat-any (K t) (P t) Post Inv-loop μ-loop → lts.Joined1 (K t) (P t) Post Inv-loop μ-loop
-  a₁ c = c .before .before .before
+  a₁ c = c .before .before .before .before
+
+  -- patterns are switched on
+  on : (c : lts.Else3 (K t) (P t) Post Inv-loop μ-loop) → has (a₀ (c .before .before) .args .set) exp-destruct ≡ true
+  on c = let tested = c .before .has-destruct in sym (tested .ensures) ∙ not-false (tested .result) (c .if3 .left)
 
   -- one may read on behind it
   inner : (c : lts.After-eat-any (K t) (P t) Post Inv-loop μ-loop) → let a = a₀ (a₁ c) .args in Ready (a .src .now) (c .eat-any .result) (a .w)
@@ -65,10 +70,9 @@ module _ (t : ℕ) where
   whole : (l : Turn) {r : Answer} {o : List ℕ} → let a = b₀ l .args in
       Leads (a .set) (a .src .now) (a .left - 1) (state (goto pattern-starts) 0 (a₂ l .eat-any .result) (a .w) (a .out .now)) 0 end 1 r o
       → Takes (a .set) (a .src .now) (sub pattern) 1 0 (a .left) (a .c) (a .w) (a .out .now) r o
-  whole l m = let e = a₂ l in in-brackets (b₀ l .pre .1 .stands) (bracket l) (e .before .before .if3 .left) (e .before .if4 .left) (e .eat-any .ensures) m
+  whole l m = let e = a₂ l in in-brackets (b₀ l .pre .1 .stands) (bracket l) (on (e .before .before)) (e .before .if4 .left) (e .eat-any .ensures) m
 
   -- ── A turn ──────────────────────────────────────────────────────────────────────────────────────
-
   -- a stretch of one turn, of which e bytes are taken
   abbrev So : Turn → ℕ → Body → ℕ → Cursor → ℕ → List ℕ → Type 0
   So l e b n c w o = let a = b₀ l .args in Seg (a .set) (a .src .now) (a .left - 1) (state (goto pattern-starts) (l .loop .n) (l .loop .cur) (l .loop .at) (l .loop .out)) e 0 (state b n c w o)
@@ -112,7 +116,6 @@ module _ (t : ℕ) where
       (Steps.known (eat 33 ▸ goto pattern-starts) st comma (λ xs t. starts-more (b₀ (l₃ a) .args .set) _ xs _ t) (one a))
 
   -- ── The loop, and what each call asks ───────────────────────────────────────────────────────────
-
   pattern-atom-requires : lts.Need-pattern-atom-requires (K t) (P t) Post Inv-loop μ-loop
   pattern-atom-requires c κs =
       let no-brace = c .before in let no-bracket = no-brace .before in let a = no-bracket .before .before .before .before .before in
@@ -151,25 +154,24 @@ module _ (t : ℕ) where
   loop-again c = let i = l₃ (l₄ c) .loop .inv in (Steps.turned (i .0) (lit≤ tt) (next c), omega (arith, i .1, next c .onward))
 
   -- ── What each return owes ───────────────────────────────────────────────────────────────────────
-
   returns : lts.Need-returns (K t) (P t) Post Inv-loop μ-loop
   returns c = let x = c .before .before in let no-bracket = x .before .before .before in Steps.as-sub (x .pattern-atom .ensures .ends (no-bracket .before .before .before .before .before .args .left))
 
   returns-2 : lts.Need-returns-2 (K t) (P t) Post Inv-loop μ-loop
-  unfolding sorted
   returns-2 c =
-      let j = c .before .before in let a = a₀ j .args in
-      Steps.as-sub (one-fault (a₀ j .pre .1 .stands) refl (λ xs t. no-pattern (a .set) (a .c) xs 0 (a .c .kind) t (no-name (either j)) (c .before .if3 .taken)) (c .error .ensures))
+      let j = c .before .before .before in let a = a₀ j .args in let tested = c .before .before .has-destruct in
+      let off = sym (tested .ensures) ∙ not-true (tested .result) (c .before .if3 .taken) in
+      Steps.as-sub (one-fault (a₀ j .pre .1 .stands) (λ xs t. no-pattern (a .set) (a .c) xs 0 (a .c .kind) t (no-name (either j)) off) (c .error .ensures))
 
   returns-3 : lts.Need-returns-3 (K t) (P t) Post Inv-loop μ-loop
   returns-3 c =
-      let j = c .before .before .before in
-      Steps.as-sub (Steps.broke (none-deeper (a₀ j .pre .1 .stands) (either j) (c .before .before .if3 .left) (c .before .if4 .taken)) (c .error2 .ensures))
+      let j = c .before .before .before .before in
+      Steps.as-sub (Steps.broke (none-deeper (a₀ j .pre .1 .stands) (either j) (on (c .before .before)) (c .before .if4 .taken)) (c .error2 .ensures))
 
   returns-4 : lts.Need-returns-4 (K t) (P t) Post Inv-loop μ-loop
   returns-4 c =
       let x = c .before .before in let brace = x .before .before in let e = brace .before in let a = a₀ (a₁ e) in
-      in-braces (a .pre .1 .stands) (eqb-true (a .args .c .kind) 27 (brace .if5 .taken)) (e .before .before .if3 .left) (e .before .if4 .left) (e .eat-any .ensures) (x .obj .ensures)
+      in-braces (a .pre .1 .stands) (eqb-true (a .args .c .kind) 27 (brace .if5 .taken)) (on (e .before .before)) (e .before .if4 .left) (e .eat-any .ensures) (x .obj .ensures)
 
   returns-5 : lts.Need-returns-5 (K t) (P t) Post Inv-loop μ-loop
   returns-5 c =
@@ -195,9 +197,7 @@ module _ (t : ℕ) where
 
   -- All of them, in the order of the code.
   pub met : {M : Type 1} → lts.Closed (K t) (P t) Post M
-  met =
-      lts.spec (K t) (P t) Post Inv-loop μ-loop pattern-atom-requires (λ c. search needs) returns (λ c κs. search needs) returns-2
-      (λ c κs. search needs) returns-3 (λ c κs. search needs) (λ c. search needs) obj-requires (λ c. search needs) returns-4 loop-holds
-      (λ c κs. search needs) (λ c. search needs) returns-5 (λ c κs. search needs) (λ c. search needs) rest-requires (λ c. search needs) returns-6
-      (λ c. search needs) pat-requires (λ c. search needs) (λ c. search needs) (λ c. search needs) returns-7 add-n array-pattern-close-requires-2
-      (λ c. search needs) returns-8 eat-any-requires-3 loop-less loop-again
+  met = lts.spec (K t) (P t) Post Inv-loop μ-loop pattern-atom-requires (λ c. search needs) returns (λ c κs. search needs) (λ c κs. search needs) returns-2 (λ c κs. search needs) returns-3
+      (λ c κs. search needs) (λ c. search needs) obj-requires (λ c. search needs) returns-4 loop-holds (λ c κs. search needs) (λ c. search needs) returns-5 (λ c κs. search needs)
+      (λ c. search needs) rest-requires (λ c. search needs) returns-6 (λ c. search needs) pat-requires (λ c. search needs) (λ c. search needs) (λ c. search needs) returns-7 add-n
+      array-pattern-close-requires-2 (λ c. search needs) returns-8 eat-any-requires-3 loop-less loop-again

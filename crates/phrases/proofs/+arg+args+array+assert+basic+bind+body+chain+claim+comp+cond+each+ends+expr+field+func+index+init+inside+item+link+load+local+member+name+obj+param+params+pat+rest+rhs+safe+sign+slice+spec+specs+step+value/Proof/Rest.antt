@@ -33,7 +33,6 @@ module _ (t : ℕ) where
       (Steps.called (eat 55 ▸ goto (array-rest-end (a .n) 2 name)) st at-name (λ xs. array-rest-named (a .set) (a .c) xs (a .n) name) Steps.here)
 
   -- ── What each call asks ─────────────────────────────────────────────────────────────────────────
-
   ends-requires : lts.Need-ends-requires (K t) (P t) Post
   ends-requires c κs =
       let p = a₀ c .pre in
@@ -44,7 +43,6 @@ module _ (t : ℕ) where
   ends-requires-2 c κs = let p = c .before .before .before .before .before .pre in (omega (arith, p .0), (p .1 .0, p .1 .1, omega arith, omega arith))
 
   -- ── What each return owes ───────────────────────────────────────────────────────────────────────
-
   returns : lts.Need-returns (K t) (P t) Post
   returns c = let x = c .before .before in let l = lies (a₀ (x .before) .pre .1 .0 .stands) in Steps.tail (omega (arith, l .from, l .on)) (x .ends .ensures) (named (x .before))
 
@@ -56,5 +54,4 @@ module _ (t : ℕ) where
 
   -- All of them, in the order of the code.
   pub met : {M : Type 1} → lts.Closed (K t) (P t) Post M
-  met =
-      lts.spec (K t) (P t) Post (λ c κs. search needs) ends-requires (λ c. search needs) returns ends-requires-2 (λ c. search needs) returns-2
+  met = lts.spec (K t) (P t) Post (λ c κs. search needs) ends-requires (λ c. search needs) returns ends-requires-2 (λ c. search needs) returns-2

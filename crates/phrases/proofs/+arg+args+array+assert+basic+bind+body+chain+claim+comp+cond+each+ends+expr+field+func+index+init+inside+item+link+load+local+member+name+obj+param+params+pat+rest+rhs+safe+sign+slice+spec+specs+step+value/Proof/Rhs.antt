@@ -39,7 +39,6 @@ module _ (t : ℕ) where
   value n c = Steps.took (c₁ c .expr .ensures) (c .b .given .1) (assigned n (c₂ c))
 
   -- ── What each call asks ─────────────────────────────────────────────────────────────────────────
-
   expr-requires : lts.Need-expr-requires (K t) (P t) Post
   expr-requires c κs = let a = c .before .before in let p = a₀ a .pre in (omega (arith, p .0), Steps.ready (p .1 .0) (lit≤ tt) (assigned 0 a))
 
@@ -47,7 +46,6 @@ module _ (t : ℕ) where
   put-bind-requires c κs = let b = c .before .before in let p = a₀ (c₂ b) .pre .1 in (Steps.fits (p .0) (lit≤ tt) (value 0 b), omega (arith, p .1, p .0 .stands .within, p .0 .short))
 
   -- ── What each return owes ───────────────────────────────────────────────────────────────────────
-
   returns : lts.Need-returns (K t) (P t) Post
   returns c = record { leads = λ n. Steps.passed (Steps.eats-broken (c .before .before .eat .ensures) (c .before .match .keys2)) Steps.here }
 
@@ -62,6 +60,5 @@ module _ (t : ℕ) where
 
   -- All of them, in the order of the code.
   pub met : {M : Type 1} → lts.Closed (K t) (P t) Post M
-  met =
-      lts.spec (K t) (P t) Post (λ c κs. search needs) (λ c. search needs) (λ c. search needs) returns expr-requires (λ c. search needs)
-      (λ c. search needs) (λ c. search needs) returns-2 put-bind-requires (λ c. search needs) returns-3
+  met = lts.spec (K t) (P t) Post (λ c κs. search needs) (λ c. search needs) (λ c. search needs) returns expr-requires (λ c. search needs) (λ c. search needs) (λ c. search needs) returns-2
+      put-bind-requires (λ c. search needs) returns-3

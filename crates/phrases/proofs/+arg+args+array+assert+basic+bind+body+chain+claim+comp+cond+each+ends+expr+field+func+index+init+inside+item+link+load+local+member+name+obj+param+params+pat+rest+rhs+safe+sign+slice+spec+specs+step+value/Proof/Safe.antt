@@ -31,7 +31,6 @@ module _ (t : ℕ) where
   dotted c = Steps.ate (c .before .before .eat .ensures) (c .a .given .1) Steps.here
 
   -- ── `[` e `]` ───────────────────────────────────────────────────────────────────────────────────
-
   abbrev c₁ : lts.After-eat-any (K t) (P t) Post → lts.After-a (K t) (P t) Post
   c₁ c = c .before .before .before .before
 
@@ -69,7 +68,6 @@ module _ (t : ℕ) where
   over c = Steps.ate (c .before .before .eat2 .ensures) (c .d .given .1) (read (c₄ c))
 
   -- ── What each call asks ─────────────────────────────────────────────────────────────────────────
-
   member-name-requires : lts.Need-member-name-requires (K t) (P t) Post
   member-name-requires c κs = let a = c .before .before .before .before in let p = a₀ a .pre .1 in (Steps.ready (p .0) (lit≤ tt) (dotted a), p .1)
 
@@ -89,7 +87,6 @@ module _ (t : ℕ) where
       (Steps.fits (p .0) (lit≤ tt) (over d), within i .0, omega (arith, read b .stands (p .0 .stands) .within, p .0 .short), p .1)
 
   -- ── What each return owes ───────────────────────────────────────────────────────────────────────
-
   returns : lts.Need-returns (K t) (P t) Post
   returns c = Steps.passed-telling (Steps.eats-broken (c .before .before .eat .ensures) (c .before .match .keys2)) Steps.here
 
@@ -113,7 +110,6 @@ module _ (t : ℕ) where
 
   -- All of them, in the order of the code.
   pub met : {M : Type 1} → lts.Closed (K t) (P t) Post M
-  met =
-      lts.spec (K t) (P t) Post (λ c κs. search needs) (λ c. search needs) (λ c. search needs) returns member-name-requires (λ c. search needs)
-      returns-2 eat-any-requires expr-requires (λ c. search needs) (λ c. search needs) (λ c. search needs) returns-3 eat-requires-2
-      (λ c. search needs) (λ c. search needs) (λ c. search needs) returns-4 put-index-requires (λ c. search needs) returns-5
+  met = lts.spec (K t) (P t) Post (λ c κs. search needs) (λ c. search needs) (λ c. search needs) returns member-name-requires (λ c. search needs) returns-2 eat-any-requires expr-requires
+      (λ c. search needs) (λ c. search needs) (λ c. search needs) returns-3 eat-requires-2 (λ c. search needs) (λ c. search needs) (λ c. search needs) returns-4 put-index-requires
+      (λ c. search needs) returns-5

@@ -48,7 +48,6 @@ module _ (t : ℕ) where
   value c = Steps.took (c₂ c .expr .ensures) (c .a .given .1) (opened (c₂ c .before))
 
   -- ── What each call asks ─────────────────────────────────────────────────────────────────────────
-
   chain-requires : lts.Need-chain-requires (K t) (P t) Post
   chain-requires c κs = let p = c .before .before .before .before .before .before .pre in (omega (arith, p .0), p .1)
 
@@ -59,7 +58,6 @@ module _ (t : ℕ) where
   put-flag-requires c κs = let a = c .before .before in Steps.fits (a₀ (c₃ a) .pre .1) (lit≤ tt) (value a)
 
   -- ── What each return owes ───────────────────────────────────────────────────────────────────────
-
   returns : lts.Need-returns (K t) (P t) Post
   returns c =
       let x = c .before .before in let no-op = x .before .before .before in let s = no-op .before .before .before .before in let a = s .args in
@@ -77,7 +75,5 @@ module _ (t : ℕ) where
 
   -- All of them, in the order of the code.
   pub met : {M : Type 1} → lts.Closed (K t) (P t) Post M
-  met =
-      lts.spec (K t) (P t) Post (λ c κs. search needs) (λ c. search needs) (λ c. search needs) chain-requires (λ c. search needs) returns
-      (λ c κs. search needs) expr-requires (λ c. search needs) (λ c. search needs) (λ c. search needs) returns-2 put-flag-requires (λ c. search needs)
-      returns-3
+  met = lts.spec (K t) (P t) Post (λ c κs. search needs) (λ c. search needs) (λ c. search needs) chain-requires (λ c. search needs) returns (λ c κs. search needs) expr-requires (λ c. search needs)
+      (λ c. search needs) (λ c. search needs) returns-2 put-flag-requires (λ c. search needs) returns-3

@@ -24,7 +24,6 @@ module _ (t : ℕ) where
   So a n e b m c w o = let x = a .args in Seg (x .set) (x .src .now) (x .left) (state (goto (slice-end (x .parts) (x .x .start) (x .x .end))) n (x .c) (x .w) (x .out .now)) e 0 (state b m c w o)
 
   -- ── `:` without an end ──────────────────────────────────────────────────────────────────────────
-
   abbrev a₀ : lts.After-eat-any (K t) (P t) Post → lts.Start (K t) (P t) Post
   a₀ c = c .before .before .before .before .before .before
 
@@ -37,7 +36,6 @@ module _ (t : ℕ) where
       (Steps.known (eat 29 ▸ goto (slice-step (x .parts) (x .x .start) (x .x .end) 0 0)) st colon (λ xs t. refl) Steps.here)
 
   -- ── The end ─────────────────────────────────────────────────────────────────────────────────────
-
   -- what comes after the end's expression
   abbrev tail : lts.Start (K t) (P t) Post → Body
   tail a = let x = a .args in goto (slice-ended (x .parts) (x .x .start) (x .x .end) (x .c .start))
@@ -59,7 +57,6 @@ module _ (t : ℕ) where
   read n c = Steps.took (c₁ c .expr .ensures) (c .a .given .1) (one n (c₁ c .before .before))
 
   -- ── `:` after the end ───────────────────────────────────────────────────────────────────────────
-
   abbrev c₂ : lts.After-eat-any2 (K t) (P t) Post → lts.After-a (K t) (P t) Post
   c₂ c = c .before .before .before .before .before
 
@@ -75,7 +72,6 @@ module _ (t : ℕ) where
       Steps.taken (lit< tt) st (c .eat-any2 .ensures) colon (Steps.known (eat 29 ▸ on a) st colon (λ xs t. refl) (read n a))
 
   -- ── What each call asks ─────────────────────────────────────────────────────────────────────────
-
   step-requires : lts.Need-step-requires (K t) (P t) Post
   step-requires c κs = let p = a₀ c .pre .1 in (omega (arith, a₀ c .pre .0), (Steps.ready (p .0) (lit≤ tt) (endless 0 c), omega (arith, p .1), p .2, p .3, lit< tt, lit< tt))
 
@@ -104,7 +100,6 @@ module _ (t : ℕ) where
       (r, p .2, p .3, within (p .0) .0, omega (arith, r .stands .within, r .short), lit< tt, lit< tt)
 
   -- ── What each return owes ───────────────────────────────────────────────────────────────────────
-
   returns : lts.Need-returns (K t) (P t) Post
   returns c = let x = c .before .before in record { tells = λ n. Steps.tail-telling (lit≤ tt) (x .step .ensures .tells n) (endless n (x .before)) }
 
@@ -136,7 +131,6 @@ module _ (t : ℕ) where
 
   -- All of them, in the order of the code.
   pub met : {M : Type 1} → lts.Closed (K t) (P t) Post M
-  met =
-      lts.spec (K t) (P t) Post (λ c κs. search needs) step-requires (λ c. search needs) returns (λ c κs. search needs) (λ c. search needs) returns-2
-      expr-requires (λ c. search needs) (λ c. search needs) (λ c. search needs) returns-3 eat-any-requires-2 add-step step-requires-2
-      (λ c. search needs) returns-4 add-slice-close slice-close-requires-2 (λ c. search needs) returns-5
+  met = lts.spec (K t) (P t) Post (λ c κs. search needs) step-requires (λ c. search needs) returns (λ c κs. search needs) (λ c. search needs) returns-2 expr-requires (λ c. search needs)
+      (λ c. search needs) (λ c. search needs) returns-3 eat-any-requires-2 add-step step-requires-2 (λ c. search needs) returns-4 add-slice-close slice-close-requires-2 (λ c. search needs)
+      returns-5

@@ -56,7 +56,6 @@ module _ (t : ℕ) where
   value c = Steps.took (c₃ c .expr .ensures) (c .d .given .1) (opened (c₄ c))
 
   -- ── What each call asks ─────────────────────────────────────────────────────────────────────────
-
   each-requires : lts.Need-each-requires (K t) (P t) Post
   each-requires c κs =
       let header = c .before in let a = header .before .before .before .before in
@@ -75,7 +74,6 @@ module _ (t : ℕ) where
   put-none-requires c κs = let d = c .before .before in Steps.fits (a₁ (c₂ (c₄ d)) .pre .1) (lit≤ tt) (value d)
 
   -- ── What each return owes ───────────────────────────────────────────────────────────────────────
-
   returns : lts.Need-returns (K t) (P t) Post
   returns c = Steps.as-sub (c .before .before .each .ensures)
 
@@ -97,7 +95,6 @@ module _ (t : ℕ) where
 
   -- All of them, in the order of the code.
   pub met : {M : Type 1} → lts.Closed (K t) (P t) Post M
-  met =
-      lts.spec (K t) (P t) Post (λ c κs. search needs) each-requires (λ c. search needs) returns pat-requires (λ c. search needs) (λ c. search needs)
-      (λ c. search needs) returns-2 eat-requires (λ c. search needs) (λ c. search needs) (λ c. search needs) returns-3 expr-requires
-      (λ c. search needs) (λ c. search needs) (λ c. search needs) returns-4 put-none-requires same-length-5 returns-5
+  met = lts.spec (K t) (P t) Post (λ c κs. search needs) each-requires (λ c. search needs) returns pat-requires (λ c. search needs) (λ c. search needs) (λ c. search needs) returns-2 eat-requires
+      (λ c. search needs) (λ c. search needs) (λ c. search needs) returns-3 expr-requires (λ c. search needs) (λ c. search needs) (λ c. search needs) returns-4 put-none-requires same-length-5
+      returns-5

@@ -38,7 +38,6 @@ module _ (t : ℕ) where
   So l v b n c w o = let a = a₀ l .args in Seg (a .set) (a .src .now) (a .left) (state (goto more-clauses) (l .loop .n) (l .loop .cur) (l .loop .at) (l .loop .out)) 1 v (state b n c w o)
 
   -- ── A `for` clause ──────────────────────────────────────────────────────────────────────────────
-
   abbrev l₁ : lts.After-eat-any (K t) (P t) Post Inv-loop μ-loop → Turn
   l₁ c = c .before .before .before .before
 
@@ -60,7 +59,6 @@ module _ (t : ℕ) where
   over-for c = Steps.took (l₂ c .spec .ensures) (c .a .given .1) (past-for (l₂ c .before))
 
   -- ── An `if` clause ──────────────────────────────────────────────────────────────────────────────
-
   abbrev l₄ : lts.After-eat-any2 (K t) (P t) Post Inv-loop μ-loop → Turn
   l₄ c = c .before .before .before .before .before .before
 
@@ -90,7 +88,6 @@ module _ (t : ℕ) where
       Steps.took-owing (if-read (k .start) (k .end) (x .before .eat-any2 .ensures .stands) (x .expr .ensures) (b .b .given .1) (c .put-mark .ensures)) refl (past-if (x .before))
 
   -- ── The loop, and what each call asks ───────────────────────────────────────────────────────────
-
   loop-holds : lts.Need-loop-holds (K t) (P t) Post Inv-loop μ-loop
   loop-holds c = let p = c .before .before .pre .1 in (record { ok = p .0; seg = clauses-begin (p .0 .stands) (p .1) Steps.here; same = refl }, omega arith)
 
@@ -125,7 +122,6 @@ module _ (t : ℕ) where
   loop-again-2 c = let m = c .before .before in let i = l₇ m .loop .inv in (Steps.turned (i .0) (lit≤ tt) (over-if m), omega (arith, i .1, over-if m .onward))
 
   -- ── What each return owes ───────────────────────────────────────────────────────────────────────
-
   returns : lts.Need-returns (K t) (P t) Post Inv-loop μ-loop
   returns c =
       let x = c .before .before .before .before in
@@ -145,7 +141,5 @@ module _ (t : ℕ) where
 
   -- All of them, in the order of the code.
   pub met : {M : Type 1} → lts.Closed (K t) (P t) Post M
-  met =
-      lts.spec (K t) (P t) Post Inv-loop μ-loop loop-holds (λ c κs. search needs) spec-requires (λ c. search needs) (λ c. search needs)
-      (λ c. search needs) returns add-n loop-less loop-again (λ c. search needs) returns-2 (λ c κs. search needs) expr-requires (λ c. search needs)
-      (λ c. search needs) (λ c. search needs) returns-3 put-mark-requires add-n-2 loop-less-2 loop-again-2
+  met = lts.spec (K t) (P t) Post Inv-loop μ-loop loop-holds (λ c κs. search needs) spec-requires (λ c. search needs) (λ c. search needs) (λ c. search needs) returns add-n loop-less loop-again
+      (λ c. search needs) returns-2 (λ c κs. search needs) expr-requires (λ c. search needs) (λ c. search needs) (λ c. search needs) returns-3 put-mark-requires add-n-2 loop-less-2 loop-again-2

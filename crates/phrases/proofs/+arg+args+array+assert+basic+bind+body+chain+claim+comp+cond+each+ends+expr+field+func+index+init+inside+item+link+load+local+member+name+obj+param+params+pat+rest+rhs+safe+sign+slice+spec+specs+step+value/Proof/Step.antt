@@ -47,7 +47,6 @@ module _ (t : ℕ) where
   read n c = Steps.took (c₁ c .expr .ensures) (c .a .given .1) (one n (c₁ c .before .before))
 
   -- ── What each call asks ─────────────────────────────────────────────────────────────────────────
-
   expr-requires : lts.Need-expr-requires (K t) (P t) Post
   expr-requires c κs = let p = c .before .before .before .before .before .pre in (omega (arith, p .0), p .1 .0)
 
@@ -61,7 +60,6 @@ module _ (t : ℕ) where
       (r, p .2, p .3, p .4, p .5, within (p .0) .0, omega (arith, r .stands .within, r .short))
 
   -- ── What each return owes ───────────────────────────────────────────────────────────────────────
-
   returns : lts.Need-returns (K t) (P t) Post
   unfolding rule choose has sight
   returns c =
@@ -87,6 +85,5 @@ module _ (t : ℕ) where
 
   -- All of them, in the order of the code.
   pub met : {M : Type 1} → lts.Closed (K t) (P t) Post M
-  met =
-      lts.spec (K t) (P t) Post (λ c κs. search needs) (λ c. search needs) returns expr-requires (λ c. search needs) (λ c. search needs)
-      (λ c. search needs) returns-2 add-slice-close slice-close-requires-2 (λ c. search needs) returns-3
+  met = lts.spec (K t) (P t) Post (λ c κs. search needs) (λ c. search needs) returns expr-requires (λ c. search needs) (λ c. search needs) (λ c. search needs) returns-2 add-slice-close
+      slice-close-requires-2 (λ c. search needs) returns-3

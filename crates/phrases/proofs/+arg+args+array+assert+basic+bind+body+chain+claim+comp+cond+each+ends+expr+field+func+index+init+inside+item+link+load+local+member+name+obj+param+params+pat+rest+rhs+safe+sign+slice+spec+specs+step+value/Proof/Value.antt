@@ -49,7 +49,6 @@ module _ (t : ℕ) where
   value c = Steps.took (c₂ c .expr .ensures) (c .b .given .1) (opened (c₃ c))
 
   -- ── What each call asks ─────────────────────────────────────────────────────────────────────────
-
   visibility-requires : lts.Need-visibility-requires (K t) (P t) Post
   visibility-requires c κs = let a = c .before in ate-stands (a₀ a .pre .1 .0 .stands) (a .before .before .eat .ensures) (a .a .given .1)
 
@@ -60,7 +59,6 @@ module _ (t : ℕ) where
   put-field-requires c κs = let b = c .before .before in let p = a₀ (c₁ (c₃ b)) .pre .1 in (Steps.fits (p .0) (lit≤ tt) (value b), p .1, p .2, p .3, few (p .0) (p .4))
 
   -- ── What each return owes ───────────────────────────────────────────────────────────────────────
-
   returns : lts.Need-returns (K t) (P t) Post
   returns c =
       let x = c .before .before in let a = x .before .before .before .args in let h = a .h in
@@ -76,6 +74,5 @@ module _ (t : ℕ) where
 
   -- All of them, in the order of the code.
   pub met : {M : Type 1} → lts.Closed (K t) (P t) Post M
-  met =
-      lts.spec (K t) (P t) Post (λ c κs. search needs) (λ c. search needs) (λ c. search needs) returns visibility-requires expr-requires
-      (λ c. search needs) (λ c. search needs) (λ c. search needs) returns-2 put-field-requires (λ c. search needs) returns-3
+  met = lts.spec (K t) (P t) Post (λ c κs. search needs) (λ c. search needs) (λ c. search needs) returns visibility-requires expr-requires (λ c. search needs) (λ c. search needs)
+      (λ c. search needs) returns-2 put-field-requires (λ c. search needs) returns-3
