@@ -14,12 +14,13 @@ extern "C" {
 #define MATIGELO_EXP_DESTRUCT 1u
 #define MATIGELO_EXP_OBJECT_ITERATION 2u
 #define MATIGELO_EXP_NULL_COAELSE 4u
+#define MATIGELO_PUBLISHED_SIGNS 8u /* -a*b is (-a)*b; without it -(a*b) */
 
 /* What an answer says; of the other fields those that a number does not use are 0.
 
    number                                          start and end; detail; length
     0  a tree, its image is in the output          length of the image
-    1  a setting above 7
+    1  a setting above 15
     2  a source above 65,000 bytes
     3  not UTF-8                                   start = end = bytes valid so far
     4  a bad lexeme                                the first one; its kind

@@ -19,9 +19,13 @@ pub use image::Refusal;
 pub use ir::*;
 pub use parser::{ParseError, ParserSettings, parse, string_to_expr};
 
+/// The power of prefix operators by the published rule: above every binary operator's.
+const PUBLISHED: u8 = 22;
+
 /// The image of a source, or the refusal that the reading meets.
-pub fn read(source: &str) -> Result<Vec<u8>, Refusal> {
-    let settings = ParserSettings { source: Source::default() };
+pub fn read(source: &str, published: bool) -> Result<Vec<u8>, Refusal> {
+    let prefix = published.then_some(PUBLISHED);
+    let settings = ParserSettings { source: Source::default(), prefix };
     match parse(source, &settings) {
         Ok(tree) => Ok(walk::image(&tree)),
         Err(ParseError { number, detail, location: Span(_, start, end) }) => {

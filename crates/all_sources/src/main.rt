@@ -95,7 +95,7 @@ fn print_sums(setting: u64) {
 
 fn main() {
     files::read_all();
-    for setting in 0..8 {
+    for setting in 0..16 {
         print_sums(setting);
     }
 }

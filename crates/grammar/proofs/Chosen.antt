@@ -11,7 +11,7 @@ use Rattle.lexemes.specs.Kinds.{QUESTION-MARK, NULL-COAELSE}
 use Rattle.grammar.specs.Lexemes.{Lexeme}
 use Rattle.grammar.specs.Productions.{Phrase, Body, Switch, always, exp-destruct, exp-object-iteration, exp-null-coaelse, Row, row, Table, otherwise, _∣_, View, rule}
 use Rattle.grammar.specs.Reading.{has, choose, view, production}
-use Rattle.grammar.proofs.Tables.{order, rank, moves, low, halts, fine, moved, numbered, sound-body, sound-table, halts-table, stops-table, unguarded, with-kind, Facts, plain, switched, facts, checked}
+use Rattle.grammar.proofs.Tables.{order, rank, moves, low, halts, fine, moved, numbered, sound-body, sound-table, halts-table, stops-table, unguarded, with-kind, Facts, plain, switched, an-expr, facts, checked}
 
 pub true-false : true ≡ false → ⊥
 true-false e = let z : _≡_ {A = ℕ} 0 1 = cc in omega arith
@@ -90,8 +90,9 @@ module _ (prefix s : ℕ) (q : Phrase) (v : View) where
   is-checked = by (facts prefix q v)
     where
       by : Facts prefix q v → T (checked prefix q v)
-      by (plain h) = and-left (checked prefix q v) (unguarded (rule prefix q v)) h
-      by (switched w h) = h
+      by (plain h same) = and-left (checked prefix q v) (unguarded (rule prefix q v)) h
+      by (switched w h same) = h
+      by (an-expr e h) = and-left (checked prefix q v) (unguarded (rule prefix q v)) h
 
   sound-both : T (sound-table q (rule prefix q v) && stops-table q (rule prefix q (with-kind v QUESTION-MARK)))
   unfolding checked

@@ -12,14 +12,14 @@ use Rattle.grammar.specs.Lexemes.{said}
 use Rattle.grammar.specs.Productions.{Phrase, Body, end, goto, fail, _▸_, Step, eat, sub, deep, close, Switch, always, exp-destruct, exp-object-iteration, exp-null-coaelse, Row, row, Table, otherwise, _∣_, View, rule, expression, suffix, infix-tail, pattern, for-clause, header, iteration}
 use Rattle.grammar.specs.Reading.{has, choose}
 use Rattle.grammar.specs.Settings.{_⊑_, switch-of}
-use Rattle.grammar.proofs.Tables.{unguarded, with-kind, Switched, at-infix-tail, at-suffix, at-pattern, at-for-clause, Facts, plain, switched, facts, checked}
+use Rattle.grammar.proofs.Tables.{unguarded, with-kind, Switched, at-infix-tail, at-suffix, at-pattern, at-for-clause, Facts, plain, switched, an-expr, facts, checked}
 use Rattle.grammar.proofs.Chosen.{true-false, and-right, pick-yes, pick-no, Stopper, at-kind}
 
 -- If the smaller setting has the switch of what the larger chooses, it chooses the same.
 pub chosen-same : (s s′ : ℕ) (t : Table) → s ⊑ s′ → has s (switch-of s′ t) ≡ true → choose s t ≡ choose s′ t
-unfolding choose switch-of _⊑_
+unfolding choose switch-of
 chosen-same s s′ (otherwise b) le h = refl
-chosen-same s s′ (row g t b ∣ rest) le h = by t (has s g) (has s′ g) refl (le g) h (λ q. chosen-same s s′ rest le q)
+chosen-same s s′ (row g t b ∣ rest) le h = by t (has s g) (has s′ g) refl (le .switches g) h (λ q. chosen-same s s′ rest le q)
   where
     by : (t a a′ : Bool) → has s g ≡ a → (has s g ≡ true → a′ ≡ true) → has s (elim (t && a′) [ true ↦ g | false ↦ switch-of s′ rest ]) ≡ true
         → (has s (switch-of s′ rest) ≡ true → choose s rest ≡ choose s′ rest)
@@ -203,6 +203,10 @@ module _ (prefix s s′ : ℕ) where
   pub lacking : (q : Phrase) (v : View) → has s (switch-of s′ (rule prefix q v)) ≡ false → Lack q v
   lacking q v h = by (facts prefix q v)
     where
+      none : T (checked prefix q v && unguarded (rule prefix q v)) → Lack q v
+      none f = absurd (has-always (unguarded-always (rule prefix q v) (and-right (checked prefix q v) (unguarded (rule prefix q v)) f)) h)
+
       by : Facts prefix q v → Lack q v
-      by (plain f) = absurd (has-always (unguarded-always (rule prefix q v) (and-right (checked prefix q v) (unguarded (rule prefix q v)) f)) h)
-      by (switched w f) = by-switch v w (peel (rule prefix q v) h)
+      by (plain f same) = none f
+      by (switched w f same) = by-switch v w (peel (rule prefix q v) h)
+      by (an-expr e f) = none f

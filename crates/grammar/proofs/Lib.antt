@@ -57,3 +57,4 @@ pub mod Exactly
 pub mod ButForSpans
 pub mod Spanned
 pub mod Derived
+pub mod Signs

@@ -30,7 +30,7 @@ use Rattle.grammar.specs.Trees.{Trees, none, _⊕_, count}
 use Rattle.grammar.specs.Image.{image, entry, payload}
 use Rattle.grammar.specs.Lexemes.{Said, says, nothing, good, said, Lexeme}
 use Rattle.grammar.specs.Productions.{rule, source, with-field, with-assert, with-member}
-use Rattle.grammar.specs.Reading.{has, choose, view, production, Outcome, done, broken}
+use Rattle.grammar.specs.Reading.{has, published, choose, view, production, Outcome, done, broken}
 use Rattle.grammar.specs.Says.{Says, its-text, no-text, Told}
 use Rattle.grammar.specs.Says as says-of
 use Rattle.grammar.specs.Answer.{Verdict, refused, tree, verdict, Judged, read, bad-lexeme, valid-setting, prefix-power, document-01}
@@ -199,5 +199,5 @@ block-lexemes =
     (lexemes.Lexemes.none (leb→le 23 23 tt))
 
 pub marked-readings : All marked
-unfolding marked parens block-source lex rules firstBad keep lexemes.bad lexemes.dropped no-strings no-string words word-at plain low run after production choose rule view has _⊕_ count with-field with-assert with-member good said image entry payload verdict
+unfolding marked parens block-source lex rules firstBad keep lexemes.bad lexemes.dropped no-strings no-string words word-at plain low run after prefix-power published production choose rule view has _⊕_ count with-field with-assert with-member good said image entry payload verdict
 marked-readings = (plainly 0 _ _ _ tt tt tt refl refl tt refl, ((_, plainly 0 _ _ _ tt tt tt refl refl tt refl, refl), (plainly 0 _ _ _ tt tt tt refl refl tt refl, ((_, plainly 0 _ _ _ tt tt tt refl refl tt refl, refl), ((_, judge 0 _ _ _ _ tt tt tt (lexed _ 500 0 _ refl) refl (Told.more (its-text (says-of.Means.double marked-reading-5)) Told.none) refl, refl), ((_, judge 0 _ _ _ _ tt tt tt (lexed _ 500 0 _ refl) refl (Told.more (its-text (says-of.Means.double marked-reading-6)) Told.none) refl, refl), (judge 0 _ _ _ _ tt tt tt (lexed _ 500 0 _ refl) refl (Told.more (no-text (λ w m. marked-reading-7 w (double-back _ 0 9 w m))) Told.none) refl, ((_, judge 0 block-source _ _ _ tt tt tt block-lexemes refl (Told.more (its-text (says-of.Means.block (marked-reading-8 .1))) Told.none) refl, refl), (plainly 0 _ _ _ tt tt tt refl refl tt refl, (bad-lexeme refl (leb→le 17 65000 tt) (low-utf8 _ tt) (bad (eqb-false 39 EOF refl) (record { lexemes = _; all = lexed (ascii "if a then 1else 2") 500 0 _ refl; is-first = refl })), (plainly 0 _ _ _ tt tt tt refl refl tt refl, (plainly 0 _ _ _ tt tt tt refl refl tt refl, (plainly 1 _ _ _ tt tt tt refl refl tt refl, ((_, plainly 2 _ _ _ tt tt tt refl refl tt refl, refl), ((_, plainly 0 _ _ _ tt tt tt refl refl tt refl, refl), (plainly 0 _ _ _ tt tt tt refl refl tt refl, ((_, plainly 0 _ _ _ tt tt tt refl refl tt refl, refl), (plainly 0 _ _ _ tt tt tt refl refl tt refl, ((_, plainly 0 _ _ _ tt tt tt refl refl tt refl, refl), ((_, plainly 0 _ _ _ tt tt tt refl refl tt refl, refl), tt))))))))))))))))))))

@@ -28,7 +28,7 @@ use Rattle.lexemes.proofs.KeptLaws.{lexemes-always, kept-always, kept-once, fir
 use Rattle.grammar.specs.Numbers.{fits}
 use Rattle.grammar.specs.Lexemes.{Said, says, nothing, Lexeme}
 use Rattle.grammar.specs.Says.{Means, name, number, double, single, double-verbatim, single-verbatim, block, Says, its-text, no-text, Told}
-use Rattle.grammar.specs.Answer.{Answer, Answers, valid-setting, document-01}
+use Rattle.grammar.specs.Answer.{Answer, Answers, valid-setting, prefix-power, document-01}
 use Rattle.grammar.specs.Source.{Bad, bad, Kept, kept, Reads01}
 use Rattle.grammar.proofs.SaysLaws.{told-once}
 use Rattle.grammar.specs.Settings.{_⊑_}
@@ -173,12 +173,17 @@ reads-fit = answers-fit lexing document-01
 
 -- ---- demand 3
 
+-- Settings that it compares have one prefix power.
+same-power : {s s′ : ℕ} → s ⊑ s′ → prefix-power s ≡ prefix-power s′
+unfolding prefix-power
+same-power le = ap (λ (b : Bool). cond b 22 20) (le .signs)
+
 module _ (s s′ : ℕ) (le : s ⊑ s′) (source : List ℕ) (room : ℕ) {a a′ : Answer} {out out′ : List ℕ} (x : Reads01 s source room a out) (x′ : Reads01 s′ source room a′ out′) where
   -- A larger setting changes no tree and no refusal for room.
   pub larger-setting : valid-setting s′ ≡ true → Accepted a → (a′ ≡ a) × (out′ ≡ out)
-  larger-setting = larger lexing document-01 s s′ le source room x x′ refl
+  larger-setting = larger lexing document-01 s s′ le source room x x′ (same-power le)
 
   -- Where the larger setting has a tree, the smaller has the same, or refuses with number 5 at the first place that the larger reads by a
   -- switch the smaller lacks.
   pub smaller-setting : valid-setting s ≡ true → Accepted a′ → ((a ≡ a′) × (out ≡ out′)) ⊎ Fifth lexing document-01 s s′ le source room x x′
-  smaller-setting = smaller lexing document-01 s s′ le source room x x′ refl
+  smaller-setting = smaller lexing document-01 s s′ le source room x x′ (same-power le)

@@ -12,7 +12,7 @@ use Rattle.grammar.specs.Numbers.{TREE, SETTING, LONG, ENCODING, LEXEME,
 use Rattle.grammar.specs.Trees.{Trees}
 use Rattle.grammar.specs.Image.{image}
 use Rattle.grammar.specs.Lexemes.{Lexeme, start-of, stop-of}
-use Rattle.grammar.specs.Reading.{Outcome, done, broken, Reads}
+use Rattle.grammar.specs.Reading.{published, Outcome, done, broken, Reads}
 
 -- 01's limits: which settings there are, how long a source may be, how deep phrases may nest; and the prefix power of a setting.
 pub record Limits : Type 0 where
@@ -21,13 +21,13 @@ pub record Limits : Type 0 where
   pub depth : ℕ
   pub prefix : ℕ → ℕ
 
--- "number 1: setting above 7"
+-- "Settings run to 15 and number 1 moves to above 15."
 abbrev pub valid-setting : ℕ → Bool
-valid-setting s = leb s 7
+valid-setting s = leb s 15
 
--- "prefix 20", whatever the setting
-abbrev pub prefix-power : ℕ → ℕ
-prefix-power s = 20
+-- "setting 8 gives prefix power above 21 and under every suffix; without 8 the present rule stays": "prefix 20"
+unfoldable pub prefix-power : ℕ → ℕ
+prefix-power s = cond (published s) 22 20
 
 -- "Source: 0 to 65,000 bytes", "Depth: 200"
 abbrev pub document-01 : Limits

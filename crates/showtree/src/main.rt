@@ -77,11 +77,18 @@ fn setting_of(word: &[u8]) -> u64 {
     if word.len() == 1 {
         let b = word[0];
         match b {
-            b'0'..=b'7' => return (b - 0x30) as u64,
+            b'0'..=b'9' => return (b - 0x30) as u64,
             _ => {}
         }
     }
-    io::write_all(STDERR_FILENO, b"showtree: -s takes a setting, 0 to 7\n");
+    if word.len() == 2 && word[0] == b'1' {
+        let b = word[1];
+        match b {
+            b'0'..=b'5' => return (b - 0x30) as u64 + 10,
+            _ => {}
+        }
+    }
+    io::write_all(STDERR_FILENO, b"showtree: -s takes a setting, 0 to 15\n");
     STOPPED
 }
 

@@ -29,7 +29,7 @@ pub fn lines() -> Vec<String> {
         lines.push(format!("lexemes {length} {}", count_and_sum(answers)));
     }
     lines.push(format!("sources of {}", LEXEMES.join(" ")));
-    for setting in 0..8 {
+    for setting in 0..reader::SETTINGS {
         for length in 0..=MOST_LEXEMES {
             let inputs = sequences(&LEXEMES, length).map(|lexemes| lexemes.join(" "));
             let answers =

@@ -23,7 +23,7 @@ pub fn strings(line: &str) -> Result<String, String> {
 
 /// The text of a source that is one string literal: the Rust decodes it in its parser.
 fn literal_text(literal: &str) -> Option<String> {
-    let image = setting0::read(literal).ok()?;
+    let image = setting0::read(literal, false).ok()?;
     let (header, text) = image.split_at(3);
     let length = u16::from_be_bytes([header[1], header[2]]);
     let is_one_string = header[0] == 5 && text.len() == usize::from(length);

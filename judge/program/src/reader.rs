@@ -27,10 +27,16 @@ impl fmt::Display for Answer {
     }
 }
 
-type Read = fn(&str) -> Result<Vec<u8>, Refusal>;
+type Read = fn(&str, bool) -> Result<Vec<u8>, Refusal>;
 
-/// The parser under each setting.
-const SETTINGS: [Read; 8] = [
+/// How many settings there are.
+pub const SETTINGS: u64 = 16;
+
+/// The switch of a setting that has signs bind by the published rule.
+const PUBLISHED: u64 = 8;
+
+/// The parser under each setting without that switch.
+const PARSERS: [Read; 8] = [
     setting0::read,
     setting1::read,
     setting2::read,
@@ -42,10 +48,9 @@ const SETTINGS: [Read; 8] = [
 ];
 
 pub fn answer(setting: u64, room: u64, source: &[u8]) -> Answer {
-    let read = usize::try_from(setting).ok().and_then(|setting| SETTINGS.get(setting));
-    let Some(read) = read else {
+    if setting >= SETTINGS {
         return Answer { number: 1, ..Answer::default() };
-    };
+    }
     if source.len() > SOURCE_LIMIT {
         return Answer { number: 2, ..Answer::default() };
     }
@@ -56,7 +61,8 @@ pub fn answer(setting: u64, room: u64, source: &[u8]) -> Answer {
             return Answer { number: 3, start: place, end: place, ..Answer::default() };
         }
     };
-    match read(source) {
+    let read = PARSERS[(setting % PUBLISHED) as usize];
+    match read(source, setting >= PUBLISHED) {
         Err(Refusal { number, start, end, detail }) => {
             Answer { number, start, end, detail, ..Answer::default() }
         }

@@ -389,6 +389,18 @@ pub const TRAPS: &[Reading] = &[
 ];
 
 /// All of them.
+/// The published binding of signs (setting 8): each sign is a level all the same.
+pub const SIGNS: &[Reading] = &[
+    (0, "⟦150×-a*⟧1", Refused(11, 300, 301, 0)),
+    (8, "⟦150×-a*⟧1", Tree),
+    (8, "⟦199×-⟧a", Tree),
+    (8, "⟦200×-⟧a", Refused(11, 200, 201, 0)),
+    (15, "1", Number("1")),
+    (16, "1", Refused(1, 0, 0, 0)),
+    (8, "a??b", Refused(5, 1, 3, 1)),
+    (12, "-a??b", Records(13, &[&[18, 0, 2, 0, 4]])),
+];
+
 pub fn all() -> impl Iterator<Item = &'static Reading> {
-    DOCUMENT.iter().chain(SILENT).chain(TRAPS)
+    DOCUMENT.iter().chain(SILENT).chain(TRAPS).chain(SIGNS)
 }

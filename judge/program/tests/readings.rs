@@ -74,6 +74,11 @@ fn traps() {
     check(readings::TRAPS);
 }
 
+#[test]
+fn signs() {
+    check(readings::SIGNS);
+}
+
 /// Whole images as document 01 prints them.
 #[test]
 fn images() {
@@ -110,6 +115,22 @@ fn shapes() {
         (0, "-a*b", "-(a*b)"),
         (0, "a*-b*c", "a*(-(b*c))"),
         (0, "-a+b", "(-a)+b"),
+        (8, "-a*b", "(-a)*b"),
+        (8, "~mask * n", "(~mask) * n"),
+        (8, "a*-b*c", "(a*(-b))*c"),
+        (8, "- -a*b", "(-(-a))*b"),
+        (8, "-a+b", "(-a)+b"),
+        (8, "!a==b", "(!a)==b"),
+        (8, "!a in b", "(!a)in b"),
+        (8, "-a.b", "-(a.b)"),
+        (8, "-f(x)", "-(f(x))"),
+        (8, "-a[0]", "-(a[0])"),
+        (8, "-a{}", "-(a{})"),
+        (12, "-a?.b*c", "(-(a?.b))*c"),
+        (8, "-if a then b else c*d", "-(if a then b else (c*d))"),
+        (8, "-local x=1;x*y", "-(local x=1;(x*y))"),
+        (8, "-function(x)x*y", "-(function(x)(x*y))"),
+        (8, "-error a*b", "-(error (a*b))"),
         (0, "!a==b", "(!a)==b"),
         (0, "a in b in c", "(a in b)in c"),
         (0, "a<b<c", "(a<b)<c"),
@@ -164,9 +185,9 @@ fn lexemes() {
 fn order() {
     let number = |number| refused(number, 0, 0, 0);
     let long = [b' '; reader::SOURCE_LIMIT + 1];
-    assert_eq!(reader::answer(8, 0, &long), number(1));
+    assert_eq!(reader::answer(16, 0, &long), number(1));
     assert_eq!(reader::answer(u64::MAX, 4, b"1"), number(1));
-    assert_eq!(reader::answer(7, 0, &[0xff; reader::SOURCE_LIMIT + 1]), number(2));
+    assert_eq!(reader::answer(15, 0, &[0xff; reader::SOURCE_LIMIT + 1]), number(2));
     assert_eq!(reader::answer(0, 0, &long[1..]), number(7));
     assert_eq!(reader::answer(0, 0, b"\"\xff"), refused(3, 1, 1, 0));
     assert_eq!(reader::answer(0, 0, b"ab\xe2\x82\xac\xe2\x82"), refused(3, 5, 5, 0));

@@ -9,7 +9,7 @@ abbrev Inv-loop : tie.InvT-loop
 Inv-loop setting₀ setting = Unit {0}
 
 abbrev μ-loop : tie.MeasureT-loop
-μ-loop setting₀ setting = 8 - setting
+μ-loop setting₀ setting = 16 - setting
 
 read-all-requires : tie.Need-read-all-requires Inv-loop μ-loop
 read-all-requires c κs = search needs

@@ -26,7 +26,7 @@ pub fn fixed(lines: &mut Lines) {
         let source = readings::expand(notation);
         lines.push(line(setting, ROOM, source.as_bytes()));
         // Every setting reads every reading that isn't long.
-        for setting in (0..8).filter(|_| source.len() < 24) {
+        for setting in (0..reader::SETTINGS).filter(|_| source.len() < 24) {
             lines.push(line(setting, 256, source.as_bytes()));
         }
     }
@@ -34,13 +34,14 @@ pub fn fixed(lines: &mut Lines) {
     limits(lines);
     no_utf8(lines);
     for lexeme in PUNCTUATION.into_iter().chain(KEYWORDS).chain(LEXEMES) {
-        for setting in [0, 7] {
+        for setting in [0, 7, 15] {
             lines.push(line(setting, 64, lexeme.as_bytes()));
         }
     }
     for first in LEXEMES {
         for second in LEXEMES {
             lines.push(line(7, 64, format!("{first} {second}").as_bytes()));
+            lines.push(line(15, 64, format!("- {first} {second}").as_bytes()));
         }
     }
 }
@@ -61,7 +62,7 @@ fn rooms(lines: &mut Lines) {
 
 /// Settings, lengths and images at and beyond their ends.
 fn limits(lines: &mut Lines) {
-    for setting in [8, 9, 15, 16, 255, 256, 263, 1 << 16, 1 << 32, (1 << 32) + 7, u64::MAX] {
+    for setting in [16, 17, 24, 31, 255, 256, 271, 1 << 16, 1 << 32, (1 << 32) + 8, u64::MAX] {
         lines.push(line(setting, 64, b"1"));
         lines.push(line(setting, 0, b"\xff"));
     }
@@ -99,7 +100,7 @@ fn no_utf8(lines: &mut Lines) {
 }
 
 pub fn random(rng: &mut Rng) -> String {
-    let written = rng.below(8) as u64;
+    let written = rng.below(reader::SETTINGS as usize) as u64;
     let mut source = match rng.below(128) {
         0 => deep(rng),
         1..16 => soup(rng),
@@ -120,7 +121,8 @@ pub fn random(rng: &mut Rng) -> String {
         damage::bytes(rng, &mut bytes);
     }
     // Mostly the setting it was written for.
-    let setting = if rng.once_in(3) { rng.below(8) as u64 } else { written };
+    let any = rng.below(reader::SETTINGS as usize) as u64;
+    let setting = if rng.once_in(3) { any } else { written };
     let need = reader::answer(setting, 0, &bytes).length as u64;
     let room = match rng.below(8) {
         0 => rng.below(need as usize + 1) as u64,

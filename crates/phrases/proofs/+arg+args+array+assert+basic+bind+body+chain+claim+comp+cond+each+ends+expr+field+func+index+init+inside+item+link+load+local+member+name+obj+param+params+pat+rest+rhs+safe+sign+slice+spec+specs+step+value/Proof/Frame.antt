@@ -117,6 +117,7 @@ use Rattle.phrases.proofs.value.Reads as value
 use Rattle.phrases.proofs.value.Kinds as value-kinds
 use Rattle.phrases.proofs.+arg+args+array+assert+basic+bind+body+chain+claim+comp+cond+each+ends+expr+field+func+index+init+inside+item+link+load+local+member+name+obj+param+params+pat+rest+rhs+safe+sign+slice+spec+specs+step+value.Lts-value as value-lts
 use Rattle.grammar.proofs.operators.unary_op.Reads as unary-op-reads
+use Rattle.grammar.proofs.operators.prefix_power.Reads as prefix-power-reads
 use Rattle.grammar.proofs.settings.has_destruct.Reads as has-destruct-reads
 use Rattle.grammar.proofs.writers.put_bind.Reads as put-bind-reads
 use Rattle.grammar.proofs.writers.put_count.Reads as put-count-reads
@@ -595,7 +596,7 @@ abbrev pub safe-claims : ℕ → safe-lts.Claims
 safe-claims t = (eat-reads.Asked, eat-reads.Learnt, member-name-reads.Asked, member-name-reads.Learnt, eat-any-reads.Asked, eat-any-reads.Learnt, expr-below t, expr.Post, put-index-reads.Asked, put-index-reads.Learnt)
 
 abbrev pub sign-claims : ℕ → sign-lts.Claims
-sign-claims t = (unary-op-reads.Asked, unary-op-reads.Learnt, chain-below t, chain.Post, eat-any-reads.Asked, eat-any-reads.Learnt, expr-below t, expr.Post, put-flag-reads.Asked, put-flag-reads.Learnt)
+sign-claims t = (unary-op-reads.Asked, unary-op-reads.Learnt, chain-below t, chain.Post, eat-any-reads.Asked, eat-any-reads.Learnt, prefix-power-reads.Asked, prefix-power-reads.Learnt, expr-below t, expr.Post, put-flag-reads.Asked, put-flag-reads.Learnt)
 
 abbrev pub slice-claims : ℕ → slice-lts.Claims
 slice-claims t = (eat-any-reads.Asked, eat-any-reads.Learnt, step-below t, step.Post, slice-close-reads.Asked, slice-close-reads.Learnt, expr-below t, expr.Post)

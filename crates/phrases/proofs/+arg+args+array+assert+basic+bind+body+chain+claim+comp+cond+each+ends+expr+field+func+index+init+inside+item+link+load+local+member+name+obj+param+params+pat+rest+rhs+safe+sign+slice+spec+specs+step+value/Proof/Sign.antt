@@ -2,7 +2,7 @@
 use borrow.Author.Needs.{needs}
 use native.Mathlib.Omega.{arith}
 use lib.Dec.{lit≤}
-use mathlib.Core.Path.{refl}
+use mathlib.Core.Path.{refl, subst⁻¹}
 use mathlib.Core.List.{List, [], _∷_}
 use Prim.Native.Nat.{ℕ}
 use Rattle.leaves.proofs.Steps
@@ -28,15 +28,16 @@ module _ (t : ℕ) where
   abbrev shut : lts.After-p (K t) (P t) Post → Body
   shut c = close 12 (byte (c .p .given .0 .0) ∷ []) ▸ goto (infix-tail (a₀ c .args .least))
 
-  abbrev c₁ : lts.After-eat-any (K t) (P t) Post → lts.After-p (K t) (P t) Post
-  c₁ c = c .before .before .before
+  abbrev c₁ : lts.After-prefix-power (K t) (P t) Post → lts.After-p (K t) (P t) Post
+  c₁ c = c .before .before .before .before
 
-  opened : (c : lts.After-eat-any (K t) (P t) Post) → let a = a₀ (c₁ c) in
-      So a (deep (expr (power (a .args .set))) ▸ shut (c₁ c)) 0 (c .eat-any .result) (a .args .w) (a .args .out .now)
+  opened : (c : lts.After-prefix-power (K t) (P t) Post) → let a = a₀ (c₁ c) in
+      So a (deep (expr (c .prefix-power .result)) ▸ shut (c₁ c)) 0 (c .before .eat-any .result) (a .args .w) (a .args .out .now)
   opened c =
       let p = c₁ c in let a = a₀ p .args in let st = a₀ p .pre .1 .stands in let u = p .before .before .unary-op .ensures in
-      Steps.taken (sign-kind u (p .p .given .1)) st (c .eat-any .ensures) refl
-      (Steps.known (eat (a .c .kind) ▸ deep (expr (power (a .set))) ▸ shut p) st refl (λ xs t. a-sign (a .set) (a .c) xs 0 (a .least) (a .c .kind) t u (p .p .given .1)) Steps.here)
+      subst⁻¹ (λ (n : ℕ). So (a₀ p) (deep (expr n) ▸ shut p) 0 (c .before .eat-any .result) (a .w) (a .out .now)) (c .prefix-power .ensures)
+      (Steps.taken (sign-kind u (p .p .given .1)) st (c .before .eat-any .ensures) refl
+      (Steps.known (eat (a .c .kind) ▸ deep (expr (power (a .set))) ▸ shut p) st refl (λ xs t. a-sign (a .set) (a .c) xs 0 (a .least) (a .c .kind) t u (p .p .given .1)) Steps.here))
 
   abbrev c₂ : lts.After-a (K t) (P t) Post → lts.After-expr (K t) (P t) Post
   c₂ c = c .before .before .before .before
@@ -75,5 +76,5 @@ module _ (t : ℕ) where
 
   -- All of them, in the order of the code.
   pub met : {M : Type 1} → lts.Closed (K t) (P t) Post M
-  met = lts.spec (K t) (P t) Post (λ c κs. search needs) (λ c. search needs) (λ c. search needs) chain-requires (λ c. search needs) returns (λ c κs. search needs) expr-requires (λ c. search needs)
-      (λ c. search needs) (λ c. search needs) returns-2 put-flag-requires (λ c. search needs) returns-3
+  met = lts.spec (K t) (P t) Post (λ c κs. search needs) (λ c. search needs) (λ c. search needs) chain-requires (λ c. search needs) returns (λ c κs. search needs) (λ c κs. search needs)
+      expr-requires (λ c. search needs) (λ c. search needs) (λ c. search needs) returns-2 put-flag-requires (λ c. search needs) returns-3
