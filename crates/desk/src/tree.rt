@@ -2,6 +2,7 @@
 ghost use Rattle.io.specs.Counts.{Counts};
 use crate::Fields;
 use crate::input::take;
+use crate::status;
 use crate::text::put;
 use crate::text::put_field;
 use crate::text::put_hex_line;
@@ -40,13 +41,22 @@ fn told(f: Fields, output: &[u8], text: &mut [u8]) -> usize
     put_hex_line(text, n, crate::image(f, output))
 }
 
-// Reads all of a file and tells the answer on standard output; nothing is told of a file that cannot be read to its end.
-pub fn readtree(fd: i32) {
+// The status of an answer.
+fn status_of(f: Fields) -> u8 {
+    if f.number != 0 {
+        return status::REFUSED;
+    }
+    status::GOOD
+}
+
+// Reads all of a file and tells the answer on standard output; nothing is told of a file that cannot be read to its end. The status is
+// handed back.
+pub fn readtree(fd: i32) -> u8 {
     let mut source = [0u8; SOURCE];
     let taken = take(fd, &mut source);
     if !taken.whole {
         os::fail(b"readtree");
-        return;
+        return status::FAILED;
     }
     let n = taken.length;
     let mut output = [0u8; OUTPUT];
@@ -56,5 +66,7 @@ pub fn readtree(fd: i32) {
     let written = io::write_all(STDOUT_FILENO, &text[..m]);
     if !written {
         os::fail(b"standard output");
+        return status::FAILED;
     }
+    status_of(f)
 }
