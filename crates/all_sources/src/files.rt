@@ -7,7 +7,7 @@ fn read_file(i: usize) {
         os::fail(&path[..n]);
         return;
     }
-    desk::tree::readtree(fd);
+    desk::tree::readtree(fd, &path[..n], 0);
     libc::close(fd);
 }
 

@@ -22,6 +22,22 @@ pub fn worse(a: u8, b: u8) -> u8
     a
 }
 
+// A write that fails leaves the system's error number behind, and no later success takes it away. So where writes hand nothing back, the number is
+// set to none before them, and looked at after them.
+pub fn forget_errors() {
+    let mut word = io::buffer();
+    os::arg(0, &mut word);
+}
+
+// The status, if all could be written since.
+pub fn if_written(status: u8) -> u8 {
+    if os::errno() == 0 {
+        return status;
+    }
+    os::fail(b"standard output");
+    FAILED
+}
+
 // Whether the wrapper listens.
 fn is_asked() -> bool {
     let mut word = io::buffer();

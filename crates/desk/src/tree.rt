@@ -1,4 +1,4 @@
-// What `readtree` does: a source read under setting 0, and the answer as document 01 has it printed.
+// What `readtree` does: a source read, and the answer as document 01 has it printed; or its image in a file.
 ghost use Rattle.io.specs.Counts.{Counts};
 use crate::Fields;
 use crate::input::take;
@@ -17,6 +17,12 @@ const OUTPUT: usize = 65_536;
 // Two digits for each byte of the image, and the line before them.
 const TEXT: usize = 131_104;
 
+// Room for every image: 16 bytes for each byte of the longest source.
+const LARGEST: usize = 1_040_000;
+
+// Room for one line of numbers.
+const LINE: usize = 128;
+
 fn refused(f: Fields, text: &mut [u8]) -> usize
     ensures { λ r. ⌜ Counts r (now (text .exit)) ⌝ }
 {
@@ -28,6 +34,14 @@ fn refused(f: Fields, text: &mut [u8]) -> usize
     put(text, n, b"\n")
 }
 
+fn accepted(f: Fields, text: &mut [u8]) -> usize
+    ensures { λ r. ⌜ Counts r (now (text .exit)) ⌝ }
+{
+    let mut n = put(text, 0, b"ok");
+    n = put_field(text, n, f.length);
+    put(text, n, b"\n")
+}
+
 // The lines that tell an answer.
 fn told(f: Fields, output: &[u8], text: &mut [u8]) -> usize
     ensures { λ r. ⌜ Counts r (now (text .exit)) ⌝ }
@@ -35,9 +49,7 @@ fn told(f: Fields, output: &[u8], text: &mut [u8]) -> usize
     if f.number != 0 {
         return refused(f, text);
     }
-    let mut n = put(text, 0, b"ok");
-    n = put_field(text, n, f.length);
-    n = put(text, n, b"\n");
+    let n = accepted(f, text);
     put_hex_line(text, n, crate::image(f, output))
 }
 
@@ -49,24 +61,72 @@ fn status_of(f: Fields) -> u8 {
     status::GOOD
 }
 
-// Reads all of a file and tells the answer on standard output; nothing is told of a file that cannot be read to its end. The status is
+// Prints lines, after which all is as it was, if they can be printed.
+fn print(text: &[u8], status: u8) -> u8 {
+    if io::write_all(STDOUT_FILENO, text) {
+        return status;
+    }
+    os::fail(b"standard output");
+    status::FAILED
+}
+
+// Reads all of a file and prints the answer with the image in hex; of a file that cannot be read to its end nothing is told. The status is
 // handed back.
-pub fn readtree(fd: i32) -> u8 {
+pub fn readtree(fd: i32, name: &[u8], setting: u64) -> u8 {
     let mut source = [0u8; SOURCE];
     let taken = take(fd, &mut source);
     if !taken.whole {
-        os::fail(b"readtree");
+        os::fail(name);
         return status::FAILED;
     }
     let n = taken.length;
     let mut output = [0u8; OUTPUT];
-    let f = crate::answer(0, &source[..n], &mut output);
+    let f = crate::answer(setting, &source[..n], &mut output);
     let mut text = [0u8; TEXT];
     let m = told(f, &output, &mut text);
-    let written = io::write_all(STDOUT_FILENO, &text[..m]);
-    if !written {
-        os::fail(b"standard output");
+    print(&text[..m], status_of(f))
+}
+
+// Whether the bytes are the file's now.
+fn save(name: &[u8], bytes: &[u8]) -> bool {
+    let fd = os::open_overwrite(name);
+    if fd < 0 {
+        return false;
+    }
+    let written = io::write_all(fd, bytes);
+    let closed = libc::close(fd);
+    written && closed == 0
+}
+
+fn save_tree(setting: u64, source: &[u8], output: &mut [u8], image: &[u8]) -> u8 {
+    let f = crate::answer(setting, source, output);
+    let mut text = [0u8; LINE];
+    if f.number != 0 {
+        let n = refused(f, &mut text);
+        return print(&text[..n], status::REFUSED);
+    }
+    if !save(image, crate::image(f, output)) {
+        os::fail(image);
         return status::FAILED;
     }
-    status_of(f)
+    let n = accepted(f, &mut text);
+    print(&text[..n], status::GOOD)
+}
+
+// The buffer comes as a reference to an array: a proof that lent it as a slice where it is made would count its bytes one by one.
+fn save_with(setting: u64, source: &[u8], output: &mut [u8; LARGEST], image: &[u8]) -> u8 {
+    save_tree(setting, source, output, image)
+}
+
+// The same with the image's bytes in a file of their own, which a refusal leaves as it was.
+pub fn readtree_into(fd: i32, name: &[u8], setting: u64, image: &[u8]) -> u8 {
+    let mut source = [0u8; SOURCE];
+    let taken = take(fd, &mut source);
+    if !taken.whole {
+        os::fail(name);
+        return status::FAILED;
+    }
+    let n = taken.length;
+    let mut output = [0u8; LARGEST];
+    save_with(setting, &source[..n], &mut output, image)
 }

@@ -2,6 +2,7 @@
 // `NUMBER START END DETAIL LENGTH HEXIMAGE`, and `bad` for a line that is none.
 use desk::questions;
 use desk::questions::Question;
+use desk::status;
 use libc::STDIN_FILENO;
 use libc::STDOUT_FILENO;
 
@@ -87,5 +88,7 @@ fn main() {
     let mut source = [0u8; questions::SOURCE];
     let mut output = [0u8; questions::OUTPUT];
     let mut text = [0u8; questions::TEXT];
+    status::forget_errors();
     serve_with(&mut source, &mut output, &mut text);
+    status::end(status::if_written(status::GOOD));
 }

@@ -2,7 +2,10 @@
 // Arguments: files, and `-s SETTING` for those after it.
 use desk::Fields;
 use desk::input::take;
-use libc::STDERR_FILENO;
+use desk::options;
+use desk::options::Options;
+use desk::status;
+use libc::STDIN_FILENO;
 use show::refusals::Refusal;
 
 // One byte more than a source may have, so that a longer one is seen as longer.
@@ -14,10 +17,11 @@ const OUTPUT: usize = 524_288;
 // A tree has no more records than its source has lexemes. One that had would be told as such.
 const RECORDS: usize = 65_536;
 
-// What the arguments so far ask for is a setting, or one of these.
-const AWAITED: u64 = 8; // `-s` stood there, and its setting comes
-
-const STOPPED: u64 = 9; // it did not come
+// The options that hold, and how the files so far have ended.
+struct Turn {
+    options: Options,
+    status: u8,
+}
 
 fn tell(name: &[u8], f: Fields, source: &[u8]) {
     let refusal = Refusal {
@@ -38,14 +42,36 @@ fn show_source(
     starts: &mut [usize],
     firsts: &mut [usize],
     stack: &mut [usize],
-) {
+) -> u8 {
     let f = desk::answer(setting, source, output);
     if f.number != 0 {
         tell(name, f, source);
-        return;
+        return status::REFUSED;
     }
     let image = desk::image(f, output);
     show::tree::show(image, source, starts, firsts, stack);
+    status::GOOD
+}
+
+fn show_from(
+    fd: i32,
+    name: &[u8],
+    setting: u64,
+    source: &mut [u8],
+    output: &mut [u8],
+    starts: &mut [usize],
+    firsts: &mut [usize],
+    stack: &mut [usize],
+) -> u8 {
+    let taken = take(fd, source);
+    if !taken.whole {
+        os::fail(name);
+        return status::FAILED;
+    }
+    let n = taken.length;
+    status::forget_errors();
+    let status = show_source(name, setting, &source[..n], output, starts, firsts, stack);
+    status::if_written(status)
 }
 
 fn show_file(
@@ -56,63 +82,83 @@ fn show_file(
     starts: &mut [usize],
     firsts: &mut [usize],
     stack: &mut [usize],
-) {
+) -> u8 {
+    if options::is_standard_input(name) {
+        return show_from(
+            STDIN_FILENO,
+            b"standard input",
+            setting,
+            source,
+            output,
+            starts,
+            firsts,
+            stack,
+        );
+    }
     let fd = os::open_read(name);
     if fd < 0 {
         os::fail(name);
-        return;
+        return status::FAILED;
     }
-    let taken = take(fd, source);
+    let status = show_from(fd, name, setting, source, output, starts, firsts, stack);
     libc::close(fd);
-    if !taken.whole {
-        os::fail(name);
-        return;
-    }
-    let n = taken.length;
-    show_source(name, setting, &source[..n], output, starts, firsts, stack);
+    status
 }
 
-// The setting that follows `-s`.
-fn setting_of(word: &[u8]) -> u64 {
-    if word.len() == 1 {
-        let b = word[0];
-        match b {
-            b'0'..=b'9' => return (b - 0x30) as u64,
-            _ => {}
-        }
-    }
-    if word.len() == 2 && word[0] == b'1' {
-        let b = word[1];
-        match b {
-            b'0'..=b'5' => return (b - 0x30) as u64 + 10,
-            _ => {}
-        }
-    }
-    io::write_all(STDERR_FILENO, b"showtree: -s takes a setting, 0 to 15\n");
-    STOPPED
-}
-
-// One argument: what is asked before it, and what after.
+// One argument: how all stands before it, and how after.
 fn take_argument(
     i: usize,
-    asked: u64,
+    turn: Turn,
     source: &mut [u8],
     output: &mut [u8],
     starts: &mut [usize],
     firsts: &mut [usize],
     stack: &mut [usize],
-) -> u64 {
+) -> Turn {
     let mut word = io::buffer();
     let n = os::arg(i, &mut word);
-    let text = &word[..n];
-    if asked == AWAITED {
-        return setting_of(text);
+    let before = turn.options;
+    let options = before.with(i, &word[..n]);
+    if options.file != i {
+        return Turn {
+            options: options,
+            status: turn.status,
+        };
     }
-    if check::same(text, b"-s") {
-        return AWAITED;
+    let shown = show_file(
+        &word[..n],
+        options.setting,
+        source,
+        output,
+        starts,
+        firsts,
+        stack,
+    );
+    Turn {
+        options: options,
+        status: status::worse(turn.status, shown),
     }
-    show_file(text, asked, source, output, starts, firsts, stack);
-    asked
+}
+
+// Behind the last argument: standard input is shown where no file was named.
+fn end_arguments(
+    turn: Turn,
+    source: &mut [u8],
+    output: &mut [u8],
+    starts: &mut [usize],
+    firsts: &mut [usize],
+    stack: &mut [usize],
+) -> u8 {
+    let before = turn.options;
+    let options = before.ended();
+    if options.fault != options::NOTHING {
+        options.complain(b"showtree");
+        return status::FAILED;
+    }
+    if options.file != 0 {
+        return turn.status;
+    }
+    show_file(b"-", options.setting, source, output, starts, firsts, stack)
 }
 
 fn take_arguments(
@@ -121,20 +167,21 @@ fn take_arguments(
     starts: &mut [usize],
     firsts: &mut [usize],
     stack: &mut [usize],
-) {
+) -> Turn {
     let count = os::arg_count();
-    let mut asked = 0;
-    let mut i = 1;
+    let mut turn = Turn {
+        options: Options::new(false),
+        status: status::GOOD,
+    };
+    let mut i = status::first_argument();
     while i < count {
-        asked = take_argument(i, asked, source, output, starts, firsts, stack);
-        if asked == STOPPED {
-            return;
+        turn = take_argument(i, turn, source, output, starts, firsts, stack);
+        if turn.options.fault != options::NOTHING {
+            return turn;
         }
         i += 1;
     }
-    if asked == AWAITED {
-        setting_of(b"");
-    }
+    turn
 }
 
 // The buffers come as references to arrays: a proof that lent them as slices where they are made would count their elements one by one.
@@ -144,8 +191,9 @@ fn run(
     starts: &mut [usize; RECORDS],
     firsts: &mut [usize; RECORDS],
     stack: &mut [usize; RECORDS],
-) {
-    take_arguments(source, output, starts, firsts, stack);
+) -> u8 {
+    let turn = take_arguments(source, output, starts, firsts, stack);
+    end_arguments(turn, source, output, starts, firsts, stack)
 }
 
 fn main() {
@@ -154,11 +202,12 @@ fn main() {
     let mut starts = [0usize; RECORDS];
     let mut firsts = [0usize; RECORDS];
     let mut stack = [0usize; RECORDS];
-    run(
+    let status = run(
         &mut source,
         &mut output,
         &mut starts,
         &mut firsts,
         &mut stack,
     );
+    status::end(status);
 }

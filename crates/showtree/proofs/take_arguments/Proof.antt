@@ -1,20 +1,26 @@
 -- `showtree::take_arguments` is safe and ends.
 -- Assumes nothing.
 use lib.ListN.{length}
-use borrow.Author.Needs.{needs}
 use Prim.Native.Nat.{_-_}
 use mathlib.Core.Path.{_≡_}
+use borrow.Author.Needs.{needs}
 use Rattle.showtree.proofs.take_arguments.Statement.{statement}
 use Rattle.showtree.proofs.take_arguments.Tie as tie
 
 abbrev Inv-loop : tie.InvT-loop
-Inv-loop source₀ output₀ starts₀ firsts₀ stack₀ count asked₀ i₀ t9 source output starts firsts stack asked i = (length source ≡ length source₀) × (length output ≡ length output₀) × (length starts ≡ length starts₀) × (length firsts ≡ length firsts₀) × (length stack ≡ length stack₀)
+Inv-loop source₀ output₀ starts₀ firsts₀ stack₀ count turn₀ i₀ source output starts firsts stack turn i = (length source ≡ length source₀) × (length output ≡ length output₀) × (length starts ≡ length starts₀) × (length firsts ≡ length firsts₀) × (length stack ≡ length stack₀)
 
 abbrev μ-loop : tie.MeasureT-loop
-μ-loop source₀ output₀ starts₀ firsts₀ stack₀ count asked₀ i₀ t9 source output starts firsts stack asked i = count - i
+μ-loop source₀ output₀ starts₀ firsts₀ stack₀ count turn₀ i₀ source output starts firsts stack turn i = count - i
 
 arg-count-requires : tie.Need-arg-count-requires Inv-loop μ-loop
 arg-count-requires c κs = search needs
+
+new-requires : tie.Need-new-requires Inv-loop μ-loop
+new-requires c κs = search needs
+
+first-argument-requires : tie.Need-first-argument-requires Inv-loop μ-loop
+first-argument-requires c κs = search needs
 
 loop-holds : tie.Need-loop-holds Inv-loop μ-loop
 loop-holds c = search needs
@@ -49,12 +55,6 @@ loop-less c = search needs
 loop-again : tie.Need-loop-again Inv-loop μ-loop
 loop-again c = search needs
 
-slice-aggregate-setting-of : tie.Need-slice-aggregate-setting-of Inv-loop μ-loop
-slice-aggregate-setting-of c = search needs
-
-setting-of-requires : tie.Need-setting-of-requires Inv-loop μ-loop
-setting-of-requires c κs = search needs
-
 same-length-6 : tie.Need-same-length-6 Inv-loop μ-loop
 same-length-6 c = search needs
 
@@ -73,24 +73,6 @@ same-length-10 c = search needs
 returns-2 : tie.Need-returns-2 Inv-loop μ-loop
 returns-2 c = search needs
 
-same-length-11 : tie.Need-same-length-11 Inv-loop μ-loop
-same-length-11 c = search needs
-
-same-length-12 : tie.Need-same-length-12 Inv-loop μ-loop
-same-length-12 c = search needs
-
-same-length-13 : tie.Need-same-length-13 Inv-loop μ-loop
-same-length-13 c = search needs
-
-same-length-14 : tie.Need-same-length-14 Inv-loop μ-loop
-same-length-14 c = search needs
-
-same-length-15 : tie.Need-same-length-15 Inv-loop μ-loop
-same-length-15 c = search needs
-
-returns-3 : tie.Need-returns-3 Inv-loop μ-loop
-returns-3 c = search needs
-
 pub take-arguments-spec : {M : Type 1} → statement M
 take-arguments-spec =
     tie.close
@@ -98,6 +80,8 @@ take-arguments-spec =
     Inv-loop
     μ-loop
     arg-count-requires
+    new-requires
+    first-argument-requires
     loop-holds
     take-argument-requires
     same-length
@@ -109,17 +93,9 @@ take-arguments-spec =
     add-i
     loop-less
     loop-again
-    slice-aggregate-setting-of
-    setting-of-requires
     same-length-6
     same-length-7
     same-length-8
     same-length-9
     same-length-10
-    returns-2
-    same-length-11
-    same-length-12
-    same-length-13
-    same-length-14
-    same-length-15
-    returns-3)
+    returns-2)
