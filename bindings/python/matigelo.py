@@ -1,0 +1,206 @@
+"""Reads Jsonnet sources: bytes in; a tree, or a refusal with its place.
+
+    >>> import matigelo
+    >>> tree = matigelo.read(b"-a*b")
+    >>> print(tree.show())
+    prefix operator=1
+      infix operator=0 span=(2, 3)
+        variable span=(1, 2) name='a'
+        variable span=(3, 4) name='b'
+    >>> print(matigelo.read(b"1 2"))
+    5: another kind of lexeme is wanted, at bytes 2 to 3
+
+Every answer is the proved reader's (crates/matigelo). The shared library is made by `bindings/test`, or by hand:
+
+    rt staticlib matigelo
+    cc -shared -o target/bindings/libmatigelo.so -Wl,--whole-archive target/staticlib/libmatigelo.a -Wl,--no-whole-archive
+
+MATIGELO_LIB names another file. Reading recurses: a thread of your own needs 1 MiB of stack (threading.stack_size).
+"""
+from __future__ import annotations
+
+import ctypes
+import os
+from dataclasses import dataclass, field
+from typing import Any, Iterator, Union
+
+LONGEST_SOURCE = 65_000
+IMAGE_FACTOR = 16  # an image has at most so many bytes for each byte of its source
+
+EXP_DESTRUCT = 1
+EXP_OBJECT_ITERATION = 2
+EXP_NULL_COAELSE = 4
+PUBLISHED_SIGNS = 8
+
+# Why a source is refused: a line for each number, as in crates/grammar/src/numbers.rt.
+NUMBERS = {
+    1: "the setting is above 15",
+    2: "the source is longer than 65,000 bytes",
+    3: "the source is not UTF-8",
+    4: "a bad lexeme stands there",
+    5: "another kind of lexeme is wanted",
+    6: "a field name or a pattern is wanted",
+    7: "an expression is wanted",
+    8: "what stands there is misplaced",
+    9: "a string has a bad escape",
+    10: "a text block does not decode",
+    11: "phrases would nest 201 deep",
+    12: "the image is longer than the output",
+}
+
+# The records, as README.md's table has them: tag, name, the parts of the payload, and how many children these tell of. A part is NAME:SORT; sorts are
+# b (a byte), f (a flag), n (a number of two bytes), s (a span), t (a text up to the payload's end). `slots` is the sum of start 1, end 2, step 4.
+RECORDS = {
+    1: ("identity", "which:b span:s", lambda p: 0),
+    2: ("null", "", lambda p: 0),
+    3: ("bool", "value:f", lambda p: 0),
+    4: ("number", "text:t", lambda p: 0),
+    5: ("string", "text:t", lambda p: 0),
+    6: ("variable", "span:s name:t", lambda p: 0),
+    7: ("array", "count:n", lambda p: p["count"]),
+    8: ("array comprehension", "clauses:n", lambda p: 1 + p["clauses"]),
+    9: ("object", "count:n", lambda p: p["count"]),
+    10: ("object comprehension", "members:n clauses:n", lambda p: p["members"] + p["clauses"]),
+    11: ("extension", "", lambda p: 2),
+    12: ("prefix", "operator:b", lambda p: 1),
+    13: ("infix", "operator:b span:s", lambda p: 2),
+    14: ("assert expression", "", lambda p: 2),
+    15: ("local", "binds:n", lambda p: p["binds"] + 1),
+    16: ("import", "which:b span:s", lambda p: 1),
+    17: ("error", "span:s", lambda p: 1),
+    18: ("call", "span:s tailstrict:f positional:n named:n", lambda p: 1 + p["positional"] + p["named"]),
+    19: ("named argument", "name:t", lambda p: 1),
+    20: ("index", "span:s first:f null_safe:f", lambda p: 2),
+    21: ("function", "span:s parameters:n", lambda p: p["parameters"] + 1),
+    22: ("if", "span:s has_else:f", lambda p: 2 + p["has_else"]),
+    23: ("slice", "slots:b start:s end:s step:s", lambda p: 1 + bin(p["slots"]).count("1")),
+    24: ("bind", "is_function:f parameters:n", lambda p: 2 + p["parameters"]),
+    25: ("name pattern", "span:s name:t", lambda p: 0),
+    26: ("skip", "", lambda p: 0),
+    27: ("array pattern", "leading:n rest:b trailing:n name:t", lambda p: p["leading"] + p["trailing"]),
+    28: ("object pattern", "fields:n rest:b name:t", lambda p: p["fields"]),
+    29: ("pattern field", "has_pattern:f has_default:f default:s name:t", lambda p: p["has_pattern"] + p["has_default"]),
+    30: ("parameter", "has_default:f", lambda p: 1 + p["has_default"]),
+    31: ("field", "span:s computed:f plus:f method:f parameters:n visibility:b", lambda p: 2 + p["parameters"]),
+    32: ("assert", "span:s has_message:f", lambda p: 1 + p["has_message"]),
+    33: ("for", "", lambda p: 2),
+    34: ("if clause", "span:s", lambda p: 1),
+    35: ("object iteration", "visibility:b key:t", lambda p: 2),
+}
+
+
+@dataclass(frozen=True)
+class Refusal:
+    """A source that has no tree. `start` and `end` are bytes of the source; what `detail` says is in README.md's table of refusals."""
+
+    number: int
+    start: int
+    end: int
+    detail: int
+
+    def __str__(self) -> str:
+        words = f"{self.number}: {NUMBERS[self.number]}"
+        return words if self.number in (1, 2, 12) else f"{words}, at bytes {self.start} to {self.end}"
+
+
+@dataclass
+class Tree:
+    """A record with its children. `parts` has what its payload says, by the names of RECORDS: numbers, flags, spans as pairs, texts."""
+
+    tag: int
+    name: str
+    parts: dict[str, Any]
+    children: list[Tree] = field(default_factory=list, repr=False)
+
+    def walk(self) -> Iterator[tuple[int, Tree]]:
+        """Each record from the root on, with how deep it stands. No recursion: a tree may be as deep as its source is long."""
+        left = [(0, self)]
+        while left:
+            depth, tree = left.pop()
+            yield depth, tree
+            left += [(depth + 1, child) for child in reversed(tree.children)]
+
+    def show(self) -> str:
+        lines = []
+        for depth, tree in self.walk():
+            lines.append("  " * depth + " ".join([tree.name] + [f"{k}={v!r}" for k, v in tree.parts.items()]))
+        return "\n".join(lines)
+
+
+def _library() -> ctypes.CDLL:
+    here = os.path.dirname(os.path.abspath(__file__))
+    name = os.environ.get("MATIGELO_LIB") or os.path.join(here, "..", "..", "target", "bindings", "libmatigelo.so")
+    library = ctypes.CDLL(name)
+    library.matigelo_read.restype = None
+    library.matigelo_read.argtypes = [ctypes.c_uint64, ctypes.c_char_p, ctypes.c_size_t, ctypes.c_void_p, ctypes.c_size_t, ctypes.POINTER(ctypes.c_uint64 * 5)]
+    return library
+
+
+_LIBRARY = _library()
+
+
+def answer(source: bytes, setting: int, room: int) -> tuple[tuple[int, int, int, int, int], bytes]:
+    """The five numbers, and all bytes of an output of so much room."""
+    output = ctypes.create_string_buffer(b"\xaa" * room, room) if room else None
+    numbers = (ctypes.c_uint64 * 5)()
+    _LIBRARY.matigelo_read(setting, source, len(source), output, room, ctypes.byref(numbers))
+    return tuple(numbers), output.raw if output else b""
+
+
+def image(source: bytes, setting: int = 0) -> Union[bytes, Refusal]:
+    """The tree's image as README.md describes it."""
+    numbers, output = answer(bytes(source), setting, IMAGE_FACTOR * min(len(source), LONGEST_SOURCE))
+    return output[: numbers[4]] if numbers[0] == 0 else Refusal(*numbers[:4])
+
+
+def read(source: bytes, setting: int = 0) -> Union[Tree, Refusal]:
+    """The tree of a source under a setting, or why it has none."""
+    read_image = image(source, setting)
+    return read_image if isinstance(read_image, Refusal) else tree_of(read_image)
+
+
+def _parts(payload: bytes, layout: str) -> dict[str, Any]:
+    parts: dict[str, Any] = {}
+    at = 0
+
+    def number() -> int:
+        nonlocal at
+        at += 2
+        return int.from_bytes(payload[at - 2 : at], "big")
+
+    for part in layout.split():
+        name, sort = part.split(":")
+        if sort == "n":
+            parts[name] = number()
+        elif sort == "s":
+            parts[name] = (number(), number())
+        elif sort == "t":
+            parts[name] = payload[at:].decode()
+            at = len(payload)
+        else:
+            parts[name] = bool(payload[at]) if sort == "f" else payload[at]
+            at += 1
+    if at != len(payload):
+        raise ValueError("a payload has another length than its parts")
+    return parts
+
+
+def tree_of(read_image: bytes) -> Tree:
+    """An image as nested objects: each record takes its children off a stack and puts itself there."""
+    stack: list[Tree] = []
+    at = 0
+    while at < len(read_image):
+        tag = read_image[at]
+        end = at + 3 + int.from_bytes(read_image[at + 1 : at + 3], "big")
+        name, layout, children_of = RECORDS[tag]
+        parts = _parts(read_image[at + 3 : end], layout)
+        count = children_of(parts)
+        if count > len(stack):
+            raise ValueError("a record has more children than stand before it")
+        children = stack[len(stack) - count :]
+        del stack[len(stack) - count :]
+        stack.append(Tree(tag, name, parts, children))
+        at = end
+    if len(stack) != 1:
+        raise ValueError("an image has one root")
+    return stack[0]

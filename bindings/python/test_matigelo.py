@@ -1,0 +1,71 @@
+"""Part of the judge's list of answers (vectors/sources.txt), the example of matigelo.py, and trees."""
+import ctypes
+import doctest
+import os
+import unittest
+
+import matigelo
+
+LIST = os.path.join(os.path.dirname(os.path.abspath(__file__)), "..", "..", "vectors", "sources.txt")
+
+
+def unhex(word: str) -> bytes:
+    return b"" if word == "-" else bytes.fromhex(word)
+
+
+class Answers(unittest.TestCase):
+    def test_list(self) -> None:
+        seen = trees = 0
+        with open(LIST) as lines:
+            # every fourth line, so that this stays quick; the gate replays all of them
+            for line in list(lines)[::4]:
+                words = line.split()
+                numbers, output = matigelo.answer(unhex(words[2]), int(words[0]), int(words[1]))
+                self.assertEqual(list(numbers), [int(w) for w in words[3:8]], line[:200])
+                image = unhex(words[8])
+                self.assertEqual(output, image + bytes(int(words[1]) - len(image)), line[:200])
+                if numbers[0] == 0:
+                    # every record has its layout, and the tree has one root
+                    self.assertEqual(sum(1 for _ in matigelo.tree_of(image).walk()) > 0, True)
+                    trees += 1
+                seen += 1
+        self.assertGreater(seen, 1_500)
+        self.assertGreater(trees, 500)
+
+    def test_null_with_length_0(self) -> None:
+        numbers = (ctypes.c_uint64 * 5)()
+        matigelo._LIBRARY.matigelo_read(0, None, 0, None, 0, ctypes.byref(numbers))
+        self.assertEqual(list(numbers), [7, 0, 0, 0, 0])
+        matigelo._LIBRARY.matigelo_read(0, b"1", 1, None, 0, ctypes.byref(numbers))
+        self.assertEqual(list(numbers), [12, 0, 0, 0, 4])
+
+    def test_numbers(self) -> None:
+        self.assertEqual(matigelo.read(b"1 2"), matigelo.Refusal(5, 2, 3, 1))
+        self.assertEqual(matigelo.read(b"1", setting=16), matigelo.Refusal(1, 0, 0, 0))
+        self.assertEqual(matigelo.read(b" " * 65_001), matigelo.Refusal(2, 0, 0, 0))
+        self.assertEqual(str(matigelo.read(b"")), "7: an expression is wanted, at bytes 0 to 0")
+
+    def test_tree(self) -> None:
+        tree = matigelo.read(b"{bays: [1, 2], level:: |||\n  low\n|||}")
+        self.assertEqual(tree.name, "object")
+        bays, level = tree.children
+        self.assertEqual((level.parts["visibility"], level.parts["span"]), (1, (15, 20)))
+        self.assertEqual([t.parts["text"] for t in level.children], ["level", "low\n"])
+        self.assertEqual([t.name for t in bays.children[1].children], ["number", "number"])
+
+    def test_deep(self) -> None:
+        tree = matigelo.read(b"a" + b".b" * 32_499)
+        self.assertEqual(max(depth for depth, _ in tree.walk()), 32_499)
+
+    def test_a_larger_setting(self) -> None:
+        self.assertIsInstance(matigelo.read(b"a?.b"), matigelo.Refusal)
+        self.assertTrue(matigelo.read(b"a?.b", matigelo.EXP_NULL_COAELSE).parts["null_safe"])
+
+
+def load_tests(_loader: object, tests: unittest.TestSuite, _pattern: object) -> unittest.TestSuite:
+    tests.addTests(doctest.DocTestSuite(matigelo))
+    return tests
+
+
+if __name__ == "__main__":
+    unittest.main()
