@@ -116,7 +116,13 @@ impl fmt::Display for Refusal {
         match self.why {
             Why::Setting | Why::Long => f.write_str(self.why.words()),
             Why::Room => write!(f, "{}: {} bytes are needed", self.why.words(), self.needed),
-            _ => write!(f, "{}, at bytes {} to {}", self.why.words(), self.place.start, self.place.end),
+            _ => write!(
+                f,
+                "{}, at bytes {} to {}",
+                self.why.words(),
+                self.place.start,
+                self.place.end
+            ),
         }
     }
 }
@@ -143,7 +149,9 @@ pub fn read<'o>(setting: u64, source: &[u8], output: &'o mut [u8]) -> Result<&'o
     if number == 0 {
         return Ok(&output[..length as usize]);
     }
-    let why = Why::of(number).unwrap_or_else(|| panic!("the linked library gives number {number}, which this crate does not know"));
+    let why = Why::of(number).unwrap_or_else(|| {
+        panic!("the linked library gives number {number}, which this crate does not know")
+    });
     Err(Refusal { why, place: start as usize..end as usize, detail, needed: length as usize })
 }
 

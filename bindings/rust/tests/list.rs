@@ -30,7 +30,13 @@ fn answers_are_the_judges() {
                 image.len()
             }
             Err(r) => {
-                let told = [r.why.number(), r.place.start as u64, r.place.end as u64, r.detail, r.needed as u64];
+                let told = [
+                    r.why.number(),
+                    r.place.start as u64,
+                    r.place.end as u64,
+                    r.detail,
+                    r.needed as u64,
+                ];
                 assert_eq!(told[..], numbers[..], "{line}");
                 0
             }
@@ -54,13 +60,20 @@ fn nothing_in_and_no_room() {
 fn a_refusal_is_an_error() {
     let refusal: Box<dyn Error> = Box::new(read_to_vec(16, b"1").unwrap_err());
     assert_eq!(refusal.to_string(), "the setting is above 15");
-    assert_eq!(read_to_vec(0, b"1 2").unwrap_err().to_string(), "another kind of lexeme is wanted, at bytes 2 to 3");
+    assert_eq!(
+        read_to_vec(0, b"1 2").unwrap_err().to_string(),
+        "another kind of lexeme is wanted, at bytes 2 to 3"
+    );
 }
 
 #[test]
 fn several_threads_at_once() {
     let readers: Vec<_> = (0..4)
-        .map(|i| std::thread::spawn(move || (0..200).all(|_| read_to_vec(0, format!("[{i}, a.b(c)]").as_bytes()).is_ok())))
+        .map(|i| {
+            std::thread::spawn(move || {
+                (0..200).all(|_| read_to_vec(0, format!("[{i}, a.b(c)]").as_bytes()).is_ok())
+            })
+        })
         .collect();
     assert!(readers.into_iter().all(|r| r.join().unwrap()));
 }
