@@ -17,7 +17,7 @@ mod source {
 
 pub use image::Refusal;
 pub use ir::*;
-pub use parser::{ParseError, ParserSettings, parse, string_to_expr};
+pub use parser::{ParseError, ParserSettings, bad_escape, parse, string_to_expr};
 
 /// The power of prefix operators by the published rule: above every binary operator's.
 const PUBLISHED: u8 = 22;

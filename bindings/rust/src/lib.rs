@@ -105,7 +105,7 @@ pub struct Refusal {
     pub why: Why,
     /// Bytes of the source, counted from 0; empty at 0 where there is no place to tell.
     pub place: Range<usize>,
-    /// What the README's table has for the number: a kind, or which of several faults; 0 where it has none.
+    /// What the README's table has for the number: a kind, which of several faults, or where a bad escape begins; 0 where it has none.
     pub detail: u64,
     /// For `Why::Room` the length of output that is needed, else 0.
     pub needed: usize,

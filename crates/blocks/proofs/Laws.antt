@@ -7,10 +7,9 @@ use mathlib.Core.Logic.{⊎-elim}
 use Prim.Native.Nat.{ℕ, _+_, _-_, _≤_}
 use native.Mathlib.Omega.{arith}
 use lib.ListN.{length, drop, length-append, length-drop}
-use lib.Seq.{sets}
 use Rattle.strings.specs.declared.Decoded.{Decoded}
-use Rattle.strings.specs.declared.Decoded.the-variants.{Text, Refused}
-use Rattle.strings.specs.Decoding.{Decoding, refused}
+use Rattle.strings.specs.Decoding.{Decoding, Missing, missing}
+use Rattle.strings.proofs.DecodingLaws.{missing-once}
 use Rattle.blocks.specs.declared.Block.{Block}
 use Rattle.blocks.specs.declared.Block.the-variants.{Good, UnexpectedEnd, MissingNewLine, MissingTermination, MissingIndent}
 use Rattle.blocks.specs.Blocks.{Run, stop, more, HeaderBlank, InLine, Dash, there, header, Indent, first, Lines, empty, content, Other, Found, good, unexpected-end, missing-new-line, missing-indent, missing-termination, closed, another, Body, indented, Stands, after-header, joined, text, BlockText, means, ends, BlockAt, a-good, an-unexpected-end, a-missing-new-line, a-missing-indent, a-missing-termination}
@@ -83,9 +82,9 @@ text-is-good (means h b) d =
     let x = take-apart d in
     (x .end, x .same ∙ ap (λ (f : Found). answer f (x .end)) (stands-once (x .stands) (after-header h b) .0))
 
--- The reason why number 10 does not occur: the decoder's contract is never met by a refusal.
-pub never-refused : {s out out₁ : List ℕ} {at e : ℕ} → BlockAt s at (Good e) → Decoding (BlockText (drop at s)) out Refused out₁ → ⊥
-never-refused d (refused h) = h _ (good-decodes d .1)
+-- The reason why number 10 does not occur: the fault of the decoder's contract is none of a good block.
+pub never-refused : {s : List ℕ} {at e n : ℕ} → BlockAt s at (Good e) → Missing (BlockText (drop at s)) n → ⊥
+never-refused d (missing h) = h _ (good-decodes d .1)
 
 pub text-once : {s t t′ : List ℕ} → BlockText s t → BlockText s t′ → t ≡ t′
 text-once (means {dash = d} {lines = ls} h b) (means {r = r} {dash = e} {lines = ms} g c) =
@@ -95,13 +94,9 @@ text-once (means {dash = d} {lines = ls} h b) (means {r = r} {dash = e} {lines =
 
 -- The decoder's answer and every byte that it leaves are determined.
 pub decoded-once :
-    {s out o o′ : List ℕ} {a a′ : Decoded} → Decoding (BlockText s) out a o → Decoding (BlockText s) out a′ o′ → (a ≡ a′) × (o ≡ o′)
-decoded-once {out = out} (Decoding.text m) (Decoding.text n) =
-    let e = text-once m n in
-    (ap (λ (t : List ℕ). Text (length t)) e, ap (sets out 0) e)
-decoded-once (Decoding.text m) (refused h) = absurd (h _ m)
-decoded-once (refused h) (Decoding.text m) = absurd (h _ m)
-decoded-once (refused h) (refused g) = (refl, refl)
+    {s out o o′ : List ℕ} {a a′ : Decoded} → Decoding (BlockText s) (Missing (BlockText s)) out a o → Decoding (BlockText s) (Missing (BlockText s)) out a′ o′ →
+    (a ≡ a′) × (o ≡ o′)
+decoded-once = missing-once (λ t u m n. text-once m n)
 
 -- A good block has a line: its first line that is not empty.
 no-lines : {s line i : List ℕ} → Indent s line i → (i ≡ [] → ⊥) → Other i s → ⊥

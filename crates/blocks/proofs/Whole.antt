@@ -9,7 +9,7 @@ use lib.Dec.{ltb}
 use lib.ListN.{length, getD, drop, length-drop, drop-of-length-le}
 use lib.Seq.{slice, slice-empty}
 use Rattle.strings.specs.declared.Decoded.the-variants.{Text}
-use Rattle.strings.specs.Decoding.{Decoding}
+use Rattle.strings.specs.Decoding.{Decoding, Missing}
 use Rattle.blocks.specs.declared.Block.{Block}
 use Rattle.blocks.specs.declared.Block.the-variants.{Good, UnexpectedEnd, MissingNewLine, MissingTermination, MissingIndent}
 use Rattle.blocks.specs.Blocks.{Run, unexpected-end, LineFeed, HeaderBlank, Blank, Dash, Header, header, Indent, first, no-indent, Stands, no-line, no-new-line, after-header, BlockText, means, ends, BlockAt, a-good, an-unexpected-end, a-missing-new-line, a-missing-indent, a-missing-termination}
@@ -73,7 +73,7 @@ module _ {s : List ℕ} {at : ℕ} where
   walked-block (a-text d m) = d
   walked-block (no-text d h) = d
 
-  pub walked-good : {out : List ℕ} {b : Block} {e n : ℕ} {out₁ : List ℕ} → Walked s at out b n out₁ → b ≡ Good e → Decoding (BlockText (drop at s)) out (Text n) out₁
+  pub walked-good : {out : List ℕ} {b : Block} {e n : ℕ} {out₁ : List ℕ} → Walked s at out b n out₁ → b ≡ Good e → Decoding (BlockText (drop at s)) (Missing (BlockText (drop at s))) out (Text n) out₁
   walked-good (a-text d m) h = Decoding.text m
   walked-good (no-text d g) h = absurd (g _ (good-decodes (subst (BlockAt s at) h d) .1))
 

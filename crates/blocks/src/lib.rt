@@ -3,7 +3,7 @@ ghost use mathlib.Core.Path.{_≡_};
 ghost use Prim.Native.Nat.{_+_, _-_, _≤_, _<_};
 ghost use lib.ListN.{length, drop};
 ghost use lib.Seq.{sets, slice};
-ghost use Rattle.strings.specs.Decoding.{Decoding};
+ghost use Rattle.strings.specs.Decoding.{Decoding, Missing};
 ghost use Rattle.blocks.specs.Blocks.{LineFeed, HeaderBlank, Blank, InLine, BlockAt, BlockText};
 ghost use Rattle.blocks.specs.Inside.{Says, Spans, Dashed, SoughtTo, BarsAt, StartsAt, ClosedAt, BodyAt, Walked};
 use strings::Decoded;
@@ -311,13 +311,13 @@ pub fn block_at(source: &[u8], at: usize) -> Block
 
 // The text of the block from `at` on, the place after `|||`, into a lent part.
 pub fn block_text(source: &[u8], at: usize, out: &mut [u8]) -> Decoded
-    ensures { λ r. ⌜ Decoding (BlockText (drop at (now (source .entry)))) (now (out .entry)) r (now (out .exit)) ⌝ }
+    ensures { λ r. ⌜ Decoding (BlockText (drop at (now (source .entry)))) (Missing (BlockText (drop at (now (source .entry))))) (now (out .entry)) r (now (out .exit)) ⌝ }
 {
     let walk = lex_str_block(source, at, out);
     let block = walk.block;
     let Block::Good(_) = block else {
         strings::clear(out);
-        return Decoded::Refused;
+        return Decoded::Refused(0);
     };
     Decoded::Text(walk.text)
 }

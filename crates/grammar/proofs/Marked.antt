@@ -28,16 +28,17 @@ use Rattle.lexemes.proofs.Munch.{Lexed, all, lex, lexed, munch, munched-ruled}
 use Rattle.lexemes.specs.Texts.{plain}
 use Rattle.grammar.specs.Trees.{Trees, none, _⊕_, count}
 use Rattle.grammar.specs.Image.{image, entry, payload}
-use Rattle.grammar.specs.Lexemes.{Said, says, nothing, good, said, Lexeme}
+use Rattle.grammar.specs.Lexemes.{Said, says, nothing, good, said, spoiled-at, Lexeme}
 use Rattle.grammar.specs.Productions.{rule, source, with-field, with-assert, with-member}
 use Rattle.grammar.specs.Reading.{has, published, choose, view, production, Outcome, done, broken}
-use Rattle.grammar.specs.Says.{Says, its-text, no-text, Told}
+use Rattle.grammar.specs.Says.{Says, its-text, its-escape, no-text, Told}
 use Rattle.grammar.specs.Says as says-of
 use Rattle.grammar.specs.Answer.{Verdict, refused, tree, verdict, Judged, read, bad-lexeme, valid-setting, prefix-power, document-01}
 use Rattle.grammar.specs.Source.{Bad, bad, Kept, kept}
 use Rattle.grammar.proofs.Chosen.{holds, and-left, and-right}
 use Rattle.grammar.proofs.Execute.{run, after, sound}
-use Rattle.grammar.proofs.Source.{no-meaning, double-back}
+use Rattle.grammar.proofs.Source.{no-meaning}
+use Rattle.grammar.proofs.SaysLaws.{no-spoils}
 
 -- ---- what is computed of a source
 
@@ -96,6 +97,7 @@ word-says s k a e h = by (eqb k IDENT) refl (eqb k FLOAT) refl
         no-text
         (no-meaning s a e k (eqb-false k IDENT q) (eqb-false k FLOAT r) (not-eqb k STRING-DOUBLE (and-left A (B && (C && (D && E))) h)) (not-eqb k STRING-SINGLE (and-left B (C && (D && E)) h₁))
         (not-eqb k STRING-DOUBLE-VERBATIM (and-left C (D && E) h₂)) (not-eqb k STRING-SINGLE-VERBATIM (and-left D E h₃)) (not-eqb k STRING-BLOCK (and-right D E h₃)))
+        (no-spoils (not-eqb k STRING-DOUBLE (and-left A (B && (C && (D && E))) h)) (not-eqb k STRING-SINGLE (and-left B (C && (D && E)) h₁)))
 
 unfoldable pub words : List ℕ → List Range → List Lexeme
 words s [] = []
@@ -161,8 +163,8 @@ marked =
     reads 0 (0x22 ∷ 0x5C ∷ 0x78 ∷ 0x34 ∷ 0x31 ∷ 0x22 ∷ []) (0x05 ∷ 0x00 ∷ 0x02 ∷ 0xD0 ∷ 0x81 ∷ []) ∷
     -- 6. `"\uD83D\uDE00"`: F0 9F 98 80
     reads 0 (0x22 ∷ 0x5C ∷ 0x75 ∷ 0x44 ∷ 0x38 ∷ 0x33 ∷ 0x44 ∷ 0x5C ∷ 0x75 ∷ 0x44 ∷ 0x45 ∷ 0x30 ∷ 0x30 ∷ 0x22 ∷ []) (0x05 ∷ 0x00 ∷ 0x04 ∷ 0xF0 ∷ 0x9F ∷ 0x98 ∷ 0x80 ∷ []) ∷
-    -- 7. `"\uD800x"`: 9 at 0,9
-    refuses 0 (0x22 ∷ 0x5C ∷ 0x75 ∷ 0x44 ∷ 0x38 ∷ 0x30 ∷ 0x30 ∷ 0x78 ∷ 0x22 ∷ []) 9 0 9 0 ∷
+    -- 7. `"\uD800x"`: 9 at 0,9, detail 1: the high half's backslash
+    refuses 0 (0x22 ∷ 0x5C ∷ 0x75 ∷ 0x44 ∷ 0x38 ∷ 0x30 ∷ 0x30 ∷ 0x78 ∷ 0x22 ∷ []) 9 0 9 1 ∷
     -- 8. `|||-`, LF, two spaces `mass`, LF, two spaces `depth`, LF, `|||`: `mass` LF `depth`
     reads 0 (0x7C ∷ 0x7C ∷ 0x7C ∷ 0x2D ∷ 0x0A ∷ 0x20 ∷ 0x20 ∷ 0x6D ∷ 0x61 ∷ 0x73 ∷ 0x73 ∷ 0x0A ∷ 0x20 ∷ 0x20 ∷ 0x64 ∷ 0x65 ∷ 0x70 ∷ 0x74 ∷ 0x68 ∷ 0x0A ∷ 0x7C ∷ 0x7C ∷ 0x7C ∷ []) (0x05 ∷ 0x00 ∷ 0x0A ∷ 0x6D ∷ 0x61 ∷ 0x73 ∷ 0x73 ∷ 0x0A ∷ 0x64 ∷ 0x65 ∷ 0x70 ∷ 0x74 ∷ 0x68 ∷ []) ∷
     -- 9. `f(a=1, 2)`: 8 at 7,8, detail 1
@@ -199,5 +201,5 @@ block-lexemes =
     (lexemes.Lexemes.none (leb→le 23 23 tt))
 
 pub marked-readings : All marked
-unfolding marked parens block-source lex rules firstBad keep lexemes.bad lexemes.dropped no-strings no-string words word-at plain low run after prefix-power published production choose rule view has _⊕_ count with-field with-assert with-member good said image entry payload verdict
-marked-readings = (plainly 0 _ _ _ tt tt tt refl refl tt refl, ((_, plainly 0 _ _ _ tt tt tt refl refl tt refl, refl), (plainly 0 _ _ _ tt tt tt refl refl tt refl, ((_, plainly 0 _ _ _ tt tt tt refl refl tt refl, refl), ((_, judge 0 _ _ _ _ tt tt tt (lexed _ 500 0 _ refl) refl (Told.more (its-text (says-of.Means.double marked-reading-5)) Told.none) refl, refl), ((_, judge 0 _ _ _ _ tt tt tt (lexed _ 500 0 _ refl) refl (Told.more (its-text (says-of.Means.double marked-reading-6)) Told.none) refl, refl), (judge 0 _ _ _ _ tt tt tt (lexed _ 500 0 _ refl) refl (Told.more (no-text (λ w m. marked-reading-7 w (double-back _ 0 9 w m))) Told.none) refl, ((_, judge 0 block-source _ _ _ tt tt tt block-lexemes refl (Told.more (its-text (says-of.Means.block (marked-reading-8 .1))) Told.none) refl, refl), (plainly 0 _ _ _ tt tt tt refl refl tt refl, (bad-lexeme refl (leb→le 17 65000 tt) (low-utf8 _ tt) (bad (eqb-false 39 EOF refl) (record { lexemes = _; all = lexed (ascii "if a then 1else 2") 500 0 _ refl; is-first = refl })), (plainly 0 _ _ _ tt tt tt refl refl tt refl, (plainly 0 _ _ _ tt tt tt refl refl tt refl, (plainly 1 _ _ _ tt tt tt refl refl tt refl, ((_, plainly 2 _ _ _ tt tt tt refl refl tt refl, refl), ((_, plainly 0 _ _ _ tt tt tt refl refl tt refl, refl), (plainly 0 _ _ _ tt tt tt refl refl tt refl, ((_, plainly 0 _ _ _ tt tt tt refl refl tt refl, refl), (plainly 0 _ _ _ tt tt tt refl refl tt refl, ((_, plainly 0 _ _ _ tt tt tt refl refl tt refl, refl), ((_, plainly 0 _ _ _ tt tt tt refl refl tt refl, refl), tt))))))))))))))))))))
+unfolding marked parens block-source lex rules firstBad keep lexemes.bad lexemes.dropped no-strings no-string words word-at plain low run after prefix-power published production choose rule view has _⊕_ count with-field with-assert with-member good said spoiled-at image entry payload verdict
+marked-readings = (plainly 0 _ _ _ tt tt tt refl refl tt refl, ((_, plainly 0 _ _ _ tt tt tt refl refl tt refl, refl), (plainly 0 _ _ _ tt tt tt refl refl tt refl, ((_, plainly 0 _ _ _ tt tt tt refl refl tt refl, refl), ((_, judge 0 _ _ _ _ tt tt tt (lexed _ 500 0 _ refl) refl (Told.more (its-text (says-of.Means.double marked-reading-5)) Told.none) refl, refl), ((_, judge 0 _ _ _ _ tt tt tt (lexed _ 500 0 _ refl) refl (Told.more (its-text (says-of.Means.double marked-reading-6)) Told.none) refl, refl), (judge 0 _ _ _ _ tt tt tt (lexed _ 500 0 _ refl) refl (Told.more (its-escape (says-of.in-double marked-reading-7)) Told.none) refl, ((_, judge 0 block-source _ _ _ tt tt tt block-lexemes refl (Told.more (its-text (says-of.Means.block (marked-reading-8 .1))) Told.none) refl, refl), (plainly 0 _ _ _ tt tt tt refl refl tt refl, (bad-lexeme refl (leb→le 17 65000 tt) (low-utf8 _ tt) (bad (eqb-false 39 EOF refl) (record { lexemes = _; all = lexed (ascii "if a then 1else 2") 500 0 _ refl; is-first = refl })), (plainly 0 _ _ _ tt tt tt refl refl tt refl, (plainly 0 _ _ _ tt tt tt refl refl tt refl, (plainly 1 _ _ _ tt tt tt refl refl tt refl, ((_, plainly 2 _ _ _ tt tt tt refl refl tt refl, refl), ((_, plainly 0 _ _ _ tt tt tt refl refl tt refl, refl), (plainly 0 _ _ _ tt tt tt refl refl tt refl, ((_, plainly 0 _ _ _ tt tt tt refl refl tt refl, refl), (plainly 0 _ _ _ tt tt tt refl refl tt refl, ((_, plainly 0 _ _ _ tt tt tt refl refl tt refl, refl), ((_, plainly 0 _ _ _ tt tt tt refl refl tt refl, refl), tt))))))))))))))))))))

@@ -19,7 +19,7 @@ use Rattle.lexemes.proofs.KeptLaws.{Rest, kept-step}
 use Rattle.lexemes.proofs.TextLaws.{ident-is-identifier, float-is-numeral, double-decodes-utf8, single-decodes-utf8, double-verbatim-decodes-utf8}
 use Rattle.lexemes.proofs.TextLaws.{single-verbatim-decodes-utf8, block-decodes-utf8}
 use Rattle.grammar.specs.Lexemes.{Said, says, nothing, said, Lexeme, rest, kind-of, word-of}
-use Rattle.grammar.specs.Says.{Means, name, number, double, single, double-verbatim, single-verbatim, block, Says, its-text, no-text, Told}
+use Rattle.grammar.specs.Says.{Means, name, number, double, single, double-verbatim, single-verbatim, block, in-double, in-single, Says, its-text, its-escape, no-text, Told}
 use Rattle.grammar.specs.Source.{Kept, kept}
 use Rattle.grammar.specs.Spells as spells
 use Rattle.grammar.specs.Words.{NameText, Possible, Worded}
@@ -130,6 +130,7 @@ unfolding said
 a-text (Possible.name n) = name-utf8 n
 a-text (Possible.numeral n) = numeral-utf8 n
 a-text (Possible.string q u) = u
+a-text (Possible.spoiled q) = Utf8.none
 a-text (Possible.silent n m) = Utf8.none
 
 pub a-name : {k : ℕ} {v : Said} → Possible k v → T (eqb k IDENT) → NameText (said v)
@@ -137,6 +138,7 @@ unfolding said
 a-name (Possible.name n) t = n
 a-name (Possible.numeral n) t = absurd t
 a-name (Possible.string {k} q u) t = absurd (not-either (eqb k IDENT) (eqb k FLOAT) (literal-wordless q) .0 t)
+a-name (Possible.spoiled {k} q) t = absurd (not-either (eqb k IDENT) (eqb k FLOAT) (literal-wordless q) .0 t)
 a-name (Possible.silent {k} n m) t = absurd (n (eqb→eq k IDENT t))
 
 pub a-numeral : {k : ℕ} {v : Said} → Possible k v → T (eqb k FLOAT) → Numeral (said v)
@@ -144,6 +146,7 @@ unfolding said
 a-numeral (Possible.name n) t = absurd t
 a-numeral (Possible.numeral n) t = n
 a-numeral (Possible.string {k} q u) t = absurd (not-either (eqb k IDENT) (eqb k FLOAT) (literal-wordless q) .1 t)
+a-numeral (Possible.spoiled {k} q) t = absurd (not-either (eqb k IDENT) (eqb k FLOAT) (literal-wordless q) .1 t)
 a-numeral (Possible.silent {k} n m) t = absurd (m (eqb→eq k FLOAT t))
 
 -- The next lexeme, and those after it; with none left it is EOF, which says nothing.
@@ -189,7 +192,9 @@ module _ {s : List ℕ} (u : Utf8 s) where
 
   possible : {k a e : ℕ} {v : Said} → a < length s → LexemeAt s a (record { kind = k; start = a; end = e }) → Says s k a e v → Possible k v
   possible h d (its-text m) = meant h d m
-  possible {k} {a} {e} h d (no-text n) =
+  possible h d (its-escape (in-double x)) = Possible.spoiled spells.Quoted.double
+  possible h d (its-escape (in-single x)) = Possible.spoiled spells.Quoted.single
+  possible {k} {a} {e} h d (no-text n m) =
       Possible.silent (λ q. n (slice a e s) (subst (λ (j : ℕ). Means s j a e (slice a e s)) (sym q) name))
       (λ q. n (plain (slice a e s)) (subst (λ (j : ℕ). Means s j a e (plain (slice a e s))) (sym q) number))
 

@@ -25,7 +25,7 @@ use Rattle.grammar.specs.Image.{image}
 use Rattle.grammar.specs.Records.{Sort, Is, Spans, Obeys}
 use Rattle.grammar.specs.Lexemes.{Said, said, Lexeme, Ranged}
 use Rattle.grammar.specs.Reading.{Reads, done}
-use Rattle.grammar.specs.Says.{Means, name, number, double, single, double-verbatim, single-verbatim, block, Says, its-text, no-text, Told}
+use Rattle.grammar.specs.Says.{Means, name, number, double, single, double-verbatim, single-verbatim, block, Says, its-text, its-escape, no-text, Told}
 use Rattle.grammar.specs.Source.{Kept, kept}
 use Rattle.grammar.proofs.Possible.{kept-worded}
 use Rattle.grammar.proofs.Obeys.{obeys}
@@ -53,7 +53,8 @@ means-short {s} {k} {a} {e} h g b (block m) = omega (arith, text-short (b refl) 
 says-short : {s : List ℕ} {k a e : ℕ} {w : Said} → a < e → e ≤ length s → (k ≡ STRING-BLOCK → BlockAt s (a + 3) (Good e)) → Says s k a e w → length (said w) ≤ e - a
 unfolding said
 says-short h g b (its-text m) = means-short h g b m
-says-short h g b (no-text m) = omega arith
+says-short h g b (its-escape x) = omega arith
+says-short h g b (no-text m n) = omega arith
 
 ranged : {s : List ℕ} {at : ℕ} {ranges : List Range} {xs : List Lexeme} → at ≤ length s → lexemes.Kept s at ranges → Told s ranges xs → Ranged (length s) at xs
 ranged h k Told.none = Ranged.none h

@@ -11,8 +11,8 @@ use lib.Dec.{T}
 use lib.ListN.{length, drop}
 use lib.Seq.{slice}
 use Rattle.strings.specs.Utf8.{Utf8}
-use Rattle.strings.specs.Literals.{Quoted}
-use Rattle.strings.proofs.Always.{Decided, valid-always, quoted-or-not}
+use Rattle.strings.specs.Literals.{Quoted, BadEscape}
+use Rattle.strings.proofs.Always.{valid-always, TextOrBadEscape, text-or-bad-escape}
 use Rattle.strings.proofs.LiteralLaws.{verbatim-always}
 use Rattle.blocks.specs.Blocks.{BlockAt, BlockText}
 use Rattle.blocks.specs.declared.Block.{Block}
@@ -26,30 +26,24 @@ use Rattle.lexemes.specs.Kept.{FirstBad, firstBad, oneOf}
 use Rattle.lexemes.specs.Kept as lexemes
 use Rattle.lexemes.proofs.KeptLaws.{lexemes-always, kept-always, kept-once, first-bad-once}
 use Rattle.grammar.specs.Numbers.{fits}
-use Rattle.grammar.specs.Lexemes.{Said, says, nothing, Lexeme}
-use Rattle.grammar.specs.Says.{Means, name, number, double, single, double-verbatim, single-verbatim, block, Says, its-text, no-text, Told}
+use Rattle.grammar.specs.Lexemes.{Said, says, spoiled, nothing, Lexeme}
+use Rattle.grammar.specs.Says.{Means, name, number, double, single, double-verbatim, single-verbatim, block, Spoils, in-double, in-single, Says, its-text, its-escape, no-text, Told}
 use Rattle.grammar.specs.Answer.{Answer, Answers, valid-setting, prefix-power, document-01}
 use Rattle.grammar.specs.Source.{Bad, bad, Kept, kept, Reads01}
-use Rattle.grammar.proofs.SaysLaws.{told-once}
+use Rattle.grammar.proofs.SaysLaws.{told-once, no-spoils}
 use Rattle.grammar.specs.Settings.{_⊑_}
 use Rattle.grammar.proofs.Whole.{Lexing, answers-once, answers-always, answers-fit, Accepted, larger, Fifth, smaller}
 
 -- ---- every lexeme says something or nothing
 
 module _ (s : List ℕ) (a e : ℕ) where
-  quoted-says : (k : ℕ) → ((w : List ℕ) → Quoted (slice (a + 1) (e - 1) s) w → Means s k a e w) → ((w : List ℕ) → Means s k a e w → Quoted (slice (a + 1) (e - 1) s) w)
+  quoted-says : (k : ℕ) → ((w : List ℕ) → Quoted (slice (a + 1) (e - 1) s) w → Means s k a e w) → ((n : ℕ) → BadEscape (slice (a + 1) (e - 1) s) n → Spoils s k a e n)
       → (w : Said) × Says s k a e w
-  quoted-says k to from = by (quoted-or-not (slice (a + 1) (e - 1) s))
+  quoted-says k text escape = by (text-or-bad-escape (slice (a + 1) (e - 1) s))
     where
-      by : Decided (List ℕ) (Quoted (slice (a + 1) (e - 1) s)) → (w : Said) × Says s k a e w
-      by (inl q) = (says (q .0), its-text (to (q .0) (q .1)))
-      by (inr q) = (nothing, no-text (λ w m. q w (from w m)))
-
-  pub double-back : (w : List ℕ) → Means s STRING-DOUBLE a e w → Quoted (slice (a + 1) (e - 1) s) w
-  double-back w (double q) = q
-
-  single-back : (w : List ℕ) → Means s STRING-SINGLE a e w → Quoted (slice (a + 1) (e - 1) s) w
-  single-back w (single q) = q
+      by : TextOrBadEscape (slice (a + 1) (e - 1) s) → (w : Said) × Says s k a e w
+      by (inl q) = (says (q .0), its-text (text (q .0) (q .1)))
+      by (inr q) = (spoiled (q .0), its-escape (escape (q .0) (q .1)))
 
   block-back : (w : List ℕ) → Means s STRING-BLOCK a e w → BlockText (drop (a + 3) s) w
   block-back w (block q) = q
@@ -58,7 +52,7 @@ module _ (s : List ℕ) (a e : ℕ) where
   block-says = by (block-always s (a + 3))
     where
       not-good : (b : Block) → BlockAt s (a + 3) b → ((n : ℕ) → b ≡ Good n → ⊥) → (w : Said) × Says s STRING-BLOCK a e w
-      not-good b x h = (nothing, no-text (λ w m. let g = text-is-good (block-back w m) x in h (g .0) (g .1)))
+      not-good b x h = (nothing, no-text (λ w m. let g = text-is-good (block-back w m) x in h (g .0) (g .1)) (no-spoils (λ q. omega arith) (λ q. omega arith)))
 
       by : (b : Block) × BlockAt s (a + 3) b → (w : Said) × Says s STRING-BLOCK a e w
       by (Good n, x) = let t = good-decodes x in (says (t .0), its-text (block (t .1)))
@@ -86,12 +80,12 @@ module _ (s : List ℕ) (a e : ℕ) where
           → (w : Said) × Says s k a e w
       by (yes q) f g h i j m = rw q (_, its-text name)
       by (no p) (yes q) g h i j m = rw q (_, its-text number)
-      by (no p) (no f) (yes q) h i j m = rw q (quoted-says STRING-DOUBLE (λ w x. double x) double-back)
-      by (no p) (no f) (no g) (yes q) i j m = rw q (quoted-says STRING-SINGLE (λ w x. single x) single-back)
+      by (no p) (no f) (yes q) h i j m = rw q (quoted-says STRING-DOUBLE (λ w x. double x) (λ n x. in-double x))
+      by (no p) (no f) (no g) (yes q) i j m = rw q (quoted-says STRING-SINGLE (λ w x. single x) (λ n x. in-single x))
       by (no p) (no f) (no g) (no h) (yes q) j m = rw q (_, its-text (double-verbatim (verbatim-always 0x22 (slice (a + 2) (e - 1) s) .1)))
       by (no p) (no f) (no g) (no h) (no i) (yes q) m = rw q (_, its-text (single-verbatim (verbatim-always 0x27 (slice (a + 2) (e - 1) s) .1)))
       by (no p) (no f) (no g) (no h) (no i) (no j) (yes q) = rw q block-says
-      by (no p) (no f) (no g) (no h) (no i) (no j) (no m) = (nothing, no-text (no-meaning k p f g h i j m))
+      by (no p) (no f) (no g) (no h) (no i) (no j) (no m) = (nothing, no-text (no-meaning k p f g h i j m) (no-spoils g h))
 
 pub told-always : (s : List ℕ) (ranges : List Range) → (xs : List Lexeme) × Told s ranges xs
 told-always s [] = ([], Told.none)

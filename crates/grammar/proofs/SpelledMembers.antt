@@ -10,7 +10,7 @@ use Rattle.lexemes.specs.Kinds.{PLUS, L-BRACK, R-BRACK, L-PAREN, R-PAREN, L-BRA
 use Rattle.lexemes.specs.Kinds.{LOCAL-KW, IF-KW, THEN-KW, FUNCTION-KW, IN-KW, ASSERT-KW}
 use Rattle.grammar.specs.Tags.{STRING, ARRAY-COMP, OBJECT-COMP, EXTENSION, BIND, NAME-PATTERN, FIELD, IF-CLAUSE, OBJECT-ITERATION}
 use Rattle.grammar.specs.Trees.{byte, number, span, text, Trees, none, node, tree, _⊕_, count}
-use Rattle.grammar.specs.Lexemes.{Said, says, nothing, good, said, rest, kind-of, word-of}
+use Rattle.grammar.specs.Lexemes.{Said, says, spoiled, nothing, good, said, rest, kind-of, word-of}
 use Rattle.grammar.specs.Productions.{exp-object-iteration, with-field, with-assert, with-member}
 use Rattle.grammar.specs.Reading.{has}
 use Rattle.grammar.specs.Spells.{Lexemes, _is_saying_then_, _is_then_, Perhaps, Colons, Quoted, Open, Spells}
@@ -259,4 +259,5 @@ module _ (R : Rules) where
     where
       by : (v : Said) → T (good v) → v ≡ says (said v)
       by (says w) h = refl
+      by (spoiled n) h = absurd h
       by nothing h = absurd h

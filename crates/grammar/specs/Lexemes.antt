@@ -6,18 +6,27 @@ use Prim.Native.Nat.{ℕ, _-_, _≤_, _<_}
 use lib.ListN.{length}
 use Rattle.lexemes.specs.Kinds.{EOF}
 
--- What a lexeme says: a name, a number without underscores, a text decoded; or it is a literal that has no text.
+-- What a lexeme says: a name, a number without underscores, a text decoded; of a string with a bad escape no text, but how many bytes of its
+-- inside stand before the first; or nothing.
 pub data Said : Type 0 where
   says : List ℕ → Said
+  spoiled : ℕ → Said
   nothing : Said
 
 unfoldable pub good : Said → Bool
 good (says w) = true
+good (spoiled n) = false
 good nothing = false
 
 unfoldable pub said : Said → List ℕ
 said (says w) = w
+said (spoiled n) = []
 said nothing = []
+
+unfoldable pub spoiled-at : Said → ℕ
+spoiled-at (says w) = 0
+spoiled-at (spoiled n) = n
+spoiled-at nothing = 0
 
 -- A kept lexeme: its kind, its range and what it says.
 pub record Lexeme : Type 0 where

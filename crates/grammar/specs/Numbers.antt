@@ -53,9 +53,9 @@ pub data Order : Type 0 where
 pub data Place : Type 0 where
   nowhere point lexeme : Place
 
--- The detail: none; a kind; one of those that 01 numbers.
+-- The detail: none; a kind; one of those that 01 numbers; where in the source a byte stands.
 pub data Detail : Type 0 where
-  nothing kind which : Detail
+  nothing kind which byte : Detail
 
 pub data Row : Type 0 where
   row : ℕ → Order → Place → Detail → Row
@@ -71,7 +71,7 @@ table =
     row ABSENT met lexeme which ∷
     row EXPRESSION met lexeme nothing ∷
     row MISPLACED met lexeme which ∷
-    row ESCAPE met lexeme nothing ∷
+    row ESCAPE met lexeme byte ∷
     row BLOCK met lexeme nothing ∷
     row DEPTH met lexeme nothing ∷
     row ROOM last nowhere nothing ∷
@@ -93,6 +93,7 @@ unfoldable pub detailed : Detail → ℕ → Bool
 detailed nothing x = eqb x 0
 detailed kind x = true
 detailed which x = true
+detailed byte x = true
 
 unfoldable pub sized : Order → ℕ → Bool
 sized first n = eqb n 0

@@ -13,7 +13,7 @@ use Rattle.grammar.specs.Tags.{IDENTITY, NULL, BOOL, NUMBER, STRING, VAR
 use Rattle.grammar.specs.Tags.{NAMED-ARGUMENT, INDEX-PART, FUNCTION, IF, SLICE, BIND, NAME-PATTERN, SKIP, ARRAY-PATTERN, OBJECT-PATTERN, PATTERN-FIELD, PARAMETER, FIELD, ASSERT, FOR, IF-CLAUSE, OBJECT-ITERATION}
 use Rattle.grammar.specs.Numbers.{WANTED, ABSENT, EXPRESSION, MISPLACED, ESCAPE, BLOCK}
 use Rattle.grammar.specs.Trees.{Field, byte, number, span, text}
-use Rattle.grammar.specs.Lexemes.{Said, good, said}
+use Rattle.grammar.specs.Lexemes.{Said, good, said, spoiled-at}
 
 -- ── What a production is made of ──────────────────────────────────────────────────────────────────
 
@@ -303,11 +303,11 @@ rule prefix basic v =
     ∣ v at IMPORT-KW ⟹ eat IMPORT-KW ▸ expression ▸ close IMPORT (byte 0 ∷ here v ∷ []) ▸ end
     ∣ v at IDENT ⟹ leaf VARIABLE (here v ∷ text (word v) ∷ []) ▸ end
     ∣ otherwise (fail EXPRESSION 0)
--- parse_string_content
+-- parse_string_content; 02, Item 3: the detail is where the bad escape's backslash stands in the source, one byte of it being the quote
 rule prefix string v =
     when good (v .says) ⟹ leaf STRING (text (word v) ∷ []) ▸ end
     ∣ v at STRING-BLOCK ⟹ fail BLOCK 0
-    ∣ otherwise (fail ESCAPE 0)
+    ∣ otherwise (fail ESCAPE (v .start + 1 + spoiled-at (v .says)))
 -- expr_basic's arrays, after `[`
 rule prefix array v =
     v at R-BRACK ⟹ eat R-BRACK ▸ close ARRAY (number 0 ∷ []) ▸ end

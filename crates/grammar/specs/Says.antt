@@ -4,12 +4,12 @@ use mathlib.Core.List.{List, [], _∷_}
 use Prim.Native.Nat.{ℕ, _+_, _-_}
 use lib.ListN.{drop}
 use lib.Seq.{slice}
-use Rattle.strings.specs.Literals.{Quoted, Verbatim}
+use Rattle.strings.specs.Literals.{Quoted, BadEscape, Verbatim}
 use Rattle.blocks.specs.Blocks.{BlockText}
 use Rattle.lexemes.specs.declared.Lexeme.{Lexeme as Range}
 use Rattle.lexemes.specs.Kinds.{FLOAT, IDENT, STRING-DOUBLE, STRING-SINGLE, STRING-DOUBLE-VERBATIM, STRING-SINGLE-VERBATIM, STRING-BLOCK}
 use Rattle.lexemes.specs.Texts.{plain}
-use Rattle.grammar.specs.Lexemes.{Said, says, nothing, Lexeme}
+use Rattle.grammar.specs.Lexemes.{Said, says, spoiled, nothing, Lexeme}
 
 -- ident, parse_number, parse_string_content: of the source s, the lexeme of this kind from a to e has this text.
 pub data Means (s : List ℕ) : ℕ → ℕ → ℕ → List ℕ → Type 0 where
@@ -21,10 +21,16 @@ pub data Means (s : List ℕ) : ℕ → ℕ → ℕ → List ℕ → Type 0 wher
   single-verbatim : {a e : ℕ} {w : List ℕ} → Verbatim 0x27 (slice (a + 2) (e - 1) s) w → Means s STRING-SINGLE-VERBATIM a e w
   block : {a e : ℕ} {w : List ℕ} → BlockText (drop (a + 3) s) w → Means s STRING-BLOCK a e w
 
--- What it says: its text, or, where it has none, nothing.
+-- It is a quoted string, whose first bad escape begins behind so many bytes of its inside.
+pub data Spoils (s : List ℕ) : ℕ → ℕ → ℕ → ℕ → Type 0 where
+  in-double : {a e n : ℕ} → BadEscape (slice (a + 1) (e - 1) s) n → Spoils s STRING-DOUBLE a e n
+  in-single : {a e n : ℕ} → BadEscape (slice (a + 1) (e - 1) s) n → Spoils s STRING-SINGLE a e n
+
+-- What it says: its text, or where that is spoiled; with neither, nothing.
 pub data Says (s : List ℕ) (k a e : ℕ) : Said → Type 0 where
   its-text : {w : List ℕ} → Means s k a e w → Says s k a e (says w)
-  no-text : ((w : List ℕ) → Means s k a e w → ⊥) → Says s k a e nothing
+  its-escape : {n : ℕ} → Spoils s k a e n → Says s k a e (spoiled n)
+  no-text : ((w : List ℕ) → Means s k a e w → ⊥) → ((n : ℕ) → Spoils s k a e n → ⊥) → Says s k a e nothing
 
 -- Lexemes of a source, and the same with what they say.
 pub data Told (s : List ℕ) : List Range → List Lexeme → Type 0 where

@@ -14,12 +14,13 @@ pub record NameText (w : List ℕ) : Type 0 where
   pub identifier : Identifier w
   pub no-keyword : Among w keywords → ⊥
 
--- A lexeme of kind k may say v: an identifier its name, a number a numeral without underscores, a string literal a text of UTF-8, or, where
--- it has an escape that is none, nothing; all others nothing.
+-- A lexeme of kind k may say v: an identifier its name, a number a numeral without underscores, a string literal a text of UTF-8, or where
+-- its bad escape is; all but identifiers and numbers nothing.
 pub data Possible : ℕ → Said → Type 0 where
   name : {w : List ℕ} → NameText w → Possible IDENT (says w)
   numeral : {w : List ℕ} → Numeral w → Possible FLOAT (says w)
   string : {k : ℕ} {w : List ℕ} → Quoted k → Utf8 w → Possible k (says w)
+  spoiled : {k n : ℕ} → Quoted k → Possible k (Said.spoiled n)
   silent : {k : ℕ} → (k ≡ IDENT → ⊥) → (k ≡ FLOAT → ⊥) → Possible k nothing
 
 -- Each of these lexemes says what it may.

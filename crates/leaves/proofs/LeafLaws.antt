@@ -10,17 +10,18 @@ use lib.Seq.{slice, length-slice}
 use Rattle.grammar.specs.Trees.{Field, number, span, text}
 use Rattle.grammar.specs.Image.{entry, payload}
 use Rattle.grammar.specs.Lexemes.{Lexeme, Said, says}
-use Rattle.grammar.specs.Says.{Means}
+use Rattle.grammar.specs.Says.{Spoils}
+use Rattle.grammar.specs.Numbers.{ESCAPE}
 use Rattle.grammar.specs.Reading.{choose}
 use Rattle.grammar.specs.Writing.{Wrote}
 use Rattle.grammar.specs.Productions.{Phrase, Body, end, goto, fail, _▸_, eat, leaf, rule, string, object-rest-end, object-pattern-close}
-use Rattle.leaves.specs.Lexing.{Stands, Moved, Past, past, same, Faulty, no-block, no-escape, Quoting, double, single, double-verbatim, single-verbatim, block, Quotes, quotes, none as no-quotes}
+use Rattle.leaves.specs.Lexing.{Stands, Moved, Past, past, same, Quoting, double, single, double-verbatim, single-verbatim, block, Quotes, quotes, none as no-quotes}
 use Rattle.leaves.specs.Meets.{Ready, State, state, Seg, Eats, Leads, power}
 use Rattle.leaves.proofs.LexemeLaws.{lies, sight}
 use Rattle.leaves.proofs.Steps
 use Rattle.leaves.proofs.PartLaws.{lent-short, wrote-lent}
-use Rattle.leaves.proofs.LeafRules.{rest-comma, rest-over, bad-block, bad-string}
-use Rattle.leaves.proofs.TextLaws.{meaningless}
+use Rattle.leaves.proofs.LeafRules.{rest-comma, rest-over, bad-string}
+use Rattle.leaves.proofs.TextLaws.{spoils-kind, spoiling}
 use Rattle.leaves.specs.declared.Cursor.{Cursor}
 use Rattle.leaves.specs.declared.Refusal.{Refusal}
 use Rattle.leaves.specs.declared.Answer.{Answer}
@@ -132,12 +133,11 @@ pub any-size : (k : ℕ) {s : List ℕ} {c : Cursor} → Stands s c → (t : Lis
 unfolding entry payload
 any-size k st t h = omega (arith, h, lies st .from)
 
--- a literal without a text
-pub bad-answer : {g : ℕ} {s : List ℕ} {d n w u m : ℕ} {b : Body} {c : Cursor} {o o₁ : List ℕ} {a : Answer} → Stands s c → 1 < c .kind
-    → ((t : List ℕ) → Means s (c .kind) (c .start) (c .end) t → ⊥) → Faulty c a → Leads g s d (state (goto string) n c w o) u b m a o₁
-bad-answer {g} {n = n} {c = c} st h f (no-block k e) = Steps.broke (Steps.fails st (meaningless (fail 10 0) st k (omega arith) f (λ xs. bad-block g c xs n) Steps.here)) e
-bad-answer {g} {n = n} {c = c} st h f (no-escape k e) =
-    Steps.broke (Steps.fails st (meaningless (fail 9 0) st refl h f (λ xs. bad-string g c xs n (c .kind) k) Steps.here)) e
+-- a literal with a bad escape
+pub bad-answer : {g : ℕ} {s : List ℕ} {d n w u m x : ℕ} {b : Body} {c : Cursor} {o o₁ : List ℕ} {a : Answer} → Stands s c → Spoils s (c .kind) (c .start) (c .end) x
+    → a ≡ Broken (record { number = ESCAPE; place = c; detail = c .start + 1 + x }) → Leads g s d (state (goto string) n c w o) u b m a o₁
+bad-answer {g} {n = n} {x = x} {c = c} st f e =
+    Steps.broke (Steps.fails st (spoiling (fail 9 (c .start + 1 + x)) st f (λ xs. bad-string g c xs n (c .kind) x (spoils-kind f .1)) Steps.here)) e
 
 -- ── Phrases of one lexeme ─────────────────────────────────────────────────────────────────────────
 

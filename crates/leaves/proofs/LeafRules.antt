@@ -8,7 +8,7 @@ use native.Mathlib.Omega.{arith}
 use lib.Dec.{eqb}
 use borrow.Author.Tests.{ne-eqb}
 use Rattle.grammar.specs.Trees.{byte, number, span, text}
-use Rattle.grammar.specs.Lexemes.{Lexeme, Said, says, nothing, good, said}
+use Rattle.grammar.specs.Lexemes.{Lexeme, Said, says, spoiled, good, said, spoiled-at}
 use Rattle.grammar.specs.Productions.{Phrase, Body, end, goto, fail, _▸_, eat, leaf, sub, deep, close, rule, exp-destruct, row, Table, otherwise, _∣_}
 use Rattle.grammar.specs.Productions.{suffix, member-name, call-close, call-end, basic, string, field, field-named, pattern, array-pattern, object-pattern, array-pattern-close, object-pattern-close, object-rest, object-rest-end}
 use Rattle.grammar.specs.Reading.{has, choose}
@@ -114,13 +114,9 @@ module _ (g : ℕ) (c : Cursor) (xs : List Lexeme) (n : ℕ) where
   unfolding choose rule sight has said good
   good-string k w = refl
 
-  pub bad-block : is string 50 nothing ≡ fail 10 0
-  unfolding choose rule sight has good
-  bad-block = refl
-
-  pub bad-string : (k : ℕ) → ¬ (k ≡ 50) → is string k nothing ≡ fail 9 0
-  unfolding choose rule sight has good
-  bad-string k h = simp (ne-eqb k 50 h)
+  pub bad-string : (k m : ℕ) → ¬ (k ≡ 50) → is string k (spoiled m) ≡ fail 9 (c .start + 1 + m)
+  unfolding choose rule sight has good spoiled-at
+  bad-string k m h = simp (ne-eqb k 50 h)
 
   pub basic-string : (k : ℕ) (t : Said) → Quoting k → is basic k t ≡ goto string
   unfolding choose rule sight has

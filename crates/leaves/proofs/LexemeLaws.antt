@@ -120,7 +120,7 @@ name-says {s} {k} {a} {e} {w} q t = go (subst (λ (m : ℕ). Says s m a e w) q t
   where
     go : {w : Said} → Says s 55 a e w → w ≡ says (slice a e s)
     go (its-text name) = refl
-    go (no-text f) = absurd (f (slice a e s) name)
+    go (no-text f g) = absurd (f (slice a e s) name)
 
 -- ── What a production sees ────────────────────────────────────────────────────────────────────────
 

@@ -1,4 +1,4 @@
--- What literals mean: each has one text at most, no longer than the literal, and decoders find it.
+-- What literals mean: each has one text at most, no longer than the literal, or a bad escape in it, and decoders find it.
 -- Assumes nothing.
 use mathlib.Core.Path.{_≡_, refl, sym, ap, subst, subst⁻¹, _∙_}
 use mathlib.Core.Bool.{Bool, true, false, cond}
@@ -11,20 +11,19 @@ use lib.Dec.{eqb}
 use borrow.Author.Tests.{eq-eqb, ne-eqb}
 use lib.ListN.{length, getD, set, take, drop, length-append}
 use lib.Seq.{sets, slice, length-slice, take-suc}
-use denote.Enum.Declared.{tagOf}
-use Rattle.strings.specs.Decoding.{Decoding, text as decoded, refused}
-use Rattle.strings.specs.Literals.{Quoted, Verbatim}
+use Rattle.strings.specs.Decoding.{Decoding, text as decoded, refused, Never, Missing}
+use Rattle.strings.specs.Literals.{Quoted, BadEscape, Verbatim}
 use Rattle.strings.specs.declared.Decoded.{Decoded}
-use Rattle.strings.specs.declared.Decoded.the-variants.{Text}
-use Rattle.strings.proofs.Decoded.{the-type}
-use Rattle.strings.proofs.LiteralLaws.{quoted-short, verbatim-short}
+use Rattle.strings.specs.declared.Decoded.the-variants.{Text, Refused}
+use Rattle.strings.proofs.LiteralLaws.{quoted-short, verbatim-short, bad-escape-within}
 use Rattle.strings.proofs.Stores.{sets-append}
-use Rattle.blocks.specs.Blocks.{BlockText}
-use Rattle.blocks.proofs.Laws.{text-short}
-use Rattle.grammar.specs.Lexemes.{Lexeme, Said, says, nothing}
-use Rattle.grammar.specs.Says.{Says, its-text, no-text, Means, name, number, double, single, double-verbatim, single-verbatim, block}
+use Rattle.blocks.specs.Blocks.{BlockAt, BlockText}
+use Rattle.blocks.specs.declared.Block.the-variants.{Good}
+use Rattle.blocks.proofs.Laws.{text-short, never-refused}
+use Rattle.grammar.specs.Lexemes.{Lexeme, Said, says, spoiled}
+use Rattle.grammar.specs.Says.{Says, its-text, its-escape, Means, name, number, double, single, double-verbatim, single-verbatim, block, Spoils, in-double, in-single}
 use Rattle.lexemes.specs.Texts.{plain}
-use Rattle.grammar.proofs.SaysLaws.{means-once}
+use Rattle.grammar.proofs.SaysLaws.{says-once}
 use Rattle.grammar.specs.Productions.{Phrase, Body, goto, rule}
 use Rattle.grammar.specs.Reading.{choose}
 use Rattle.leaves.specs.Lexing.{Stands, Quoting, double as quoting-double, single as quoting-single, double-verbatim as quoting-double-verbatim, single-verbatim as quoting-single-verbatim, block as quoting-block}
@@ -110,57 +109,47 @@ plainly-takes {xs} {out₀} {i = i} {n} p h e u =
 -- ── Decoders ──────────────────────────────────────────────────────────────────────────────────────
 
 -- a decoder's text
-pub found : {P : List ℕ → Type 0} {out out₁ : List ℕ} {d : Decoded} {n : ℕ} → Decoding P out d out₁ → d ≡ Text n
+pub found : {P : List ℕ → Type 0} {F : ℕ → Type 0} {out out₁ : List ℕ} {d : Decoded} {n : ℕ} → Decoding P F out d out₁ → d ≡ Text n
     → (t : List ℕ) × P t × (n ≡ length t) × (out₁ ≡ sets out 0 t)
 found (decoded {t} m) e = (t, m, cc, refl)
 found (refused f) e = absurd (let z : _≡_ {A = ℕ} 0 1 = cc in omega arith)
 
--- it has none
-pub none-found : {P : List ℕ → Type 0} {out out₁ : List ℕ} {d : Decoded} → Decoding P out d out₁ → tagOf the-type d ≡ 1 → (t : List ℕ) → P t → ⊥
-none-found (decoded m) e = absurd (let z : _≡_ {A = ℕ} 0 1 = e in omega arith)
-none-found (refused f) e = f
+-- or its fault
+pub fault-found : {P : List ℕ → Type 0} {F : ℕ → Type 0} {out out₁ : List ℕ} {d : Decoded} {n : ℕ} → Decoding P F out d out₁ → d ≡ Refused n → F n
+fault-found (decoded m) e = absurd (let z : _≡_ {A = ℕ} 0 1 = cc in omega arith)
+fault-found {F = F} {n = n} (refused {n = m} f) e = let q : m ≡ n = cc in subst F q f
 
--- the same text, said otherwise
-decodes : {P Q : List ℕ → Type 0} {out out₁ : List ℕ} {d : Decoded} → ((t : List ℕ) → P t → Q t) → ((t : List ℕ) → Q t → P t) → Decoding P out d out₁ → Decoding Q out d out₁
+-- the same text or fault, said otherwise
+decodes : {P Q : List ℕ → Type 0} {F G : ℕ → Type 0} {out out₁ : List ℕ} {d : Decoded} → ((t : List ℕ) → P t → Q t) → ((n : ℕ) → F n → G n) → Decoding P F out d out₁
+    → Decoding Q G out d out₁
 decodes f g (decoded {t} m) = decoded (f t m)
-decodes f g (refused h) = refused (λ t m. h t (g t m))
+decodes f g (refused {n} h) = refused (g n h)
 
 -- of a part of the source
-pub decodes-lent : (P : List ℕ → List ℕ → Type 0) (s : List ℕ) (a e : ℕ) {out out₁ : List ℕ} {d : Decoded} → Decoding (P (take (e - a) (drop a s))) out d out₁
-    → Decoding (P (slice a e s)) out d out₁
-decodes-lent P s a e {out} {out₁} {d} h = subst (λ (l : List ℕ). Decoding (P l) out d out₁) (lent a e s) h
+pub decodes-lent : (P : List ℕ → List ℕ → Type 0) (F : List ℕ → ℕ → Type 0) (s : List ℕ) (a e : ℕ) {out out₁ : List ℕ} {d : Decoded}
+    → Decoding (P (take (e - a) (drop a s))) (F (take (e - a) (drop a s))) out d out₁ → Decoding (P (slice a e s)) (F (slice a e s)) out d out₁
+decodes-lent P F s a e {out} {out₁} {d} h = subst (λ (l : List ℕ). Decoding (P l) (F l) out d out₁) (lent a e s) h
 
 -- ── Meanings ──────────────────────────────────────────────────────────────────────────────────────
 
-module _ {s : List ℕ} {a e : ℕ} where
-  un-block : (t : List ℕ) → Means s 50 a e t → BlockText (drop (a + 3) s) t
-  un-block t (block m) = m
+module _ {s : List ℕ} {k a e : ℕ} {out out₁ : List ℕ} {d : Decoded} where
+  kind-is : {j : ℕ} → k ≡ j → Decoding (Means s j a e) (Spoils s j a e) out d out₁ → Decoding (Means s k a e) (Spoils s k a e) out d out₁
+  kind-is q h = subst⁻¹ (λ (i : ℕ). Decoding (Means s i a e) (Spoils s i a e) out d out₁) q h
 
-  un-double : (t : List ℕ) → Means s 41 a e t → Quoted (slice (a + 1) (e - 1) s) t
-  un-double t (double m) = m
+  pub decodes-block : k ≡ 50 → BlockAt s (a + 3) (Good e) → Decoding (BlockText (drop (a + 3) s)) (Missing (BlockText (drop (a + 3) s))) out d out₁
+      → Decoding (Means s k a e) (Spoils s k a e) out d out₁
+  decodes-block q g h = kind-is q (decodes (λ t m. block m) (λ n f. absurd (never-refused g f)) h)
 
-  un-single : (t : List ℕ) → Means s 43 a e t → Quoted (slice (a + 1) (e - 1) s) t
-  un-single t (single m) = m
+  pub decodes-double-verbatim : k ≡ 45 → Decoding (Verbatim 0x22 (slice (a + 2) (e - 1) s)) Never out d out₁ → Decoding (Means s k a e) (Spoils s k a e) out d out₁
+  decodes-double-verbatim q h = kind-is q (decodes (λ t m. double-verbatim m) (λ n f. absurd f) h)
 
-  un-double-verbatim : (t : List ℕ) → Means s 45 a e t → Verbatim 0x22 (slice (a + 2) (e - 1) s) t
-  un-double-verbatim t (double-verbatim m) = m
+  pub decodes-single-verbatim : k ≡ 47 → Decoding (Verbatim 0x27 (slice (a + 2) (e - 1) s)) Never out d out₁ → Decoding (Means s k a e) (Spoils s k a e) out d out₁
+  decodes-single-verbatim q h = kind-is q (decodes (λ t m. single-verbatim m) (λ n f. absurd f) h)
 
-  un-single-verbatim : (t : List ℕ) → Means s 47 a e t → Verbatim 0x27 (slice (a + 2) (e - 1) s) t
-  un-single-verbatim t (single-verbatim m) = m
-
-  module _ {k : ℕ} {out out₁ : List ℕ} {d : Decoded} where
-    pub decodes-block : k ≡ 50 → Decoding (BlockText (drop (a + 3) s)) out d out₁ → Decoding (Means s k a e) out d out₁
-    decodes-block q h = subst⁻¹ (λ (m : ℕ). Decoding (Means s m a e) out d out₁) q (decodes (λ t m. block m) un-block h)
-
-    pub decodes-double-verbatim : k ≡ 45 → Decoding (Verbatim 0x22 (slice (a + 2) (e - 1) s)) out d out₁ → Decoding (Means s k a e) out d out₁
-    decodes-double-verbatim q h = subst⁻¹ (λ (m : ℕ). Decoding (Means s m a e) out d out₁) q (decodes (λ t m. double-verbatim m) un-double-verbatim h)
-
-    pub decodes-single-verbatim : k ≡ 47 → Decoding (Verbatim 0x27 (slice (a + 2) (e - 1) s)) out d out₁ → Decoding (Means s k a e) out d out₁
-    decodes-single-verbatim q h = subst⁻¹ (λ (m : ℕ). Decoding (Means s m a e) out d out₁) q (decodes (λ t m. single-verbatim m) un-single-verbatim h)
-
-    pub decodes-quoted : (k ≡ 41) ⊎ (k ≡ 43) → Decoding (Quoted (slice (a + 1) (e - 1) s)) out d out₁ → Decoding (Means s k a e) out d out₁
-    decodes-quoted (inl q) h = subst⁻¹ (λ (m : ℕ). Decoding (Means s m a e) out d out₁) q (decodes (λ t m. double m) un-double h)
-    decodes-quoted (inr q) h = subst⁻¹ (λ (m : ℕ). Decoding (Means s m a e) out d out₁) q (decodes (λ t m. single m) un-single h)
+  pub decodes-quoted : (k ≡ 41) ⊎ (k ≡ 43) → Decoding (Quoted (slice (a + 1) (e - 1) s)) (BadEscape (slice (a + 1) (e - 1) s)) out d out₁
+      → Decoding (Means s k a e) (Spoils s k a e) out d out₁
+  decodes-quoted (inl q) h = kind-is q (decodes (λ t m. double m) (λ n f. in-double f) h)
+  decodes-quoted (inr q) h = kind-is q (decodes (λ t m. single m) (λ n f. in-single f) h)
 
 -- a quoted literal's kind
 pub plainly-quoted : {k : ℕ} → Quoting k → ¬ (k ≡ 50) → ¬ (k ≡ 45) → ¬ (k ≡ 47) → (k ≡ 41) ⊎ (k ≡ 43)
@@ -192,14 +181,21 @@ means-short {s} {c} st q (double-verbatim p) = let w = lies st .within in omega 
 means-short {s} {c} st q (single-verbatim p) = let w = lies st .within in omega (arith, verbatim-short p, length-slice (c .start + 2) (c .end - 1) s (omega arith))
 means-short {s} {c} st q (block p) = omega (arith, text-short (lies st .block′ q) p)
 
+-- a bad escape is a quoted literal's, and within it
+pub spoils-kind : {s : List ℕ} {k a e n : ℕ} → Spoils s k a e n → (1 < k) × ¬ (k ≡ 50)
+spoils-kind (in-double p) = (omega arith, λ q. omega arith)
+spoils-kind (in-single p) = (omega arith, λ q. omega arith)
+
+pub spoils-within : {s : List ℕ} {k a e n : ℕ} → e ≤ length s → Spoils s k a e n → a + 1 + n < e
+spoils-within {s} {a = a} {e = e} w (in-double p) = omega (arith, bad-escape-within p .0, length-slice (a + 1) (e - 1) s (omega arith))
+spoils-within {s} {a = a} {e = e} w (in-single p) = omega (arith, bad-escape-within p .0, length-slice (a + 1) (e - 1) s (omega arith))
+
 -- what a lexeme says
 pub says-it : {s : List ℕ} {k a e : ℕ} {w : Said} {t : List ℕ} → Says s k a e w → Means s k a e t → w ≡ says t
-says-it (its-text m) n = ap says (means-once m n)
-says-it (no-text f) n = absurd (f _ n)
+says-it x m = says-once x (its-text m)
 
-pub says-nothing : {s : List ℕ} {k a e : ℕ} {w : Said} → Says s k a e w → ((t : List ℕ) → Means s k a e t → ⊥) → w ≡ nothing
-says-nothing (its-text m) f = absurd (f _ m)
-says-nothing (no-text g) f = refl
+pub says-spoiled : {s : List ℕ} {k a e n : ℕ} {w : Said} → Says s k a e w → Spoils s k a e n → w ≡ spoiled n
+says-spoiled x f = says-once x (its-escape f)
 
 module _ {g : ℕ} {s : List ℕ} {d : ℕ} {from : State} {q : Phrase} {n e v w : ℕ} {c : Cursor} {o : List ℕ} where
   -- the next lexeme has this text
@@ -209,7 +205,7 @@ module _ {g : ℕ} {s : List ℕ} {d : ℕ} {from : State} {q : Phrase} {n e v w
       let m′ = subst⁻¹ (λ (j : ℕ). Means s j (c .start) (c .end) t) i m in
       Steps.goes b st (λ xs y. seen (power g) g q n y i (says-it (y .says (λ z. omega (arith, z, i, h))) m′) ∙ f xs) p
 
-  -- and this one has none
-  pub meaningless : (b : Body) {k : ℕ} → Stands s c → c .kind ≡ k → 1 < k → ((t : List ℕ) → Means s (c .kind) (c .start) (c .end) t → ⊥)
-      → ((xs : List Lexeme) → choose g (rule (power g) q (sight c xs n k nothing)) ≡ b) → Seg g s d from e v (state (goto q) n c w o) → Seg g s d from e v (state b n c w o)
-  meaningless b {k} st i h m f p = Steps.goes b st (λ xs y. seen (power g) g q n y i (says-nothing (y .says (λ z. omega (arith, z, i, h))) m) ∙ f xs) p
+  -- and this one has this bad escape
+  pub spoiling : (b : Body) {m : ℕ} → Stands s c → Spoils s (c .kind) (c .start) (c .end) m
+      → ((xs : List Lexeme) → choose g (rule (power g) q (sight c xs n (c .kind) (spoiled m))) ≡ b) → Seg g s d from e v (state (goto q) n c w o) → Seg g s d from e v (state b n c w o)
+  spoiling b st m f p = Steps.goes b st (λ xs y. seen (power g) g q n y refl (says-spoiled (y .says (λ z. omega (arith, z, spoils-kind m .0))) m) ∙ f xs) p

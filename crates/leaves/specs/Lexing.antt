@@ -9,14 +9,11 @@ use Rattle.lexemes.specs.Kept.{NextKept}
 use Rattle.lexemes.specs.Kinds.{EOF, IDENT, ASSIGN, COMMA, L-BRACK, R-BRACK, L-PAREN, L-BRACE, COLON, DOT, QUESTION-MARK, STRING-DOUBLE, STRING-SINGLE, STRING-DOUBLE-VERBATIM, STRING-SINGLE-VERBATIM, STRING-BLOCK}
 use Rattle.lexemes.specs.Kinds.{FOR-KW, LOCAL-KW, IF-KW, FUNCTION-KW, ASSERT-KW, ERROR-KW, IMPORT-KW, IMPORTSTR-KW, IMPORTBIN-KW}
 use Rattle.grammar.specs.Productions.{exp-object-iteration, exp-null-coaelse}
-use Rattle.grammar.specs.Numbers.{ESCAPE, BLOCK}
 use Rattle.grammar.specs.Reading.{has}
 use mathlib.Core.Bool.{Bool, true, false}
 use Rattle.grammar.specs.Lexemes.{Said, Lexeme}
 use Rattle.grammar.specs.Says.{Says}
 use Rattle.leaves.specs.declared.Cursor.{Cursor}
-use Rattle.leaves.specs.declared.Answer.{Answer}
-use Rattle.leaves.specs.declared.Answer.the-variants.{Broken}
 
 -- The kept lexemes of s from p on, as the grammar sees them.
 pub data Left (s : List ℕ) : ℕ → List Lexeme → Type 0 where
@@ -103,8 +100,3 @@ pub data Colons (s : List ℕ) (c : Cursor) : ℕ → Cursor → Type 0 where
 pub data Past (s : List ℕ) (c c₁ : Cursor) : Type 0 where
   past : c .kind ≡ COMMA → Moved s c c₁ → Past s c c₁
   same : (c .kind ≡ COMMA → ⊥) → c₁ ≡ c → Past s c c₁
-
--- What a string without a text is refused as.
-pub data Faulty (c : Cursor) (a : Answer) : Type 0 where
-  no-block : c .kind ≡ STRING-BLOCK → a ≡ Broken (record { number = BLOCK; place = c; detail = 0 }) → Faulty c a
-  no-escape : (c .kind ≡ STRING-BLOCK → ⊥) → a ≡ Broken (record { number = ESCAPE; place = c; detail = 0 }) → Faulty c a

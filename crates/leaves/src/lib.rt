@@ -5,15 +5,15 @@ ghost use mathlib.Core.List.{[], _∷_};
 ghost use Prim.Native.Nat.{_+_, _-_, _≤_, _<_, _^_};
 ghost use lib.ListN.{length};
 ghost use lib.Seq.{sets, slice};
-ghost use Rattle.strings.specs.Decoding.{Decoding};
-ghost use Rattle.strings.specs.Literals.{Quoted, Verbatim};
+ghost use Rattle.strings.specs.Decoding.{Decoding, Never};
+ghost use Rattle.strings.specs.Literals.{Quoted, BadEscape, Verbatim};
 ghost use Rattle.lexemes.specs.Kinds.{L-BRACK, L-BRACE, FLOAT};
 ghost use Rattle.lexemes.specs.Texts.{plain as plainText};
 ghost use Rattle.grammar.specs.Tags.{MEMBERS};
 ghost use Rattle.grammar.specs.Trees.{number, span};
-ghost use Rattle.grammar.specs.Says.{Means};
+ghost use Rattle.grammar.specs.Says.{Means, Spoils};
 ghost use Rattle.grammar.specs.Productions.{goto, end, _▸_, close, string, basic, pattern, array-pattern-close, object-pattern-close, object-rest, with-field, with-assert, with-member, member-name as memberName, call-close, field};
-ghost use Rattle.leaves.specs.Lexing.{Stands, Quoting, Quotes, Atom, Colons, Past, Faulty};
+ghost use Rattle.leaves.specs.Lexing.{Stands, Quoting, Quotes, Atom, Colons, Past};
 ghost use Rattle.leaves.specs.Meets.{Ready, state, Ends, EndsAny, EndsOver, EndsUnder, TellsEver, TellsEverAny, suffixes, titled, bracketed, sliced};
 
 pub mod parser; // Parser and its methods
@@ -69,10 +69,10 @@ fn least(a: usize, b: usize) -> usize
     if a <= b { a } else { b }
 }
 
-// The text of a string literal into a lent part of the output, by its kind.
+// The text of a string literal into a lent part of the output, by its kind; or its bad escape.
 fn decode(src: &[u8], c: Cursor, part: &mut [u8]) -> Decoded
     requires { ⌜ (Stands (now src) c) × Quoting (c .kind) ⌝ }
-    ensures { λ r. ⌜ Decoding (Means (now (src .entry)) (c .kind) (c .start) (c .end)) (now (part .entry)) r (now (part .exit)) ⌝ }
+    ensures { λ r. ⌜ Decoding (Means (now (src .entry)) (c .kind) (c .start) (c .end)) (Spoils (now (src .entry)) (c .kind) (c .start) (c .end)) (now (part .entry)) r (now (part .exit)) ⌝ }
 {
     let start = c.start;
     let end = c.end;
@@ -87,40 +87,33 @@ fn decode(src: &[u8], c: Cursor, part: &mut [u8]) -> Decoded
 
 fn quoted(src: &[u8], a: usize, e: usize, part: &mut [u8]) -> Decoded
     requires { ⌜ (a ≤ e) × (e ≤ length (now src)) ⌝ }
-    ensures { λ r. ⌜ Decoding (Quoted (slice a e (now (src .entry)))) (now (part .entry)) r (now (part .exit)) ⌝ }
+    ensures { λ r. ⌜ Decoding (Quoted (slice a e (now (src .entry)))) (BadEscape (slice a e (now (src .entry)))) (now (part .entry)) r (now (part .exit)) ⌝ }
 {
     strings::string::unescape(&src[a..e], part)
 }
 
 fn verbatim(src: &[u8], a: usize, e: usize, quote: u8, part: &mut [u8]) -> Decoded
     requires { ⌜ (a ≤ e) × (e ≤ length (now src)) ⌝ }
-    ensures { λ r. ⌜ Decoding (Verbatim quote (slice a e (now (src .entry)))) (now (part .entry)) r (now (part .exit)) ⌝ }
+    ensures { λ r. ⌜ Decoding (Verbatim quote (slice a e (now (src .entry)))) Never (now (part .entry)) r (now (part .exit)) ⌝ }
 {
     strings::string::verbatim(&src[a..e], quote, part)
 }
 
-// What a string that has no text is refused as.
-fn bad_string(c: Cursor) -> Answer
-    ensures { λ r. ⌜ Faulty c r ⌝ }
-{
-    if c.kind == Kind::STRING_BLOCK {
-        return error(c, Number::BLOCK, 0);
-    }
-    error(c, Number::ESCAPE, 0)
-}
-
-// parse_string_content: `string`. The text goes straight into the unused rest of the output, and its head before it.
+// parse_string_content: `string`. The text goes straight into the unused rest of the output, and its head before it. A bad escape is told by its
+// place in the source: behind the quote and what stands before it in the inside.
 pub fn parse_string_content(src: &[u8], out: &mut [u8], c: Cursor, w: usize) -> Answer
     requires { ⌜ Ready (now src) c w × Quoting (c .kind) ⌝ }
     ensures { λ r. ⌜ Ends (now (src .entry)) (state (goto string) 0 c w (now (out .entry))) 0 end 1 r (now (out .exit)) ⌝ }
 {
     let from = least(w + 3, out.len());
     let d = decode(src, c, &mut out[from..]);
-    let Decoded::Text(n) = d else {
-        return bad_string(c);
-    };
-    let w1 = writers::put_head(out, w, Tag::STRING, n);
-    Answer::Done(eat_any(src, c), w1 + n, 1)
+    match d {
+        Decoded::Refused(n) => error(c, Number::ESCAPE, c.start + 1 + n),
+        Decoded::Text(n) => {
+            let w1 = writers::put_head(out, w, Tag::STRING, n);
+            Answer::Done(eat_any(src, c), w1 + n, 1)
+        }
+    }
 }
 
 // is_string_token

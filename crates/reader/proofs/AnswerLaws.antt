@@ -35,7 +35,7 @@ case-of a = by (eqb (a .number))
         (cond (is ABSENT) (Absent (a .start) (a .stop) (a .detail))
         (cond (is EXPRESSION) (Expression (a .start) (a .stop))
         (cond (is MISPLACED) (Misplaced (a .start) (a .stop) (a .detail))
-        (cond (is ESCAPE) (Escape (a .start) (a .stop))
+        (cond (is ESCAPE) (Escape (a .start) (a .stop) (a .detail))
         (cond (is BLOCK) (Block (a .start) (a .stop))
         (cond (is DEPTH) (Depth (a .start) (a .stop))
         (Room (a .size)))))))))))))
@@ -51,7 +51,7 @@ case-back (Wanted a e k) = refl
 case-back (Absent a e x) = refl
 case-back (Expression a e) = refl
 case-back (Misplaced a e x) = refl
-case-back (Escape a e) = refl
+case-back (Escape a e x) = refl
 case-back (Block a e) = refl
 case-back (Depth a e) = refl
 case-back (Room n) = refl

@@ -25,7 +25,7 @@ pub enum Reading {
     Absent(usize, usize, usize), // a field name or a pattern
     Expression(usize, usize),
     Misplaced(usize, usize, usize), // an argument, or what a comprehension cannot have
-    Escape(usize, usize),
+    Escape(usize, usize, usize), // the backslash of the first bad escape
     Block(usize, usize),
     Depth(usize, usize),
     Room(usize), // the length needed
@@ -49,7 +49,7 @@ fn refused(r: Refusal) -> Reading
         Number::ABSENT => Reading::Absent(place.start, place.end, detail),
         Number::EXPRESSION => Reading::Expression(place.start, place.end),
         Number::MISPLACED => Reading::Misplaced(place.start, place.end, detail),
-        Number::ESCAPE => Reading::Escape(place.start, place.end),
+        Number::ESCAPE => Reading::Escape(place.start, place.end, detail),
         Number::BLOCK => Reading::Block(place.start, place.end),
         _ => Reading::Depth(place.start, place.end),
     }
@@ -169,7 +169,7 @@ pub fn numbers(r: Reading) -> Fields
         Reading::Absent(a, e, d) => refusal(Number::ABSENT, a, e, d),
         Reading::Expression(a, e) => refusal(Number::EXPRESSION, a, e, 0),
         Reading::Misplaced(a, e, d) => refusal(Number::MISPLACED, a, e, d),
-        Reading::Escape(a, e) => refusal(Number::ESCAPE, a, e, 0),
+        Reading::Escape(a, e, d) => refusal(Number::ESCAPE, a, e, d),
         Reading::Block(a, e) => refusal(Number::BLOCK, a, e, 0),
         Reading::Depth(a, e) => refusal(Number::DEPTH, a, e, 0),
         Reading::Room(n) => tree(Number::ROOM, n),

@@ -1,5 +1,6 @@
 // Replays vectors/strings.txt, what the judge says of strings: lines `MODE INPUT ANSWER`. Modes: q the inside of a quoted literal,
-// d and s of a verbatim one, c a code point; each answered by the bytes meant or `refused`; u, how many bytes are UTF-8.
+// d and s of a verbatim one, c a code point; each answered by the bytes meant or `refused`, for q with where the first bad escape begins;
+// u, how many bytes are UTF-8.
 use lists::Tally;
 use strings::Decoded;
 
@@ -19,9 +20,14 @@ fn agrees(decoded: Decoded, out: &[u8], answer: &[u8]) -> bool {
     check::same(out, &wanted)
 }
 
-fn quoted_agrees(input: &[u8], answer: &[u8]) -> bool {
+fn quoted_agrees(input: &[u8], answer: &[u8], escape: usize) -> bool {
     let mut out = [0u8; ROOM];
     let decoded = strings::string::unescape(input, &mut out);
+    if let Decoded::Refused(at) = decoded {
+        if at != escape {
+            return false;
+        }
+    }
     agrees(decoded, &out, answer)
 }
 
@@ -53,7 +59,10 @@ fn line_agrees(line: &[u8]) -> bool {
     let text = &bytes[..n];
     match m {
         b'u' => strings::utf8::valid_to(text) == lists::number(answer, false) as usize,
-        b'q' => quoted_agrees(text, answer),
+        b'q' => {
+            let escape = lists::number(lists::field(line, 3), false) as usize;
+            quoted_agrees(text, answer, escape)
+        }
         b'd' => verbatim_agrees(text, b'"', answer),
         b's' => verbatim_agrees(text, b'\'', answer),
         _ => false,

@@ -1,4 +1,5 @@
 // An answer as a person reads it: a tree as indented lines, a refusal as a sentence with its place.
+mod escapes; // what is wrong with an escape
 mod lines; // a record as a line
 mod places; // places as a person counts them
 pub mod records; // the image's records

@@ -1,11 +1,13 @@
 // A refusal as a sentence, with the line that it is about.
 ghost use Prim.Native.Nat.{_≤_};
 ghost use lib.ListN.{length};
+use crate::escapes::say_escape;
 use crate::places::say_place;
 use crate::records::wide;
 use crate::say::character_end;
 use crate::say::characters;
 use crate::say::is_inside;
+use crate::say::one_more;
 use crate::say::say;
 use crate::say::say_characters;
 use crate::say::say_number;
@@ -108,7 +110,6 @@ fn say_fault(number: u8, detail: u8) {
         }
         Number::EXPRESSION => say(b"an expression is wanted"),
         Number::MISPLACED => say_misplaced(detail),
-        Number::ESCAPE => say(b"a string has an escape that does not exist"),
         Number::BLOCK => say(b"a text block cannot be decoded"),
         _ => say(b"phrases stand more than 200 deep in each other"),
     }
@@ -264,6 +265,17 @@ fn tell_place(number: u8, f: Refusal, source: &[u8]) {
     }
 }
 
+// A bad escape, told and marked at its backslash.
+fn tell_escape(at: usize, source: &[u8]) {
+    say_place(source, at);
+    say(b": ");
+    if at < source.len() {
+        say_escape(&source[at..]);
+    }
+    say(b".\n");
+    say_line(source, at, one_more(at));
+}
+
 // A refusal of a file under its name.
 pub fn tell(name: &[u8], f: Refusal, source: &[u8]) {
     say_characters(name);
@@ -277,6 +289,7 @@ pub fn tell(name: &[u8], f: Refusal, source: &[u8]) {
             say_number(f.length as usize);
             say(b" bytes, more than there is room for.\n");
         }
+        Number::ESCAPE => tell_escape(f.detail as usize, source),
         _ => tell_place(number, f, source),
     }
 }

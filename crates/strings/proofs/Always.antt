@@ -1,4 +1,4 @@
--- Decided: whether a character begins a list, how far it is UTF-8, whether an inside has a text. So every source has an answer, whoever computes it.
+-- Decided: whether a character begins a list, how far it is UTF-8, whether an inside has a text or a bad escape. So every source has an answer, whoever computes it.
 -- Assumes nothing.
 use mathlib.Core.Path.{_≡_, refl, sym}
 use mathlib.Core.List.{List, [], _∷_, _++_}
@@ -9,12 +9,12 @@ use native.Mathlib.Decide.{decLt, decLe, ℕ-discrete}
 use lib.ListN.{length, getD, take, drop, drop-of-length-le}
 use Rattle.strings.specs.Utf8.{In, Character, CharacterLength, begins, nothing, Utf8, none, ValidTo, Scalar}
 use Rattle.strings.specs.Rows.{Row, row-00-7F, none-80-C1, row-C2-DF, row-E0, row-E1-EC, row-ED, row-EE-EF, row-F0, row-F1-F3, row-F4, none-F5-FF}
-use Rattle.strings.specs.Literals.{Hex, digit, upper, lower, Four, four, Low, low, Letter, backslash, double, single, backspace, form-feed, line-feed, return, tab, Escape, letter, unit, pair, two, Quoted}
+use Rattle.strings.specs.Literals.{Hex, digit, upper, lower, Four, four, Low, low, Letter, backslash, double, single, backspace, form-feed, line-feed, return, tab, Escape, letter, unit, pair, two, Quoted, BadEscape, here, past-plain, past-escape}
 use Rattle.strings.specs.Literals as literals
 use Rattle.strings.proofs.Rows.{Follows, end, next, Led, led, to-led, from-led, led-some, row-once}
 use Rattle.strings.proofs.CharacterLaws.{character-at, character-parted, valid-stop, valid-on}
-use Rattle.strings.proofs.Escapes.{no-hex, four-small, four-long, four-digits, low-bytes, low-long, hex-byte, letter-low, no-letter, no-escape, four-once, escape-once, Units, u-view, x-view, no-units, low-unit, high-unit}
-use Rattle.strings.proofs.Steps.{quoted-after, quoted-escaped, escape-short}
+use Rattle.strings.proofs.Escapes.{no-hex, four-small, four-long, four-digits, low-bytes, low-long, hex-byte, letter-low, no-letter, no-escape, four-once, Units, u-view, x-view, no-units, low-unit, high-unit}
+use Rattle.strings.proofs.Steps.{escape-short}
 
 -- there is one, or there is none
 abbrev pub Decided : (A : Type 0) (P : A → Type 0) → Type 0
@@ -247,27 +247,39 @@ escape-or-not (l ∷ s) = by (letter-or-not l) (ℕ-discrete l 0x75) (ℕ-discre
     by (inr h) (no u) (yes e) = rw e (two-or-not s)
     by (inr h) (no u) (no x) = inr (no-escape (l ∷ s) h u x)
 
+-- An inside has a text, or a first bad escape.
+abbrev pub TextOrBadEscape : List ℕ → Type 0
+TextOrBadEscape s = ((t : List ℕ) × Quoted s t) ⊎ ((n : ℕ) × BadEscape s n)
+
 -- one byte more, or one escape
-quoted-turn : (s : List ℕ) → ((r : List ℕ) → length r < length s → Decided (List ℕ) (Quoted r)) → Decided (List ℕ) (Quoted s)
+quoted-turn : (s : List ℕ) → ((r : List ℕ) → length r < length s → TextOrBadEscape r) → TextOrBadEscape s
 quoted-turn [] rec = inl ([], literals.Quoted.end)
 quoted-turn (b ∷ s) rec = by (ℕ-discrete b 0x5C) (escape-or-not s)
   where
-    plain : (b ≡ 0x5C → ⊥) → Decided (List ℕ) (Quoted s) → Decided (List ℕ) (Quoted (b ∷ s))
+    plain : (b ≡ 0x5C → ⊥) → TextOrBadEscape s → TextOrBadEscape (b ∷ s)
     plain h (inl t) = inl (_, literals.Quoted.plain h (t .1))
-    plain h (inr t) = inr (λ u x. let y = quoted-after h x in t (y .0) (y .1))
+    plain h (inr n) = inr (_, past-plain h (n .1))
 
-    escaped : (c : ℕ) (r : List ℕ) → Escape s c r → Decided (List ℕ) (Quoted r) → Decided (List ℕ) (Quoted (0x5C ∷ s))
+    escaped : (c : ℕ) (r : List ℕ) → Escape s c r → TextOrBadEscape r → TextOrBadEscape (0x5C ∷ s)
     escaped c r e (inl t) = inl (_, literals.Quoted.escape e (t .1))
-    escaped c r e (inr t) = inr (λ u x. let y = quoted-escaped x in t (y .2) (rw (escape-once (y .3) e .1) at (y .4)))
+    escaped c r e (inr n) = inr (_, past-escape (length s - length r) e (omega (arith, escape-short e)) (n .1))
 
-    by : Dec (b ≡ 0x5C) → Escaping s → Decided (List ℕ) (Quoted (b ∷ s))
+    by : Dec (b ≡ 0x5C) → Escaping s → TextOrBadEscape (b ∷ s)
     by (no h) e = plain h (rec s (omega arith))
     by (yes q) (inl (c, r, e)) = rw q (escaped c r e (rec r (omega (arith, escape-short e))))
-    by (yes q) (inr e) = rw q (inr (λ u x. let y = quoted-escaped x in e (y .0) (y .1) (y .3)))
+    by (yes q) (inr e) = rw q (inr (0, here e))
 
-pub quoted-or-not : (s : List ℕ) → Decided (List ℕ) (Quoted s)
-quoted-or-not s = go (suc (length s)) s (omega arith)
+pub text-or-bad-escape : (s : List ℕ) → TextOrBadEscape s
+text-or-bad-escape s = go (suc (length s)) s (omega arith)
   where
-    go : (fuel : ℕ) (s : List ℕ) → length s < fuel → Decided (List ℕ) (Quoted s)
+    go : (fuel : ℕ) (s : List ℕ) → length s < fuel → TextOrBadEscape s
     go zero s h = absurd (omega arith)
     go (suc fuel) s h = quoted-turn s (λ r g. go fuel r (omega arith))
+
+-- It has one exactly where it has no text.
+pub bad-escape-where-no-text : {s : List ℕ} → ((t : List ℕ) → Quoted s t → ⊥) → (n : ℕ) × BadEscape s n
+bad-escape-where-no-text {s} h = by (text-or-bad-escape s)
+  where
+    by : TextOrBadEscape s → (n : ℕ) × BadEscape s n
+    by (inl t) = absurd (h (t .0) (t .1))
+    by (inr n) = n

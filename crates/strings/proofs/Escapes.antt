@@ -235,7 +235,7 @@ no-escape s f g h c r (unit x y) = g refl
 no-escape s f g h c r (pair x y z) = g refl
 no-escape s f g h c r (two x y) = h refl
 
-escape-rest : {s r : List ℕ} {c : ℕ} → Escape s c r → (k : ℕ) → length s ≡ k + length r → r ≡ drop k s
+pub escape-rest : {s r : List ℕ} {c : ℕ} → Escape s c r → (k : ℕ) → length s ≡ k + length r → r ≡ drop k s
 escape-rest (letter {r = r} h) k e = let n : k ≡ 1 = omega arith in rw n
 escape-rest (unit f g) k e = let n : k ≡ 5 = omega (arith, four-long f) in rw n (four-rest f)
 escape-rest (pair {s = s} f g h) k e =

@@ -1,21 +1,22 @@
--- What is true of every literal's inside: it has at most one text, which is no longer than the inside, and UTF-8 if that is.
+-- What is true of every literal's inside: it has at most one text, which is no longer than the inside, and UTF-8 if that is; or a first bad
+-- escape, and one only.
 -- Assumes nothing.
-use mathlib.Core.Path.{_≡_, refl, sym}
+use mathlib.Core.Path.{_≡_, refl, sym, _∙_, ap, subst}
 use mathlib.Core.List.{List, [], _∷_, _++_}
-use Prim.Native.Nat.{ℕ, _≤_, _<_}
+use Prim.Native.Nat.{ℕ, suc, _+_, _≤_, _<_}
 use native.Mathlib.Omega.{arith}
 use native.Mathlib.Decide.{ℕ-discrete}
-use lib.ListN.{length, length-append}
-use lib.Seq.{append-snoc}
+use lib.ListN.{length, getD, length-append}
+use lib.Seq.{append-snoc, getD-drop}
 use Rattle.strings.specs.Utf8.{In, utf8, Utf8, more, row-00-7F}
-use Rattle.strings.specs.Literals.{Four, four, Low, low, Escape, letter, unit, pair, two, Quoted, Verbatim}
+use Rattle.strings.specs.Literals.{Four, four, Low, low, Escape, letter, unit, pair, two, Quoted, BadEscape, here, past-plain, past-escape, Verbatim}
 use Rattle.strings.specs.Literals as literals
-use Rattle.strings.specs.Decoding.{Decoding}
+use Rattle.strings.specs.Decoding.{Decoding, Never}
 use Rattle.strings.specs.declared.Decoded.{Decoded}
 use Rattle.strings.proofs.DecodingLaws.{decoding-once}
 use Rattle.strings.proofs.Utf8Laws.{utf8-utf8}
 use Rattle.strings.proofs.CharacterLaws.{utf8-append, ascii-rest, ascii-splits}
-use Rattle.strings.proofs.Escapes.{hex-byte, letter-low, escape-once}
+use Rattle.strings.proofs.Escapes.{hex-byte, letter-low, escape-once, escape-rest}
 use Rattle.strings.proofs.Steps.{escape-short, escape-scalar}
 
 pub quoted-once : {s t u : List ℕ} → Quoted s t → Quoted s u → t ≡ u
@@ -100,11 +101,44 @@ verbatim-on {q} h (literals.Verbatim.alone g x) p u = rw append-snoc at (verbati
 pub verbatim-utf8 : {q : ℕ} {s t : List ℕ} → q < 0x80 → Verbatim q s t → Utf8 s → Utf8 t
 verbatim-utf8 h x u = verbatim-on h x [] u
 
+-- ---- the first bad escape
+
+-- An inside that has a text has none.
+pub bad-escape-no-text : {s t : List ℕ} {n : ℕ} → Quoted s t → BadEscape s n → ⊥
+bad-escape-no-text (literals.Quoted.plain h x) (here f) = h refl
+bad-escape-no-text (literals.Quoted.plain h x) (past-plain g y) = bad-escape-no-text x y
+bad-escape-no-text (literals.Quoted.plain h x) (past-escape k e l y) = h refl
+bad-escape-no-text (literals.Quoted.escape e x) (here f) = f _ _ e
+bad-escape-no-text (literals.Quoted.escape e x) (past-plain g y) = g refl
+bad-escape-no-text (literals.Quoted.escape e x) (past-escape k {n = n} f l y) = bad-escape-no-text x (subst (λ (r : List ℕ). BadEscape r n) (escape-once f e .1) y)
+
+-- It has one at most.
+pub bad-escape-once : {s : List ℕ} {n m : ℕ} → BadEscape s n → BadEscape s m → n ≡ m
+bad-escape-once (here f) (here g) = refl
+bad-escape-once (here f) (past-plain h y) = absurd (h refl)
+bad-escape-once (here f) (past-escape k e l y) = absurd (f _ _ e)
+bad-escape-once (past-plain h x) (here g) = absurd (h refl)
+bad-escape-once (past-plain h x) (past-plain g y) = ap suc (bad-escape-once x y)
+bad-escape-once (past-plain h x) (past-escape k e l y) = absurd (h refl)
+bad-escape-once (past-escape k e l x) (here g) = absurd (g _ _ e)
+bad-escape-once (past-escape k e l x) (past-plain h y) = absurd (h refl)
+bad-escape-once (past-escape k e l x) (past-escape j {n = m} f h y) =
+    let same = escape-once f e .1 in
+    omega (arith, bad-escape-once x (subst (λ (r : List ℕ). BadEscape r m) same y), ap length same)
+
+-- It is a backslash of the inside.
+pub bad-escape-within : {s : List ℕ} {n : ℕ} → BadEscape s n → (n < length s) × (getD s n 0 ≡ 0x5C)
+bad-escape-within (here f) = (omega arith, refl)
+bad-escape-within (past-plain h x) = let w = bad-escape-within x in (omega (arith, w .0), w .1)
+bad-escape-within (past-escape k {s = s} {n = n} e l x) =
+    let w = bad-escape-within x in
+    (omega (arith, w .0), sym (getD-drop k s n 0) ∙ ap (λ (r : List ℕ). getD r n 0) (sym (escape-rest e k l)) ∙ w .1)
+
 -- ---- no second answer
 
 module _ {s out : List ℕ} {r r′ : Decoded} {o o′ : List ℕ} where
-  pub unescape-once : Decoding (Quoted s) out r o → Decoding (Quoted s) out r′ o′ → (r ≡ r′) × (o ≡ o′)
-  unescape-once = decoding-once (λ t u x y. quoted-once x y)
+  pub unescape-once : Decoding (Quoted s) (BadEscape s) out r o → Decoding (Quoted s) (BadEscape s) out r′ o′ → (r ≡ r′) × (o ≡ o′)
+  unescape-once = decoding-once (λ t u x y. quoted-once x y) (λ n m x y. bad-escape-once x y) (λ t n x y. bad-escape-no-text x y)
 
-  pub verbatim-answer-once : {q : ℕ} → Decoding (Verbatim q s) out r o → Decoding (Verbatim q s) out r′ o′ → (r ≡ r′) × (o ≡ o′)
-  verbatim-answer-once = decoding-once (λ t u x y. verbatim-once x y)
+  pub verbatim-answer-once : {q : ℕ} → Decoding (Verbatim q s) Never out r o → Decoding (Verbatim q s) Never out r′ o′ → (r ≡ r′) × (o ≡ o′)
+  verbatim-answer-once = decoding-once (λ t u x y. verbatim-once x y) (λ n m x y. absurd x) (λ t n x y. y)

@@ -6,10 +6,9 @@ use mathlib.Core.Logic.{inl, inr}
 use Prim.Native.Nat.{ℕ}
 use native.Mathlib.Omega.{arith}
 use Rattle.strings.specs.Utf8.{utf8}
-use Rattle.strings.specs.Literals.{digit, upper, Four, four, low, pair, two, Quoted}
+use Rattle.strings.specs.Literals.{digit, upper, Four, four, low, pair, two, Quoted, BadEscape, here}
 use Rattle.strings.specs.Literals as literals
 use Rattle.strings.proofs.Escapes.{low-bytes, u-view, high-unit}
-use Rattle.strings.proofs.Steps.{quoted-escaped}
 
 -- 5. `\x41`: D0 81
 pub marked-reading-5 : Quoted (0x5C ∷ 0x78 ∷ 0x34 ∷ 0x31 ∷ []) (0xD0 ∷ 0x81 ∷ [])
@@ -25,9 +24,8 @@ marked-reading-6 =
     (low (four (upper {b = 0x44} (omega arith)) (upper {b = 0x45} (omega arith)) (digit {b = 0x30} (omega arith)) (digit {b = 0x30} (omega arith))) (omega arith)))
     literals.Quoted.end
 
--- 7. `\uD800x` has no text
-pub marked-reading-7 : (t : List ℕ) → Quoted (0x5C ∷ 0x75 ∷ 0x44 ∷ 0x38 ∷ 0x30 ∷ 0x30 ∷ 0x78 ∷ []) t → ⊥
-marked-reading-7 t q =
-    let e = quoted-escaped q in
+-- 7. `\uD800x`: its first bad escape is the one that it begins with
+pub marked-reading-7 : BadEscape (0x5C ∷ 0x75 ∷ 0x44 ∷ 0x38 ∷ 0x30 ∷ 0x30 ∷ 0x78 ∷ []) 0
+marked-reading-7 =
     let high : Four (0x44 ∷ 0x38 ∷ 0x30 ∷ 0x30 ∷ 0x78 ∷ []) 0xD800 (0x78 ∷ []) = four (upper {b = 0x44} (omega arith)) (digit {b = 0x38} (omega arith)) (digit {b = 0x30} (omega arith)) (digit {b = 0x30} (omega arith)) in
-    high-unit high (omega arith) (λ m r l. omega (arith, low-bytes l .0)) (u-view (e .3) refl)
+    here (λ c r e. high-unit high (omega arith) (λ m q l. omega (arith, low-bytes l .0)) (u-view e refl))

@@ -9,9 +9,9 @@ use native.Mathlib.Decide.{decLt}
 use lib.ListN.{length}
 use borrow.Author.Tests.{lt-ltb, le-ltb}
 use Rattle.strings.specs.Utf8.{Tail, In, Character, row-00-7F, row-C2-DF, row-E0, row-E1-EC, row-ED, row-EE-EF, row-F0, row-F1-F3, row-F4, Utf8, Scalar, utf8, Encodes, encoded}
-use Rattle.strings.specs.Decoding.{Decoding}
+use Rattle.strings.specs.Decoding.{Decoding, Missing}
 use Rattle.strings.specs.declared.Decoded.{Decoded}
-use Rattle.strings.proofs.DecodingLaws.{decoding-once}
+use Rattle.strings.proofs.DecodingLaws.{missing-once}
 use Rattle.strings.proofs.CharacterLaws.{utf8-one}
 
 pub utf8-1 : (c : ℕ) → c < 0x80 → utf8 c ≡ c ∷ []
@@ -75,8 +75,9 @@ encodes-once (encoded h) (encoded h′) = refl
 
 -- `encode` has one answer.
 pub encode-once :
-    {c : ℕ} {out o o′ : List ℕ} {r r′ : Decoded} → Decoding (Encodes c) out r o → Decoding (Encodes c) out r′ o′ → (r ≡ r′) × (o ≡ o′)
-encode-once d d′ = decoding-once (λ t t′ e e′. encodes-once e e′) d d′
+    {c : ℕ} {out o o′ : List ℕ} {r r′ : Decoded} → Decoding (Encodes c) (Missing (Encodes c)) out r o → Decoding (Encodes c) (Missing (Encodes c)) out r′ o′ →
+    (r ≡ r′) × (o ≡ o′)
+encode-once d d′ = missing-once (λ t t′ e e′. encodes-once e e′) d d′
 
 -- The number that the bytes of a character spell.
 unfoldable value : List ℕ → ℕ

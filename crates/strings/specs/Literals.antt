@@ -2,7 +2,8 @@
 -- Assumes nothing.
 use mathlib.Core.Path.{_≡_}
 use mathlib.Core.List.{List, [], _∷_, _++_}
-use Prim.Native.Nat.{ℕ, _+_, _-_, _*_}
+use Prim.Native.Nat.{ℕ, suc, _+_, _-_, _*_}
+use lib.ListN.{length}
 use Rattle.strings.specs.Utf8.{In, Scalar, utf8}
 
 -- A hex digit and its value.
@@ -49,6 +50,14 @@ pub data Quoted : List ℕ → List ℕ → Type 0 where
   end : Quoted [] []
   plain : {b : ℕ} {s t : List ℕ} → (b ≡ 0x5C → ⊥) → Quoted s t → Quoted (b ∷ s) (b ∷ t)
   escape : {s r t : List ℕ} {c : ℕ} → Escape s c r → Quoted r t → Quoted (0x5C ∷ s) (utf8 c ++ t)
+
+-- 02, Item 3, "the byte offset of the backslash that begins the bad escape": the first bad escape of an inside begins at this byte. It is the
+-- backslash after which no escape stands, so the high half's where a low half is missing or bad; all before it are plain bytes and
+-- escapes. An inside has one exactly where it has no text, and one only (proofs/LiteralLaws.antt).
+pub data BadEscape : List ℕ → ℕ → Type 0 where
+  here : {s : List ℕ} → ((c : ℕ) (r : List ℕ) → Escape s c r → ⊥) → BadEscape (0x5C ∷ s) 0
+  past-plain : {b n : ℕ} {s : List ℕ} → (b ≡ 0x5C → ⊥) → BadEscape s n → BadEscape (b ∷ s) (suc n)
+  past-escape : (k : ℕ) {s r : List ℕ} {c n : ℕ} → Escape s c r → length s ≡ k + length r → BadEscape r n → BadEscape (0x5C ∷ s) (suc (k + n))
 
 -- The list begins with the byte.
 abbrev pub Begins : ℕ → List ℕ → Type 0

@@ -5,10 +5,11 @@ ghost use lib.ListN.{length, set, replicate};
 pub mod string; // string.rs: the inside of a literal decoded
 pub mod utf8; // whether bytes are UTF-8, and the bytes of a code point
 
-// What a decoder answers: the text's length, whether or not it had room, or that there is no text.
+// What a decoder answers: the text's length, whether or not it had room; or that there is no text, and of a quoted literal where its first bad
+// escape begins.
 pub enum Decoded {
     Text(usize),
-    Refused,
+    Refused(usize),
 }
 
 // A byte at a place, where the output has room.

@@ -2,8 +2,8 @@
 ghost use mathlib.Core.Path.{_≡_};
 ghost use Prim.Native.Nat.{_+_, _≤_, _<_};
 ghost use lib.ListN.{length, getD, drop};
-ghost use Rattle.strings.specs.Literals.{Quoted, Verbatim, Begins};
-ghost use Rattle.strings.specs.Decoding.{Decoding};
+ghost use Rattle.strings.specs.Literals.{Quoted, BadEscape, Verbatim, Begins};
+ghost use Rattle.strings.specs.Decoding.{Decoding, Never};
 ghost use Rattle.strings.specs.Inner.{Says, Digit, Spelled, Halved, Meant, EscapeAt};
 use crate::Decoded;
 use crate::clear;
@@ -163,9 +163,9 @@ fn escape_at(s: &[u8], i: usize) -> Escaped
     Escaped::Broken
 }
 
-// The inside of a quoted literal, decoded into the part of the output that is lent.
+// The inside of a quoted literal, decoded into the part of the output that is lent; or where its first bad escape begins.
 pub fn unescape(s: &[u8], out: &mut [u8]) -> Decoded
-    ensures { λ r. ⌜ Decoding (Quoted (now (s .entry))) (now (out .entry)) r (now (out .exit)) ⌝ }
+    ensures { λ r. ⌜ Decoding (Quoted (now (s .entry))) (BadEscape (now (s .entry))) (now (out .entry)) r (now (out .exit)) ⌝ }
 {
     let mut i = 0;
     let mut n = 0;
@@ -179,7 +179,7 @@ pub fn unescape(s: &[u8], out: &mut [u8]) -> Decoded
         }
         let Escaped::Code(code, next) = escape_at(s, i + 1) else {
             clear(out);
-            return Decoded::Refused;
+            return Decoded::Refused(i);
         };
         n = put_code(out, n, code);
         i = next;
@@ -204,7 +204,7 @@ fn doubled(s: &[u8], i: usize, quote: u8) -> bool
 
 // The inside of a verbatim literal between such quotes, decoded into the part of the output that is lent.
 pub fn verbatim(s: &[u8], quote: u8, out: &mut [u8]) -> Decoded
-    ensures { λ r. ⌜ Decoding (Verbatim quote (now (s .entry))) (now (out .entry)) r (now (out .exit)) ⌝ }
+    ensures { λ r. ⌜ Decoding (Verbatim quote (now (s .entry))) Never (now (out .entry)) r (now (out .exit)) ⌝ }
 {
     let mut i = 0;
     let mut n = 0;

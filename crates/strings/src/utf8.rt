@@ -6,7 +6,7 @@ ghost use lib.ListN.{length, drop};
 ghost use lib.Seq.{sets};
 ghost use Rattle.strings.specs.Utf8.{CharacterLength, ValidTo, utf8, Encodes};
 ghost use Rattle.strings.specs.Rows.{Row};
-ghost use Rattle.strings.specs.Decoding.{Decoding};
+ghost use Rattle.strings.specs.Decoding.{Decoding, Missing};
 use crate::Decoded;
 use crate::clear;
 use crate::put;
@@ -79,20 +79,20 @@ pub(crate) fn put_code(out: &mut [u8], at: usize, code: u32) -> usize
 
 // The bytes of a code point, if it is a scalar value.
 pub fn encode(code: u32, out: &mut [u8]) -> Decoded
-    ensures { λ r. ⌜ Decoding (Encodes code) (now (out .entry)) r (now (out .exit)) ⌝ }
+    ensures { λ r. ⌜ Decoding (Encodes code) (Missing (Encodes code)) (now (out .entry)) r (now (out .exit)) ⌝ }
 {
     if code < 0xD800 {
         return Decoded::Text(put_code(out, 0, code));
     }
     if code < 0xE000 {
         clear(out);
-        return Decoded::Refused;
+        return Decoded::Refused(0);
     }
     if code < 0x110000 {
         return Decoded::Text(put_code(out, 0, code));
     }
     clear(out);
-    Decoded::Refused
+    Decoded::Refused(0)
 }
 
 // What a first byte says of its character: how many bytes it has, none where that is 0, and the bounds of the second.

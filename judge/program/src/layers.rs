@@ -8,7 +8,14 @@ use crate::hex;
 pub fn strings(line: &str) -> Result<String, String> {
     let (mode, input) = line.split_once(' ').ok_or_else(|| format!("no mode: {line}"))?;
     let decoded = match mode {
-        "q" => unescape(&hex::decode_text(input)?),
+        "q" => {
+            let inner = hex::decode_text(input)?;
+            let decoded = unescape(&inner);
+            if decoded.is_none() {
+                return Ok(format!("refused {}", setting0::bad_escape(&inner)));
+            }
+            decoded
+        }
         "d" => literal_text(&format!("@\"{}\"", hex::decode_text(input)?)),
         "s" => literal_text(&format!("@'{}'", hex::decode_text(input)?)),
         "u" => return Ok(valid_up_to(&hex::decode(input)?).to_string()),

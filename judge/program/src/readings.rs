@@ -43,7 +43,7 @@ pub const DOCUMENT: &[Reading] = &[
     (0, "a-b-c", Records(13, &[&[4, 0, 1, 0, 2], &[4, 0, 3, 0, 4]])),
     (0, r#""\x41""#, Text("\u{401}")),
     (0, r#""\uD83D\uDE00""#, Text("\u{1f600}")),
-    (0, r#""\uD800x""#, Refused(9, 0, 9, 0)),
+    (0, r#""\uD800x""#, Refused(9, 0, 9, 1)),
     (0, "|||-\n  mass\n  depth\n|||", Text("mass\ndepth")),
     (0, "f(a=1, 2)", Refused(8, 7, 8, 1)),
     (0, "if a then 1else 2", Refused(4, 10, 13, 39)),
@@ -156,7 +156,7 @@ pub const TRAPS: &[Reading] = &[
     (0, "1 2 \"", Refused(4, 4, 5, 42)),
     (0, r#""\q" ""#, Refused(4, 5, 6, 42)),
     (0, "⟦300×(⟧\"", Refused(4, 300, 301, 42)),
-    (0, r#""\q" )"#, Refused(9, 0, 4, 0)),
+    (0, r#""\q" )"#, Refused(9, 0, 4, 1)),
     (0, r#") "\q""#, Refused(7, 0, 1, 0)),
     (0, r#"local a "\q""#, Refused(5, 8, 12, 35)),
     (0, "[1,2,3", Refused(5, 6, 6, 24)),
@@ -196,15 +196,15 @@ pub const TRAPS: &[Reading] = &[
     (0, r#""\"#, Refused(4, 0, 1, 42)),
     (0, r#""abc\""#, Refused(4, 0, 6, 42)),
     (0, "\"a\n\0b\"", Text("a\n\0b")),
-    (0, "\"\\\n\"", Refused(9, 0, 4, 0)),
+    (0, "\"\\\n\"", Refused(9, 0, 4, 1)),
     (0, r#""\xff""#, Text("\u{f0f}")),
     (0, r#""\x0A""#, Text("\n")),
-    (0, r#""\uD83D\u0041""#, Refused(9, 0, 14, 0)),
-    (0, r#""\uDE00""#, Refused(9, 0, 8, 0)),
-    (0, r#""\u+041""#, Refused(9, 0, 8, 0)),
-    (0, r#""\/""#, Refused(9, 0, 4, 0)),
-    (0, r#"{"\q":1}"#, Refused(9, 1, 5, 0)),
-    (0, r#"["ok", '\q']"#, Refused(9, 7, 11, 0)),
+    (0, r#""\uD83D\u0041""#, Refused(9, 0, 14, 1)),
+    (0, r#""\uDE00""#, Refused(9, 0, 8, 1)),
+    (0, r#""\u+041""#, Refused(9, 0, 8, 1)),
+    (0, r#""\/""#, Refused(9, 0, 4, 1)),
+    (0, r#"{"\q":1}"#, Refused(9, 1, 5, 2)),
+    (0, r#"["ok", '\q']"#, Refused(9, 7, 11, 8)),
     (0, r#"@"a"""#, Refused(4, 0, 5, 46)),
     (0, r#"@"a""b"#, Refused(4, 0, 6, 46)),
     (0, r#"@"a""""#, Text("a\"")),
@@ -388,7 +388,32 @@ pub const TRAPS: &[Reading] = &[
     (0, "f⟦300×()⟧", Tree),
 ];
 
-/// All of them.
+/// Which escape is bad (request 3): the detail is its backslash, counted in bytes from the source's start.
+pub const ESCAPES: &[Reading] = &[
+    (0, r#""é\q""#, Refused(9, 0, 6, 3)),
+    (0, r#"{a:1,"b\q":2}"#, Refused(9, 5, 10, 7)),
+    (0, r#""a\q""#, Refused(9, 0, 5, 2)),
+    (0, r#""\u12""#, Refused(9, 0, 6, 1)),
+    (0, r#""\x4""#, Refused(9, 0, 5, 1)),
+    (0, r#""\n\uDC00\q""#, Refused(9, 0, 12, 3)),
+    (0, r#""\uD800\q""#, Refused(9, 0, 10, 1)),
+    (0, r#""\uD800\u00""#, Refused(9, 0, 12, 1)),
+    (0, r#""\uD800\u0041""#, Refused(9, 0, 14, 1)),
+    (0, r#""\uD83D\\uDE00""#, Refused(9, 0, 15, 1)),
+    (0, r#""\uD800\uD800\uDC00""#, Refused(9, 0, 20, 1)),
+    (0, r#"'\u12\'34'"#, Refused(9, 0, 10, 1)),
+    (0, r#""\\\q""#, Refused(9, 0, 6, 3)),
+    (0, r#""\uD83D\uDE00\q\q""#, Refused(9, 0, 18, 13)),
+    (0, r#"["ab","c\q"]"#, Refused(9, 6, 11, 8)),
+    (0, r#"{'a\q'::1}"#, Refused(9, 1, 6, 3)),
+    (0, r#"a["\q"]"#, Refused(9, 2, 6, 3)),
+    (0, r#"import '\q'"#, Refused(9, 7, 11, 8)),
+    (0, r#"/*é*/"\q""#, Refused(9, 6, 10, 7)),
+    (0, r#""\q" ""#, Refused(4, 5, 6, 42)),
+    (0, r#"@"\q""#, Text("\\q")),
+    (0, "|||\n \\q\n|||", Text("\\q\n")),
+];
+
 /// The published binding of signs (setting 8): each sign is a level all the same.
 pub const SIGNS: &[Reading] = &[
     (0, "⟦150×-a*⟧1", Refused(11, 300, 301, 0)),
@@ -401,6 +426,7 @@ pub const SIGNS: &[Reading] = &[
     (12, "-a??b", Records(13, &[&[18, 0, 2, 0, 4]])),
 ];
 
+/// All of them.
 pub fn all() -> impl Iterator<Item = &'static Reading> {
-    DOCUMENT.iter().chain(SILENT).chain(TRAPS).chain(SIGNS)
+    DOCUMENT.iter().chain(SILENT).chain(TRAPS).chain(ESCAPES).chain(SIGNS)
 }

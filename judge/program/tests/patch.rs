@@ -6,11 +6,11 @@ use judge::{generate, hex, reader, stack};
 
 /// How the Rust's message for a refusal begins.
 fn message(number: u16, detail: u16) -> String {
-    let kind = SyntaxKind::from_raw(detail);
+    let kind = || SyntaxKind::from_raw(detail);
     match (number, detail) {
-        (4, _) => kind.error_description().expect("a bad lexeme").to_owned(),
+        (4, _) => kind().error_description().expect("a bad lexeme").to_owned(),
         (5, 1) => "expected end of file, got".to_owned(),
-        (5, _) => format!("expected {}", kind.display_name()),
+        (5, _) => format!("expected {}", kind().display_name()),
         (6, 1) => "expected field name, got".to_owned(),
         (6, 2) => "expected destructure pattern, got".to_owned(),
         (7, 0) => "unexpected ".to_owned(),
@@ -18,7 +18,7 @@ fn message(number: u16, detail: u16) -> String {
         (8, 2) => "object comprehension can only contain one field".to_owned(),
         (8, 3) => "asserts are unsupported in object comprehension".to_owned(),
         (8, 4) => "missing object comprehension field".to_owned(),
-        (9, 0) => "invalid string escape".to_owned(),
+        (9, _) => "invalid string escape".to_owned(),
         (10, 0) => "invalid string block".to_owned(),
         _ => panic!("no message for {number} with {detail}"),
     }

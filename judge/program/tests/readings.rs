@@ -75,6 +75,11 @@ fn traps() {
 }
 
 #[test]
+fn escapes() {
+    check(readings::ESCAPES);
+}
+
+#[test]
 fn signs() {
     check(readings::SIGNS);
 }

@@ -1,17 +1,16 @@
 -- `blocks::block_text` meets its contract.
 -- Assumes nothing.
-use mathlib.Core.Path.{_≡_, sym, _∙_, ap, subst}
+use mathlib.Core.Path.{_≡_, _∙_, ap, subst}
 use mathlib.Core.List.{List, [], _∷_}
 use Prim.Native.Nat.{ℕ}
-use lib.ListN.{drop, replicate}
+use lib.ListN.{replicate}
 use types.Run.{OneOf, miss}
 use denote.Enum.Declared.{tagOf}
 use borrow.Author.Needs.{needs}
-use Rattle.strings.specs.declared.Decoded.the-variants.{Refused}
-use Rattle.strings.specs.Decoding.{Decoding}
+use Rattle.strings.specs.Decoding.{missing}
+use Rattle.strings.proofs.DecodingLaws.{cleared}
 use Rattle.blocks.specs.declared.Block.{Block}
 use Rattle.blocks.specs.declared.Block.the-variants.{Good}
-use Rattle.blocks.specs.Blocks.{BlockText}
 use Rattle.blocks.proofs.Block.{the-type}
 use Rattle.blocks.proofs.Whole.{walked-good, walked-bad}
 use Rattle.blocks.proofs.block_text.Statement.{statement}
@@ -39,7 +38,7 @@ returns c =
     let start = c .before .before .before .before .before .before .before .before .before .before .before in
     let none = walked-bad (walk .ensures) (λ e. not-good (walk .result .block) e (c .before .before .before .before .match .keys2)) in
     let zero = c .before .before .clear .ensures ∙ ap (λ (n : ℕ). replicate n 0) (walk .kept .1 .1 .0) in
-    subst (λ (out : List ℕ). Decoding (BlockText (drop (start .args .at) (start .args .source .now))) (start .args .out .now) Refused out) (sym zero) (Decoding.refused none)
+    cleared (start .args .out .now) _ 0 (missing none) zero
 
 same-length-2 : tie.Need-same-length-2
 same-length-2 c = search needs

@@ -91,9 +91,10 @@ same-length c = search needs
 
 returns : tie.Need-returns
 returns c =
+    let pre′ = c .before .before .before .before .before .before .before .pre in
     let matched′ = c .before .before .before .before .match in
     let block-text′ = c .before .before .block-text in
-    decodes-block (matched′ .keys1) (block-text′ .ensures)
+    decodes-block (matched′ .keys1) (lies (pre′ .0) .block′ (matched′ .keys1)) (block-text′ .ensures)
 
 same-length-2 : tie.Need-same-length-2
 same-length-2 c = search needs

@@ -1,13 +1,13 @@
--- `parse_string_content` meets its contract: the literal's text, written before its head; where it has none, it breaks off.
+-- `parse_string_content` meets its contract: the literal's text, written before its head; at a bad escape it breaks off.
 -- Assumes nothing.
 use borrow.Author.Needs.{needs}
 use Rattle.grammar.specs.Productions.{_▸_, end, leaf}
 use Rattle.grammar.specs.Trees.{text}
-use Rattle.leaves.proofs.LeafLaws.{any-size, bad-answer, fits}
+use Rattle.leaves.proofs.LeafLaws.{any-size, bad-answer, fits, within}
 use Rattle.leaves.proofs.LeafRules.{good-string}
 use Rattle.leaves.proofs.LexemeLaws.{lies}
 use Rattle.leaves.proofs.PartLaws.{sets-rest, text-wrote}
-use Rattle.leaves.proofs.TextLaws.{a-lexeme, found, meaning, means-short, none-found}
+use Rattle.leaves.proofs.TextLaws.{a-lexeme, fault-found, found, meaning, means-short, spoils-within}
 use mathlib.Core.List.{[], _∷_}
 use mathlib.Core.Logic.{inl, inr, ⊎-elim}
 use mathlib.Core.Path.{refl}
@@ -37,30 +37,30 @@ decode-requires c κs = search needs
 enum-known-d : tie.Need-enum-known-d
 enum-known-d c = search needs
 
-enum-told : tie.Need-enum-told
-enum-told c = search needs
+add-error : tie.Need-add-error
+add-error c =
+    let pre′ = c .before .before .before .before .before .before .before .before .before .before .before .pre in
+    omega (arith, within (pre′ .0))
 
-bad-string-requires : tie.Need-bad-string-requires
-bad-string-requires c κs = search needs
-
-same-length : tie.Need-same-length
-same-length c = search needs
-
-returns : tie.Need-returns
-returns c =
-    let pre′ = c .before .before .before .before .before .before .before .before .before .before .pre in
-    let decode′ = c .before .before .before .before .before .decode in
-    let matched′ = c .before .before .match in
-    let bad-string′ = c .bad-string in
+add-error-2 : tie.Need-add-error-2
+add-error-2 c =
+    let decode′ = c .before .before .before .before .before .before .decode in
+    let d′ = c .before .before .d in
+    let pre′ = c .before .before .before .before .before .before .before .before .before .before .before .pre in
     let st = pre′ .0 .stands in
-    let some = a-lexeme (pre′ .1) in
-    let none = none-found (decode′ .ensures) (matched′ .keys2) in
-    record { ends = λ g d. bad-answer st some none (bad-string′ .ensures) }
+    let inside = spoils-within (lies st .within) (fault-found (decode′ .ensures) (d′ .given .1)) in
+    omega (arith, inside, within (pre′ .0))
+
+error-requires : tie.Need-error-requires
+error-requires c κs = search needs
+
+enum-known-d-2 : tie.Need-enum-known-d-2
+enum-known-d-2 c = search needs
 
 put-head-requires : tie.Need-put-head-requires
 put-head-requires c κs =
     let decode′ = c .before .before .before .before .before .before .decode in
-    let d′ = c .before .before .d in
+    let d′ = c .before .before .d2 in
     let pre′ = c .before .before .before .before .before .before .before .before .before .before .before .pre in
     let text′ = found (decode′ .ensures) (d′ .given .1) in
     let st = pre′ .0 .stands in
@@ -70,10 +70,10 @@ put-head-requires c κs =
 eat-any-requires : tie.Need-eat-any-requires
 eat-any-requires c κs = search needs
 
-add-t10 : tie.Need-add-t10
-add-t10 c =
+add-t21 : tie.Need-add-t21
+add-t21 c =
     let decode′ = c .before .before .before .before .before .before .before .before .before .before .decode in
-    let d′ = c .before .before .before .before .before .before .d in
+    let d′ = c .before .before .before .before .before .before .d2 in
     let pre′ = c .before .before .before .before .before .before .before .before .before .before .before .before .before .before .before .pre in
     let put-head′ = c .before .before .before .put-head in
     let text′ = found (decode′ .ensures) (d′ .given .1) in
@@ -81,13 +81,24 @@ add-t10 c =
     let short = means-short st refl (text′ .1) in
     omega (arith, text′ .2, short, lies st .within, pre′ .0 .short, fits (pre′ .0), put-head′ .ensures .to)
 
+same-length : tie.Need-same-length
+same-length c = search needs
+
+returns : tie.Need-returns
+returns c =
+    let pre′ = c .before .before .before .before .before .before .before .before .before .before .before .before .pre in
+    let decode′ = c .before .before .before .before .before .before .before .decode in
+    let d′ = c .before .before .before .d in
+    let fault = fault-found (decode′ .ensures) (d′ .given .1) in
+    record { ends = λ g d. bad-answer (pre′ .0 .stands) fault (c .error .ensures) }
+
 same-length-2 : tie.Need-same-length-2
 same-length-2 c = search needs
 
 returns-2 : tie.Need-returns-2
 returns-2 c =
     let decode′ = c .before .before .before .before .before .before .before .before .before .before .decode in
-    let d′ = c .before .before .before .before .before .before .d in
+    let d′ = c .before .before .before .before .before .before .d2 in
     let pre′ = c .before .before .before .before .before .before .before .before .before .before .before .before .before .before .before .pre in
     let args′ = c .before .before .before .before .before .before .before .before .before .before .before .before .before .before .before .args in
     let least′ = c .before .before .before .before .before .before .before .before .before .before .before .before .least in
@@ -107,4 +118,4 @@ returns-2 c =
     }
 
 pub parse-string-content-spec : {M : Type 1} → statement M
-parse-string-content-spec = tie.close (tie.spec add-least least-requires sub-decode part-decode-start part-decode-end decode-requires enum-known-d enum-told bad-string-requires same-length returns put-head-requires eat-any-requires add-t10 same-length-2 returns-2)
+parse-string-content-spec = tie.close (tie.spec add-least least-requires sub-decode part-decode-start part-decode-end decode-requires enum-known-d add-error add-error-2 error-requires enum-known-d-2 put-head-requires eat-any-requires add-t21 same-length returns same-length-2 returns-2)

@@ -2,7 +2,7 @@
 -- Assumes nothing.
 use borrow.Author.Needs.{needs}
 use Rattle.leaves.proofs.TextLaws.{decodes-lent}
-use Rattle.strings.specs.Literals.{Quoted}
+use Rattle.strings.specs.Literals.{Quoted, BadEscape}
 use Rattle.leaves.proofs.quoted.Statement.{statement}
 use Rattle.leaves.proofs.quoted.Tie as tie
 
@@ -25,7 +25,7 @@ returns : tie.Need-returns
 returns c =
     let args′ = c .before .before .before .before .before .before .before .args in
     let unescape′ = c .before .before .unescape in
-    decodes-lent Quoted (args′ .src .now) (args′ .a) (args′ .e) (unescape′ .ensures)
+    decodes-lent Quoted BadEscape (args′ .src .now) (args′ .a) (args′ .e) (unescape′ .ensures)
 
 pub quoted-spec : {M : Type 1} → statement M
 quoted-spec = tie.close (tie.spec sub-unescape part-unescape-start part-unescape-end unescape-requires same-length returns)

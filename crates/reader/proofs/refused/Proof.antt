@@ -2,7 +2,7 @@
 -- Assumes nothing.
 use mathlib.Core.Path.{refl, sym, ap, _∙_}
 use Prim.Native.Nat.{ℕ}
-use Rattle.grammar.specs.Numbers.{EXPRESSION, ESCAPE, BLOCK, DEPTH, met-with}
+use Rattle.grammar.specs.Numbers.{EXPRESSION, BLOCK, DEPTH, met-with}
 use Rattle.reader.specs.Reader.{refusal, numbers}
 use Rattle.reader.proofs.ReaderLaws.{no-detail, depth-else}
 use Rattle.reader.proofs.refused.Statement.{statement}
@@ -37,8 +37,7 @@ returns-5 : tie.Need-returns-5
 unfolding numbers met-with
 returns-5 c =
     let r′ = c .before .before .args .r in
-    let z = no-detail (r′ .detail) (c .before .before .pre) ESCAPE refl (c .match .keys5) in
-    sym (ap (λ (n : ℕ). refusal n (r′ .place .start) (r′ .place .end) (r′ .detail)) (c .match .keys5) ∙ ap (λ (x : ℕ). refusal ESCAPE (r′ .place .start) (r′ .place .end) x) z)
+    sym (ap (λ (n : ℕ). refusal n (r′ .place .start) (r′ .place .end) (r′ .detail)) (c .match .keys5))
 
 returns-6 : tie.Need-returns-6
 unfolding numbers met-with

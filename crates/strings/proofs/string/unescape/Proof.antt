@@ -5,7 +5,7 @@ use Prim.Native.Nat.{_-_}
 use native.Mathlib.Omega.{arith}
 use lib.ListN.{length, length-replicate}
 use borrow.Author.Needs.{needs}
-use Rattle.strings.specs.Literals.{Quoted}
+use Rattle.strings.specs.Literals.{Quoted, BadEscape}
 use Rattle.strings.specs.Literals.Quoted.{end}
 use Rattle.strings.proofs.Walk.{Walked, start, same-size, ended, broke}
 use Rattle.strings.proofs.Steps.{coded, quoted-plain, quoted-escape, quoted-broken}
@@ -13,13 +13,13 @@ use Rattle.strings.proofs.string.unescape.Statement.{statement}
 use Rattle.strings.proofs.string.unescape.Tie as tie
 
 abbrev Inv-loop : tie.InvT-loop
-Inv-loop s out₀ i₀ n₀ out i n = Walked Quoted s out₀ i n out
+Inv-loop s out₀ i₀ n₀ out i n = Walked Quoted BadEscape s out₀ i n out
 
 abbrev μ-loop : tie.MeasureT-loop
 μ-loop s out₀ i₀ n₀ out i n = length s - i
 
 loop-holds : tie.Need-loop-holds Inv-loop μ-loop
-loop-holds c = start _ _ _
+loop-holds c = start _ _ _ _
 
 shared-slice-read-b : tie.Need-shared-slice-read-b Inv-loop μ-loop
 shared-slice-read-b c = search needs
@@ -59,13 +59,13 @@ clear-requires c κs = search needs
 same-length : tie.Need-same-length Inv-loop μ-loop
 same-length c =
     let walk = c .before .before .before .before .before .before .before .before .before .before .loop .inv in
-    ap length (c .before .before .clear .ensures) ∙ length-replicate _ 0 ∙ same-size _ _ _ walk
+    ap length (c .before .before .clear .ensures) ∙ length-replicate _ 0 ∙ same-size _ _ _ _ walk
 
 returns : tie.Need-returns Inv-loop μ-loop
 returns c =
     let turn = c .before .before .before .before .before .before .before .before .before in
     let found = rw (c .before .before .before .before .enum-told .given .1) at (c .before .before .before .before .before .before .escape-at .ensures) in
-    broke _ _ _ (turn .before .loop .inv) _ (c .before .before .clear .ensures)
+    broke _ _ _ _ (turn .before .loop .inv) _ (c .before .before .clear .ensures)
     (quoted-broken (turn .before .loop .inv) (turn .loop-test .taken) (c .before .before .before .before .before .before .before .if1 .left) found)
 
 put-code-requires : tie.Need-put-code-requires Inv-loop μ-loop
@@ -88,10 +88,10 @@ loop-again-2 c =
     quoted-escape (turn .before .loop .inv) (turn .loop-test .taken) _ _ _ _ (c .before .before .before .before .before .before .before .before .if1 .left) found (put .0) (put .1)
 
 same-length-2 : tie.Need-same-length-2 Inv-loop μ-loop
-same-length-2 c = same-size _ _ _ (c .before .loop .inv)
+same-length-2 c = same-size _ _ _ _ (c .before .loop .inv)
 
 returns-2 : tie.Need-returns-2 Inv-loop μ-loop
-returns-2 c = ended _ _ _ (c .before .loop .inv) (c .loop-test .left) end
+returns-2 c = ended _ _ _ _ (c .before .loop .inv) (c .loop-test .left) end
 
 pub unescape-spec : {M : Type 1} → statement M
 unescape-spec = tie.close (tie.spec Inv-loop μ-loop loop-holds shared-slice-read-b put-requires add-n add-i loop-less loop-again add-escape-at escape-at-requires enum-known-code enum-told clear-requires same-length returns put-code-requires loop-less-2 loop-again-2 same-length-2 returns-2)

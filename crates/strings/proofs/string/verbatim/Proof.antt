@@ -7,18 +7,18 @@ use borrow.Author.Needs.{needs}
 use Rattle.strings.specs.Literals.{Verbatim}
 use Rattle.strings.specs.Literals.Verbatim.{end}
 use Rattle.strings.proofs.Walk.{Walked, start, same-size, ended}
-use Rattle.strings.proofs.Steps.{verbatim-plain, verbatim-two, verbatim-one}
+use Rattle.strings.proofs.Steps.{Faultless, verbatim-plain, verbatim-two, verbatim-one}
 use Rattle.strings.proofs.string.verbatim.Statement.{statement}
 use Rattle.strings.proofs.string.verbatim.Tie as tie
 
 abbrev Inv-loop : tie.InvT-loop
-Inv-loop s quote out₀ i₀ n₀ out i n = Walked (Verbatim quote) s out₀ i n out
+Inv-loop s quote out₀ i₀ n₀ out i n = Walked (Verbatim quote) Faultless s out₀ i n out
 
 abbrev μ-loop : tie.MeasureT-loop
 μ-loop s quote out₀ i₀ n₀ out i n = length s - i
 
 loop-holds : tie.Need-loop-holds Inv-loop μ-loop
-loop-holds c = start _ _ _
+loop-holds c = start _ _ _ _
 
 sub-loop : tie.Need-sub-loop Inv-loop μ-loop
 sub-loop c = search needs
@@ -71,10 +71,10 @@ loop-again-3 c =
     verbatim-one (turn .before .loop .inv) (omega arith) _ (c .before .before .before .before .before .put .ensures) (c .before .before .if1 .left) next
 
 same-length : tie.Need-same-length Inv-loop μ-loop
-same-length c = same-size _ _ _ (c .before .loop .inv)
+same-length c = same-size _ _ _ _ (c .before .loop .inv)
 
 returns : tie.Need-returns Inv-loop μ-loop
-returns c = ended _ _ _ (c .before .loop .inv) (omega arith) end
+returns c = ended _ _ _ _ (c .before .loop .inv) (omega arith) end
 
 pub verbatim-spec : {M : Type 1} → statement M
 verbatim-spec = tie.close (tie.spec Inv-loop μ-loop loop-holds sub-loop shared-slice-read-b put-requires add-n add-i loop-less loop-again doubled-requires add-i-2 loop-less-2 loop-again-2 add-i-3 loop-less-3 loop-again-3 same-length returns)

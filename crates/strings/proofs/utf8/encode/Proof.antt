@@ -3,6 +3,7 @@
 use mathlib.Core.Logic.{inl, inr}
 use native.Mathlib.Omega.{arith}
 use Rattle.strings.specs.Utf8.{utf8, encoded}
+use Rattle.strings.specs.Decoding.{missing}
 use Rattle.strings.proofs.DecodingLaws.{decoded, cleared}
 use Rattle.strings.proofs.Utf8Laws.{no-surrogate, none-above, encodes-scalar}
 use borrow.Author.Needs.{needs}
@@ -30,7 +31,7 @@ same-length-2 c = search needs
 returns-2 : tie.Need-returns-2
 returns-2 c =
     let code = c .before .before .before .before .before .before .before .args .code in
-    cleared _ _ (λ t e. no-surrogate code (omega arith) (omega arith) (encodes-scalar e)) (c .before .before .clear .ensures)
+    cleared _ _ 0 (missing (λ t e. no-surrogate code (omega arith) (omega arith) (encodes-scalar e))) (c .before .before .clear .ensures)
 
 put-code-requires-2 : tie.Need-put-code-requires-2
 put-code-requires-2 c κs = search needs
@@ -53,7 +54,7 @@ same-length-4 c = search needs
 returns-4 : tie.Need-returns-4
 returns-4 c =
     let code = c .before .before .before .before .before .before .before .before .args .code in
-    cleared _ _ (λ t e. none-above code (omega arith) (encodes-scalar e)) (c .before .before .clear2 .ensures)
+    cleared _ _ 0 (missing (λ t e. none-above code (omega arith) (encodes-scalar e))) (c .before .before .clear2 .ensures)
 
 pub encode-spec : {M : Type 1} → statement M
 encode-spec =
