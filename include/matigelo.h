@@ -32,6 +32,7 @@ extern "C" {
    10  a block without a text                      the literal
    11  deeper than 200                             the one that stands there
    12  a tree, but its image has no room           length that is needed
+   17  a number that no double holds               the literal
 
    start and end are bytes of the source, counted from 0. */
 typedef struct {

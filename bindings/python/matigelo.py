@@ -46,6 +46,7 @@ NUMBERS = {
     10: "a text block does not decode",
     11: "phrases would nest 201 deep",
     12: "the image is longer than the output",
+    17: "a number is more than a double holds",
 }
 
 # The records, as README.md's table has them: tag, name, the parts of the payload, and how many children these tell of. A part is NAME:SORT; sorts are

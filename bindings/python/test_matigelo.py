@@ -30,7 +30,7 @@ class Answers(unittest.TestCase):
                     trees += 1
                 seen += 1
         self.assertGreater(seen, 1_500)
-        self.assertGreater(trees, 500)
+        self.assertGreater(trees, 400)
 
     def test_null_with_length_0(self) -> None:
         numbers = (ctypes.c_uint64 * 5)()

@@ -97,6 +97,7 @@ numbers! {
     10 Block "a text block does not decode"
     11 Deep "phrases would nest 201 deep"
     12 Room "the image is longer than the output"
+    17 Large "a number is more than a double holds"
 }
 
 /// A source that has no tree, or whose image has no room.

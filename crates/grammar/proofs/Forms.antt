@@ -8,7 +8,6 @@ use lib.Dec.{T}
 use Rattle.strings.specs.Utf8.{Utf8}
 use Rattle.lexemes.specs.Kinds.{L-BRACK, R-BRACK, L-PAREN, R-PAREN, L-BRACE, R-BRACE, COLON, SEMI, DOT, COMMA, QUESTION-MARK, TAILSTRICT-KW, LOCAL-KW}
 use Rattle.lexemes.specs.Kinds.{IF-KW, THEN-KW, ELSE-KW, FUNCTION-KW, ERROR-KW, NULL-KW, TRUE-KW, FALSE-KW, FOR-KW}
-use Rattle.lexemes.specs.Texts.{Numeral}
 use Rattle.grammar.specs.Tags.{IDENTITY, NULL, BOOL, NUMBER, STRING, VARIABLE, ARRAY, ARRAY-COMP, MEMBERS, OBJECT-COMP, EXTENSION, PREFIX}
 use Rattle.grammar.specs.Tags.{INFIX, ASSERT-EXPR, LOCAL, IMPORT, ERROR, CALL, INDEX-PART, FUNCTION, IF, SLICE}
 use Rattle.grammar.specs.Trees.{Field, byte, number, span, text, Trees, node, tree, _⊕_, count}
@@ -16,7 +15,7 @@ use Rattle.grammar.specs.Trees as trees
 use Rattle.grammar.specs.Lexemes.{Lexeme, said}
 use Rattle.grammar.specs.Productions.{exp-null-coaelse}
 use Rattle.grammar.specs.Reading.{has}
-use Rattle.grammar.specs.Words.{NameText}
+use Rattle.grammar.specs.Words.{NameText, NumberText}
 use Rattle.grammar.specs.Spells.{lexeme, worded, greedily, Perhaps, Quoted, Open, Spells, Category as C}
 use Rattle.grammar.specs.Records.{Sort, Spans, Has, Part}
 use Rattle.grammar.proofs.ImageLaws.{row-assoc, count-row}
@@ -45,7 +44,7 @@ module _ {prefix s : ℕ} where
   bool (suc zero) h = record { stretch = tok TRUE-KW tt; levels = 0; spell = λ d le ys f. Spells.true lexeme }
   bool (suc (suc f)) h = absurd (omega arith)
 
-  pub a-number : {w : List ℕ} → Numeral w → Operand prefix s (tree NUMBER (text w ∷ []) trees.none)
+  pub a-number : {w : List ℕ} → NumberText w → Operand prefix s (tree NUMBER (text w ∷ []) trees.none)
   unfolding said
   a-number {w} h = record { stretch = numbered w h; levels = 0; spell = λ d le ys f. Spells.numeral worded }
 

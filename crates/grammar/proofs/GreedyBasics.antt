@@ -2,14 +2,14 @@
 -- Assumes nothing.
 use mathlib.Core.Path.{_≡_, refl, ap, subst}
 use mathlib.Core.Bool.{Bool, _&&_, not}
-use mathlib.Core.List.{[], _∷_}
+use mathlib.Core.List.{List, [], _∷_}
 use Prim.Native.Nat.{ℕ}
 use lib.Dec.{T, T-not, eqb, eqb→eq}
 use Rattle.lexemes.specs.Kinds.{PLUS, MINUS, NOT, BIT-NOT, L-BRACK, R-BRACK, L-PAREN, R-PAREN, COLON, SEMI, COMMA, FLOAT, IDENT}
 use Rattle.lexemes.specs.Kinds.{LOCAL-KW, IF-KW, THEN-KW, ELSE-KW, FUNCTION-KW, ERROR-KW, NULL-KW, TRUE-KW, FALSE-KW, FOR-KW}
 use Rattle.grammar.specs.Tags.{IDENTITY, NULL, BOOL, NUMBER, VARIABLE, ARRAY, ARRAY-COMP, ASSERT-EXPR, LOCAL, IMPORT, ERROR, FUNCTION, IF}
 use Rattle.grammar.specs.Trees.{byte, number, span, text, Trees, none, tree, _⊕_, count}
-use Rattle.grammar.specs.Lexemes.{Said, good, said, rest, kind-of}
+use Rattle.grammar.specs.Lexemes.{Said, says, good, said, rest, kind-of}
 use Rattle.grammar.specs.Productions.{Phrase, end, goto, rule}
 use Rattle.grammar.specs.Reading.{has, choose, view, production}
 use Rattle.grammar.specs.Spells.{Lexemes, _is_saying_then_, worded, _is_then_, lexeme, Perhaps, Quoted, Identity, Import, greedily}
@@ -96,7 +96,7 @@ module _ {G : Under} where
   unfolding Begins production choose rule view has good said count _⊕_
   a-false lexeme = begins-so tt refl (λ p. finish (leafs lexeme (λ r. stay (alike-tree (same refl ⋆ nil) no-trees))))
 
-  pub a-numeral : {v : Said} {xs ys : Lexemes} → xs is FLOAT saying v then ys → BasicRead G xs (tree NUMBER (text (said v) ∷ []) none) ys
+  pub a-numeral : {w : List ℕ} {xs ys : Lexemes} → xs is FLOAT saying says w then ys → BasicRead G xs (tree NUMBER (text w ∷ []) none) ys
   unfolding Begins production choose rule view has good said count _⊕_
   a-numeral worded = begins-so tt refl (λ p. finish (leafs lexeme (λ r. stay (alike-tree (same refl ⋆ nil) no-trees))))
 

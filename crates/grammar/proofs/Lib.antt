@@ -20,6 +20,7 @@ pub mod Room
 pub mod Source
 pub mod Ranges
 pub mod Marked
+pub mod Beyond
 pub mod Shut
 pub mod LayoutLaws
 pub mod Alike

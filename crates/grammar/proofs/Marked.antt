@@ -25,6 +25,9 @@ use Rattle.lexemes.specs.Kept as lexemes
 use Rattle.lexemes.specs.Rules.{rules}
 use Rattle.lexemes.specs.Letters.{letter, next}
 use Rattle.lexemes.proofs.Munch.{Lexed, all, lex, lexed, munch, munched-ruled}
+use Rattle.numerals.specs.Value.{TooLarge}
+use Rattle.numerals.specs.Inner.{Says as Judges}
+use Rattle.numerals.proofs.Always.{is-too-large, says-too-large}
 use Rattle.lexemes.specs.Texts.{plain}
 use Rattle.grammar.specs.Trees.{Trees, none, _⊕_, count}
 use Rattle.grammar.specs.Image.{image, entry, payload}
@@ -54,9 +57,14 @@ low-utf8 (b ∷ s) h =
     let x : In 0x00 0x7F b = omega (arith, ltb→lt b 0x80 (and-left (ltb b 0x80) (low s) h)) in
     unicode.Utf8.more (row-00-7F x) (low-utf8 s (and-right (ltb b 0x80) (low s) h))
 
+-- what a number says
+unfoldable pub number-at : List ℕ → Said
+number-at t = elim (is-too-large t) [ true ↦ nothing | false ↦ says t ]
+
 -- what names and numbers say; any other kind says nothing, if it is no string
 unfoldable pub word-at : List ℕ → ℕ → ℕ → ℕ → Said
-word-at s k a e = elim (eqb k IDENT) [ true ↦ says (slice a e s) | false ↦ elim (eqb k FLOAT) [ true ↦ says (plain (slice a e s)) | false ↦ nothing ] ]
+unfolding number-at is-too-large
+word-at s k a e = elim (eqb k IDENT) [ true ↦ says (slice a e s) | false ↦ elim (eqb k FLOAT) [ true ↦ number-at (plain (slice a e s)) | false ↦ nothing ] ]
 
 unfoldable pub no-string : ℕ → Bool
 no-string k = not (eqb k STRING-DOUBLE) && (not (eqb k STRING-SINGLE) && (not (eqb k STRING-DOUBLE-VERBATIM) && (not (eqb k STRING-SINGLE-VERBATIM) && not (eqb k STRING-BLOCK))))
@@ -67,6 +75,17 @@ not-eqb a b h e = by (eqb a b) refl h
     by : (t : Bool) → eqb a b ≡ t → T (not t) → ⊥
     by true q h = h
     by false q h = eqb-false a b q e
+
+number-word : (s : List ℕ) (a e : ℕ) → Says s FLOAT a e (number-at (plain (slice a e s)))
+unfolding number-at
+number-word s a e = by (is-too-large (plain (slice a e s))) (says-too-large (plain (slice a e s)))
+  where
+    back : (w : List ℕ) → says-of.Means s FLOAT a e w → TooLarge (plain (slice a e s)) → ⊥
+    back w (says-of.Means.number n) = n
+
+    by : (r : Bool) → Judges r (TooLarge (plain (slice a e s))) → Says s FLOAT a e (elim r [ true ↦ nothing | false ↦ says (plain (slice a e s)) ])
+    by true l = no-text (λ w m. back w m l) (no-spoils (λ q. omega arith) (λ q. omega arith))
+    by false n = its-text (says-of.Means.number n)
 
 word-says : (s : List ℕ) (k a e : ℕ) → T (no-string k) → Says s k a e (word-at s k a e)
 unfolding word-at no-string
@@ -87,9 +106,9 @@ word-says s k a e h = by (eqb k IDENT) refl (eqb k FLOAT) refl
     E : Bool
     E = not (eqb k STRING-BLOCK)
 
-    by : (t : Bool) → eqb k IDENT ≡ t → (u : Bool) → eqb k FLOAT ≡ u → Says s k a e (elim t [ true ↦ says (slice a e s) | false ↦ elim u [ true ↦ says (plain (slice a e s)) | false ↦ nothing ] ])
+    by : (t : Bool) → eqb k IDENT ≡ t → (u : Bool) → eqb k FLOAT ≡ u → Says s k a e (elim t [ true ↦ says (slice a e s) | false ↦ elim u [ true ↦ number-at (plain (slice a e s)) | false ↦ nothing ] ])
     by true q u r = rw (eqb-true k IDENT q) (its-text says-of.Means.name)
-    by false q true r = rw (eqb-true k FLOAT r) (its-text says-of.Means.number)
+    by false q true r = rw (eqb-true k FLOAT r) (number-word s a e)
     by false q false r =
         let h₁ = and-right A (B && (C && (D && E))) h in
         let h₂ = and-right B (C && (D && E)) h₁ in

@@ -5,7 +5,7 @@ use mathlib.Core.Bool.{Bool, true, false, not, _&&_, _||_}
 use mathlib.Core.List.{List, [], _∷_, _++_, append-nil}
 use Prim.Native.Nat.{ℕ, zero, suc, _+_, _-_, _≤_, _<_}
 use native.Mathlib.Omega.{arith}
-use lib.Dec.{T, eqb, eqb→eq, eqb-refl, leb, leb→le, ltb}
+use lib.Dec.{T, T-not, eqb, eqb→eq, eqb-refl, leb, leb→le, ltb}
 use lib.ListN.{length, take, drop}
 use lib.Seq.{slice}
 use Rattle.strings.specs.Utf8.{Utf8, Character}
@@ -18,11 +18,11 @@ use Rattle.lexemes.specs.Kept as lexemes
 use Rattle.lexemes.proofs.KeptLaws.{Rest, kept-step}
 use Rattle.lexemes.proofs.TextLaws.{ident-is-identifier, float-is-numeral, double-decodes-utf8, single-decodes-utf8, double-verbatim-decodes-utf8}
 use Rattle.lexemes.proofs.TextLaws.{single-verbatim-decodes-utf8, block-decodes-utf8}
-use Rattle.grammar.specs.Lexemes.{Said, says, nothing, said, Lexeme, rest, kind-of, word-of}
+use Rattle.grammar.specs.Lexemes.{Said, says, nothing, good, said, Lexeme, rest, kind-of, word-of}
 use Rattle.grammar.specs.Says.{Means, name, number, double, single, double-verbatim, single-verbatim, block, in-double, in-single, Says, its-text, its-escape, no-text, Told}
 use Rattle.grammar.specs.Source.{Kept, kept}
 use Rattle.grammar.specs.Spells as spells
-use Rattle.grammar.specs.Words.{NameText, Possible, Worded}
+use Rattle.grammar.specs.Words.{NameText, NumberText, Possible, Worded}
 use Rattle.grammar.proofs.Chosen.{and-left, and-right}
 
 -- ── Names and numerals are UTF-8 ──────────────────────────────────────────────────────────────────
@@ -106,9 +106,9 @@ numeral-utf8 (numeral {w} {f} {e} x y z) = whole-utf8 (f ++ e) x (fraction-utf8 
 pub is-kind : {k j : ℕ} → k ≡ j → T (eqb k j)
 is-kind {k} e = subst (λ (i : ℕ). T (eqb k i)) e (eqb-refl k)
 
--- Kinds that may say nothing: all but names and numbers.
+-- Kinds that may say nothing: all but names.
 abbrev pub wordless : ℕ → Bool
-wordless k = not (eqb k IDENT || eqb k FLOAT)
+wordless k = not (eqb k IDENT)
 
 pub not-either : (a b : Bool) → T (not (a || b)) → (T a → ⊥) × (T b → ⊥)
 not-either true b h = absurd h
@@ -116,38 +116,43 @@ not-either false true h = absurd h
 not-either false false h = ((λ t. t), (λ t. t))
 
 pub silent : (k : ℕ) → T (wordless k) → Possible k nothing
-silent k h = let n = not-either (eqb k IDENT) (eqb k FLOAT) h in Possible.silent {k = k} (λ e. n .0 (is-kind e)) (λ e. n .1 (is-kind e))
+silent k h = Possible.silent {k = k} (λ e. T-not (eqb k IDENT) h (is-kind e))
 
-literal-wordless : {k : ℕ} → spells.Quoted k → T (wordless k)
-literal-wordless spells.Quoted.double = tt
-literal-wordless spells.Quoted.single = tt
-literal-wordless spells.Quoted.double-verbatim = tt
-literal-wordless spells.Quoted.single-verbatim = tt
-literal-wordless spells.Quoted.block = tt
+-- A string is neither a name nor a number.
+literal-neither : {k : ℕ} → spells.Quoted k → T (not (eqb k IDENT || eqb k FLOAT))
+literal-neither spells.Quoted.double = tt
+literal-neither spells.Quoted.single = tt
+literal-neither spells.Quoted.double-verbatim = tt
+literal-neither spells.Quoted.single-verbatim = tt
+literal-neither spells.Quoted.block = tt
 
 pub a-text : {k : ℕ} {v : Said} → Possible k v → Utf8 (said v)
 unfolding said
 a-text (Possible.name n) = name-utf8 n
-a-text (Possible.numeral n) = numeral-utf8 n
+a-text (Possible.numeral n) = numeral-utf8 (n .numeral)
 a-text (Possible.string q u) = u
 a-text (Possible.spoiled q) = Utf8.none
-a-text (Possible.silent n m) = Utf8.none
+a-text (Possible.silent n) = Utf8.none
 
 pub a-name : {k : ℕ} {v : Said} → Possible k v → T (eqb k IDENT) → NameText (said v)
 unfolding said
 a-name (Possible.name n) t = n
 a-name (Possible.numeral n) t = absurd t
-a-name (Possible.string {k} q u) t = absurd (not-either (eqb k IDENT) (eqb k FLOAT) (literal-wordless q) .0 t)
-a-name (Possible.spoiled {k} q) t = absurd (not-either (eqb k IDENT) (eqb k FLOAT) (literal-wordless q) .0 t)
-a-name (Possible.silent {k} n m) t = absurd (n (eqb→eq k IDENT t))
+a-name (Possible.string {k} q u) t = absurd (not-either (eqb k IDENT) (eqb k FLOAT) (literal-neither q) .0 t)
+a-name (Possible.spoiled {k} q) t = absurd (not-either (eqb k IDENT) (eqb k FLOAT) (literal-neither q) .0 t)
+a-name (Possible.silent {k} n) t = absurd (n (eqb→eq k IDENT t))
 
-pub a-numeral : {k : ℕ} {v : Said} → Possible k v → T (eqb k FLOAT) → Numeral (said v)
-unfolding said
-a-numeral (Possible.name n) t = absurd t
-a-numeral (Possible.numeral n) t = n
-a-numeral (Possible.string {k} q u) t = absurd (not-either (eqb k IDENT) (eqb k FLOAT) (literal-wordless q) .1 t)
-a-numeral (Possible.spoiled {k} q) t = absurd (not-either (eqb k IDENT) (eqb k FLOAT) (literal-wordless q) .1 t)
-a-numeral (Possible.silent {k} n m) t = absurd (m (eqb→eq k FLOAT t))
+pub a-numeral : {k : ℕ} {v : Said} → Possible k v → T (eqb k FLOAT) → T (good v) → NumberText (said v)
+unfolding said good
+a-numeral (Possible.name n) t g = absurd t
+a-numeral (Possible.numeral n) t g = n
+a-numeral (Possible.string {k} q u) t g = absurd (not-either (eqb k IDENT) (eqb k FLOAT) (literal-neither q) .1 t)
+a-numeral (Possible.spoiled {k} q) t g = absurd g
+a-numeral (Possible.silent {k} n) t g = absurd g
+
+pub said-numeral : {k : ℕ} {w : List ℕ} → Possible k (says w) → T (eqb k FLOAT) → NumberText w
+unfolding said good
+said-numeral p t = a-numeral p t tt
 
 -- The next lexeme, and those after it; with none left it is EOF, which says nothing.
 pub next-possible : {xs : List Lexeme} → Worded xs → Possible (kind-of xs) (word-of xs)
@@ -171,13 +176,13 @@ slice-part (suc a) (suc e) [] = sym (take-nil (suc e - suc a))
 slice-part (suc a) (suc e) (x ∷ s) = let q : e - a ≡ suc e - suc a = omega arith in slice-part a e s ∙ ap (λ (n : ℕ). take n (drop a s)) q
 
 module _ {s : List ℕ} (u : Utf8 s) where
-  -- A text that it has is possible; and an identifier or a number has one.
+  -- A text that it has is possible; and an identifier has one.
   meant : {k a e : ℕ} {w : List ℕ} → a < length s → LexemeAt s a (record { kind = k; start = a; end = e }) → Means s k a e w → Possible k (says w)
   meant {a = a} {e = e} h d name =
       let n = ident-is-identifier s h d refl in
       subst (λ (w : List ℕ). Possible IDENT (says w)) (sym (slice-part a e s)) (Possible.name (record { identifier = n .0; no-keyword = n .1 }))
-  meant {a = a} {e = e} h d number =
-      subst (λ (w : List ℕ). Possible FLOAT (says (plain w))) (sym (slice-part a e s)) (Possible.numeral (float-is-numeral s h d refl))
+  meant {a = a} {e = e} h d (number n) =
+      Possible.numeral (record { numeral = subst (λ (w : List ℕ). Numeral (plain w)) (sym (slice-part a e s)) (float-is-numeral s h d refl); in-range = n })
   meant {a = a} {e = e} {w = w} h d (double q) =
       Possible.string spells.Quoted.double (double-decodes-utf8 s u h d refl (subst (λ (l : List ℕ). Quoted l w) (slice-part (a + 1) (e - 1) s) q))
   meant {a = a} {e = e} {w = w} h d (single q) =
@@ -196,7 +201,6 @@ module _ {s : List ℕ} (u : Utf8 s) where
   possible h d (its-escape (in-single x)) = Possible.spoiled spells.Quoted.single
   possible {k} {a} {e} h d (no-text n m) =
       Possible.silent (λ q. n (slice a e s) (subst (λ (j : ℕ). Means s j a e (slice a e s)) (sym q) name))
-      (λ q. n (plain (slice a e s)) (subst (λ (j : ℕ). Means s j a e (plain (slice a e s))) (sym q) number))
 
   worded : {at : ℕ} {ranges : List Range} {xs : List Lexeme} → lexemes.Kept s at ranges → Told s ranges xs → Worded xs
   worded k Told.none = Worded.none

@@ -43,7 +43,7 @@ plain-short (b ∷ s) = by (eqb b 0x5F) (plain-short s)
 -- A text has no more bytes than its lexeme. Of a block this needs that it is a good one.
 means-short : {s : List ℕ} {k a e : ℕ} {w : List ℕ} → a < e → e ≤ length s → (k ≡ STRING-BLOCK → BlockAt s (a + 3) (Good e)) → Means s k a e w → length w ≤ e - a
 means-short {s} {k} {a} {e} h g b name = omega (arith, length-slice a e s g)
-means-short {s} {k} {a} {e} h g b number = omega (arith, plain-short (slice a e s), length-slice a e s g)
+means-short {s} {k} {a} {e} h g b (number n) = omega (arith, plain-short (slice a e s), length-slice a e s g)
 means-short {s} {k} {a} {e} h g b (double m) = omega (arith, quoted-short m, length-slice (a + 1) (e - 1) s (omega arith))
 means-short {s} {k} {a} {e} h g b (single m) = omega (arith, quoted-short m, length-slice (a + 1) (e - 1) s (omega arith))
 means-short {s} {k} {a} {e} h g b (double-verbatim m) = omega (arith, verbatim-short m, length-slice (a + 2) (e - 1) s (omega arith))

@@ -269,23 +269,23 @@ module _ (prefix : ℕ) where
                 (
                   (λ t. omega arith),
                   (
-                    (λ t. (let l = some FLOAT tt (eqb→eq (v .kind) FLOAT t) in (l, omega arith))),
+                    (λ t. (let l = some FLOAT tt (eqb→eq (v .kind) FLOAT (and-left (eqb (v .kind) FLOAT) (good (v .says)) t)) in (l, omega arith))),
                     (
-                      (λ t. (tt, (λ l. (0, Spares.nothing, (tt, omega arith))))),
+                      (λ t. tt),
                       (
-                        (λ t. (tt, (λ l. omega arith))),
+                        (λ t. (tt, (λ l. (0, Spares.nothing, (tt, omega arith))))),
                         (
-                          (λ t. (tt, (λ l. (0, Spares.nothing, (tt, omega arith))))),
+                          (λ t. (tt, (λ l. omega arith))),
                           (
-                            (λ t. (tt, (λ l. omega arith))),
+                            (λ t. (tt, (λ l. (0, Spares.nothing, (tt, omega arith))))),
                             (
-                              (λ t. (tt, (λ l. (0, Spares.nothing, (tt, (0, Spares.nothing, omega arith)))))),
+                              (λ t. (tt, (λ l. omega arith))),
                               (
-                                (λ t. (tt, (λ l. (tt, (0, Spares.nothing, (tt, omega arith)))))),
+                                (λ t. (tt, (λ l. (0, Spares.nothing, (tt, (0, Spares.nothing, omega arith)))))),
                                 (
-                                  (λ t. (0, Spares.nothing, (tt, (0, Spares.nothing, omega arith)))),
+                                  (λ t. (tt, (λ l. (tt, (0, Spares.nothing, (tt, omega arith)))))),
                                   (
-                                    (λ t. (tt, (λ l. (0, Spares.nothing, omega arith)))),
+                                    (λ t. (0, Spares.nothing, (tt, (0, Spares.nothing, omega arith)))),
                                     (
                                       (λ t. (tt, (λ l. (0, Spares.nothing, omega arith)))),
                                       (
@@ -293,8 +293,11 @@ module _ (prefix : ℕ) where
                                         (
                                           (λ t. (tt, (λ l. (0, Spares.nothing, omega arith)))),
                                           (
-                                            (λ t. (let l = some IDENT tt (eqb→eq (v .kind) IDENT t) in (l, omega arith))),
-                                            tt,
+                                            (λ t. (tt, (λ l. (0, Spares.nothing, omega arith)))),
+                                            (
+                                              (λ t. (let l = some IDENT tt (eqb→eq (v .kind) IDENT t) in (l, omega arith))),
+                                              tt,
+                                            ),
                                           ),
                                         ),
                                       ),
@@ -594,7 +597,7 @@ module _ (prefix : ℕ) where
     light (call-close a u n) held = omega arith
     light (call-end a u n) held = ((omega arith, omega arith), (omega arith, omega arith))
     light named-argument held = (omega arith, (omega arith, tt))
-    light basic held = ((omega arith, tt), ((omega arith, tt), ((omega arith, tt), ((omega arith, tt), ((omega arith, tt), ((omega arith, tt), (omega arith, ((omega arith, tt), ((omega arith, tt), (omega arith, ((omega arith, tt), (omega arith, ((omega arith, (omega arith, omega arith)), ((omega arith, omega arith), ((omega arith, (omega arith, (omega arith, tt))), ((omega arith, (omega arith, tt)), ((omega arith, (omega arith, tt)), ((omega arith, (omega arith, tt)), ((omega arith, (omega arith, tt)), ((omega arith, tt), tt))))))))))))))))))))
+    light basic held = ((omega arith, tt), ((omega arith, tt), ((omega arith, tt), ((omega arith, tt), ((omega arith, tt), ((omega arith, tt), (omega arith, ((omega arith, tt), (tt, ((omega arith, tt), (omega arith, ((omega arith, tt), (omega arith, ((omega arith, (omega arith, omega arith)), ((omega arith, omega arith), ((omega arith, (omega arith, (omega arith, tt))), ((omega arith, (omega arith, tt)), ((omega arith, (omega arith, tt)), ((omega arith, (omega arith, tt)), ((omega arith, (omega arith, tt)), ((omega arith, tt), tt)))))))))))))))))))))
     light string held = ((omega arith, tt), (tt, tt))
     light array held = ((omega arith, tt), (omega arith, omega arith))
     light array-first held = (omega arith, (omega arith, omega arith))

@@ -12,7 +12,7 @@ use Rattle.grammar.specs.Says.{Means, Spoils, in-double, in-single, Says
 
 pub means-once : {s : List ℕ} {k a e : ℕ} {w w′ : List ℕ} → Means s k a e w → Means s k a e w′ → w ≡ w′
 means-once Means.name Means.name = refl
-means-once Means.number Means.number = refl
+means-once (Means.number n) (Means.number m) = refl
 means-once (Means.double x) (Means.double y) = quoted-once x y
 means-once (Means.single x) (Means.single y) = quoted-once x y
 means-once (Means.double-verbatim x) (Means.double-verbatim y) = verbatim-once x y

@@ -9,8 +9,8 @@ use lib.Dec.{T, leb, leb→le, eqb, eqb→eq}
 use lib.ListN.{length, length-append}
 use Rattle.grammar.specs.Tags.{OBJECT-COMP, BIND, FIELD}
 use Rattle.grammar.specs.Trees.{Field, byte, number, span, text, count}
-use Rattle.lexemes.specs.Kinds.{L-BRACK, R-BRACK, COLON, IDENT, STRING-DOUBLE, STRING-SINGLE, STRING-DOUBLE-VERBATIM, STRING-SINGLE-VERBATIM, STRING-BLOCK}
-use Rattle.grammar.specs.Lexemes.{said}
+use Rattle.lexemes.specs.Kinds.{L-BRACK, R-BRACK, COLON, FLOAT, IDENT, STRING-DOUBLE, STRING-SINGLE, STRING-DOUBLE-VERBATIM, STRING-SINGLE-VERBATIM, STRING-BLOCK}
+use Rattle.grammar.specs.Lexemes.{good, said}
 use Rattle.grammar.specs.Productions.{Phrase, goto, _▸_, sub, View, four-are, is-string, with-field, with-member, rule, Sign, sign, signs, sign-rows, Operator, op, operators}
 use Rattle.grammar.specs.Productions.{operator-rows, expr, infix-tail, suffixed, suffix, null-safe, null-safe-index, bracket, member-name}
 use Rattle.grammar.specs.Productions.{null-safe-end, index-or-slice, slice-end, slice-ended, slice-step, slice-stepped, arguments, argument}
@@ -236,7 +236,8 @@ module _ (prefix : ℕ) where
         (λ t. (Sort.expression, Form.r3 1≤1, fits-append f one)) also
         (λ t. (Sort.expression, Form.r3 0≤1, fits-append f one)) also
         (λ t. ((λ p le. f), (λ τs y. as-expression y))) also
-        (λ t. (Sort.expression, Form.r4 (a-numeral w t), fits-append f one)) also
+        (λ t. (Sort.expression, Form.r4 (a-numeral w (and-left (eqb (v .kind) FLOAT) (good (v .says)) t) (and-right (eqb (v .kind) FLOAT) (good (v .says)) t)), fits-append f one)) also
+        (λ t. tt) also
         (λ t. ((λ p le. Fits.none), (λ τs x. fits-append f x))) also
         (λ t. ((λ p le. f), (λ τs y. y))) also
         (λ t. ((λ p le. Fits.none), (λ τs x. fits-append f (object-expression x)))) also

@@ -19,8 +19,11 @@ use Rattle.blocks.specs.declared.Block.{Block}
 use Rattle.blocks.specs.declared.Block.the-variants.{Good, UnexpectedEnd, MissingNewLine, MissingTermination, MissingIndent}
 use Rattle.blocks.proofs.Laws.{good-decodes, text-is-good}
 use Rattle.blocks.proofs.Always.{block-always}
+use Rattle.numerals.specs.Value.{TooLarge}
+use Rattle.numerals.proofs.Always.{too-large-or-not}
 use Rattle.lexemes.specs.declared.Lexeme.{Lexeme as Range}
 use Rattle.lexemes.specs.Kinds.{EOF, FLOAT, IDENT, STRING-DOUBLE, STRING-SINGLE, STRING-DOUBLE-VERBATIM, STRING-SINGLE-VERBATIM, STRING-BLOCK}
+use Rattle.lexemes.specs.Texts.{plain}
 use Rattle.lexemes.specs.Lexeme.{lexeme}
 use Rattle.lexemes.specs.Kept.{FirstBad, firstBad, oneOf}
 use Rattle.lexemes.specs.Kept as lexemes
@@ -45,6 +48,16 @@ module _ (s : List ℕ) (a e : ℕ) where
       by (inl q) = (says (q .0), its-text (text (q .0) (q .1)))
       by (inr q) = (spoiled (q .0), its-escape (escape (q .0) (q .1)))
 
+  number-says : (w : Said) × Says s FLOAT a e w
+  number-says = by (too-large-or-not (plain (slice a e s)))
+    where
+      back : (w : List ℕ) → Means s FLOAT a e w → TooLarge (plain (slice a e s)) → ⊥
+      back w (number n) = n
+
+      by : Dec (TooLarge (plain (slice a e s))) → (w : Said) × Says s FLOAT a e w
+      by (yes l) = (nothing, no-text (λ w m. back w m l) (no-spoils (λ q. omega arith) (λ q. omega arith)))
+      by (no n) = (_, its-text (number n))
+
   block-back : (w : List ℕ) → Means s STRING-BLOCK a e w → BlockText (drop (a + 3) s) w
   block-back w (block q) = q
 
@@ -64,7 +77,7 @@ module _ (s : List ℕ) (a e : ℕ) where
   pub no-meaning : (k : ℕ) → (k ≡ IDENT → ⊥) → (k ≡ FLOAT → ⊥) → (k ≡ STRING-DOUBLE → ⊥) → (k ≡ STRING-SINGLE → ⊥) → (k ≡ STRING-DOUBLE-VERBATIM → ⊥) → (k ≡ STRING-SINGLE-VERBATIM → ⊥)
       → (k ≡ STRING-BLOCK → ⊥) → (w : List ℕ) → Means s k a e w → ⊥
   no-meaning k p q r t u v x w name = p refl
-  no-meaning k p q r t u v x w number = q refl
+  no-meaning k p q r t u v x w (number n) = q refl
   no-meaning k p q r t u v x w (double y) = r refl
   no-meaning k p q r t u v x w (single y) = t refl
   no-meaning k p q r t u v x w (double-verbatim y) = u refl
@@ -79,7 +92,7 @@ module _ (s : List ℕ) (a e : ℕ) where
       by : Dec (k ≡ IDENT) → Dec (k ≡ FLOAT) → Dec (k ≡ STRING-DOUBLE) → Dec (k ≡ STRING-SINGLE) → Dec (k ≡ STRING-DOUBLE-VERBATIM) → Dec (k ≡ STRING-SINGLE-VERBATIM) → Dec (k ≡ STRING-BLOCK)
           → (w : Said) × Says s k a e w
       by (yes q) f g h i j m = rw q (_, its-text name)
-      by (no p) (yes q) g h i j m = rw q (_, its-text number)
+      by (no p) (yes q) g h i j m = rw q number-says
       by (no p) (no f) (yes q) h i j m = rw q (quoted-says STRING-DOUBLE (λ w x. double x) (λ n x. in-double x))
       by (no p) (no f) (no g) (yes q) i j m = rw q (quoted-says STRING-SINGLE (λ w x. single x) (λ n x. in-single x))
       by (no p) (no f) (no g) (no h) (yes q) j m = rw q (_, its-text (double-verbatim (verbatim-always 0x22 (slice (a + 2) (e - 1) s) .1)))

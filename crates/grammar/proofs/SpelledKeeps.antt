@@ -24,7 +24,7 @@ use Rattle.grammar.proofs.SpelledSuffixes.{no-arguments, positional, by
 use Rattle.grammar.proofs.SpelledSuffixes.{bracketed, indexed, stepping, called}
 use Rattle.grammar.proofs.SpelledMembers.{spells-array-comprehension, each-members, last-members, member-comma, a-local-member}
 use Rattle.grammar.proofs.SpelledMembers.{an-assert-member, a-field-member, to-clauses, spells-object-comprehension, spells-field, with-params, spells-value}
-use Rattle.grammar.proofs.SpelledMembers.{spells-function, with-key, spells-iteration, add-guard, braced, extend, spells-literal}
+use Rattle.grammar.proofs.SpelledMembers.{spells-function, with-key, spells-iteration, add-guard, braced, extend, spells-literal, spells-numeral}
 use Rattle.grammar.proofs.SpelledMembers.{comprehending, comprehended, each-local, inside, headed, headed-method, a-name, iffed}
 use Rattle.grammar.proofs.SpelledMembers.{functioned, header, visible, guarded}
 use Rattle.grammar.proofs.SpelledPatterns.{deeper, drops, keeps-name, spells-array-pattern, no-ends, shut-ends, open-ends, comma-ends, add-end}
@@ -140,7 +140,8 @@ module _ (R : Rules) where
         (λ n4. if-fits (λ t h. one (Spells.true (seen′ xs tt t)) refl)
         (λ n5. if-fits (λ t h. one (Spells.false (seen′ xs tt t)) refl)
         (λ n6. if-fits (λ t h. ((quoted-kind (kind-of xs) t, fresh), (λ us ys a. a-string R a)))
-        (λ n7. if-fits (λ t h. one (Spells.numeral (seen xs tt t)) refl)
+        (λ n7. if-fits (λ t h. one (spells-numeral R xs t) refl)
+        (λ n8′. if-fits (λ t h. tt)
         (λ n8. if-fits (λ t h. (tt, (λ k. ((λ d. fresh), (λ us ys a. (tt, (λ j. one (Spells.parens k (inner a) j) (just R (entered a)))))))))
         (λ n9. if-fits (λ t h. (tt, (λ k. (opened k, (λ us ys y. y)))))
         (λ n10. if-fits (λ t h. (tt, (λ k. (fresh, (λ us ys a. (tt, (λ j. braced R k a j)))))))
@@ -161,7 +162,7 @@ module _ (R : Rules) where
         (λ n16. if-fits (λ t h. (tt, (λ k. ((λ d. fresh), (λ us ys a. one (Spells.import Import.importstr k (inner a)) refl)))))
         (λ n17. if-fits (λ t h. (tt, (λ k. ((λ d. fresh), (λ us ys a. one (Spells.import Import.importbin k (inner a)) refl)))))
         (λ n18. if-fits (λ t h. (tt, (λ k. ((λ d. fresh), (λ us ys a. one (Spells.import Import.import k (inner a)) refl)))))
-        (λ n19. if-fits (λ t h. one (Spells.variable (seen xs tt t)) refl) (λ n20. tt))))))))))))))))))))
+        (λ n19. if-fits (λ t h. one (Spells.variable (seen xs tt t)) refl) (λ n20. tt)))))))))))))))))))))
     keeps Phrase.string p x₀ xs ts (q, fresh) = if-fits (λ t h. one (spells-literal R xs q t) refl) (λ n1. if-fits (λ t h. tt) (λ n2. tt))
     keeps Phrase.array p x₀ xs ts (opened k) =
         if-fits (λ t h. (tt, (λ j. one (Spells.array k (Spells.row-shut Spells.each-none) j) refl)))

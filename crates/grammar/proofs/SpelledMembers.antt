@@ -1,14 +1,14 @@
 -- What a phrase of arrays, objects, fields, binds or clauses has read so far.
 -- Assumes nothing.
 use mathlib.Core.Path.{_≡_, refl, sym, ap, subst, _∙_}
-use mathlib.Core.Bool.{Bool, true, false, _||_, not}
+use mathlib.Core.Bool.{Bool, true, false, _&&_, _||_, not}
 use mathlib.Core.List.{List, [], _∷_}
 use Prim.Native.Nat.{ℕ, suc, _-_}
 use native.Mathlib.Omega.{arith}
 use lib.Dec.{T, T-not, eqb, eqb→eq}
-use Rattle.lexemes.specs.Kinds.{PLUS, L-BRACK, R-BRACK, L-PAREN, R-PAREN, L-BRACE, R-BRACE, COMMA, ASSIGN, IDENT}
+use Rattle.lexemes.specs.Kinds.{PLUS, L-BRACK, R-BRACK, L-PAREN, R-PAREN, L-BRACE, R-BRACE, COMMA, ASSIGN, FLOAT, IDENT}
 use Rattle.lexemes.specs.Kinds.{LOCAL-KW, IF-KW, THEN-KW, FUNCTION-KW, IN-KW, ASSERT-KW}
-use Rattle.grammar.specs.Tags.{STRING, ARRAY-COMP, OBJECT-COMP, EXTENSION, BIND, NAME-PATTERN, FIELD, IF-CLAUSE, OBJECT-ITERATION}
+use Rattle.grammar.specs.Tags.{NUMBER, STRING, ARRAY-COMP, OBJECT-COMP, EXTENSION, BIND, NAME-PATTERN, FIELD, IF-CLAUSE, OBJECT-ITERATION}
 use Rattle.grammar.specs.Trees.{byte, number, span, text, Trees, none, node, tree, _⊕_, count}
 use Rattle.grammar.specs.Lexemes.{Said, says, spoiled, nothing, good, said, rest, kind-of, word-of}
 use Rattle.grammar.specs.Productions.{exp-object-iteration, with-field, with-assert, with-member}
@@ -17,7 +17,8 @@ use Rattle.grammar.specs.Spells.{Lexemes, _is_saying_then_, _is_then_, P
 use Rattle.grammar.specs.Spells.{Category as C}
 use Rattle.grammar.proofs.ImageLaws.{count-row}
 use Rattle.grammar.proofs.Alike.{⊕-none, ⊕-assoc, same}
-use Rattle.grammar.proofs.LexemeForms.{Not, told, quoted-is, field-fault}
+use Rattle.grammar.proofs.LexemeForms.{Not, told, seen, quoted-is, field-fault}
+use Rattle.grammar.proofs.Chosen.{and-left, and-right}
 use Rattle.grammar.proofs.SpelledStates.{Sp, retree, One, Over, plain, just, Last, shut, as-row, Rules, one, last}
 
 one-less : (t cs : Trees) → count t ≡ 1 → count cs ≡ count (t ⊕ cs) - 1
@@ -253,11 +254,17 @@ module _ (R : Rules) where
   unfolding count
   extend c k (inside e o) j = one (Spells.extended c (e _ _ k j)) refl
 
-  pub spells-literal : (xs : Lexemes) → Quoted (kind-of xs) → T (good (word-of xs)) → Sp R C.string xs (tree STRING (text (said (word-of xs)) ∷ []) none) (rest xs)
+  has-text : (v : Said) → T (good v) → v ≡ says (said v)
   unfolding good said
-  spells-literal xs q h = Spells.quoted q (subst (λ (v : Said). xs is kind-of xs saying v then rest xs) (by (word-of xs) h) (told xs (quoted-is q) refl))
-    where
-      by : (v : Said) → T (good v) → v ≡ says (said v)
-      by (says w) h = refl
-      by (spoiled n) h = absurd h
-      by nothing h = absurd h
+  has-text (says w) h = refl
+  has-text (spoiled n) h = absurd h
+  has-text nothing h = absurd h
+
+  pub spells-literal : (xs : Lexemes) → Quoted (kind-of xs) → T (good (word-of xs)) → Sp R C.string xs (tree STRING (text (said (word-of xs)) ∷ []) none) (rest xs)
+  spells-literal xs q h = Spells.quoted q (subst (λ (v : Said). xs is kind-of xs saying v then rest xs) (has-text (word-of xs) h) (told xs (quoted-is q) refl))
+
+  pub spells-numeral : (xs : Lexemes) → T (eqb (kind-of xs) FLOAT && good (word-of xs)) → Sp R C.basic xs (tree NUMBER (text (said (word-of xs)) ∷ []) none) (rest xs)
+  spells-numeral xs h =
+      let k = and-left (eqb (kind-of xs) FLOAT) (good (word-of xs)) h in
+      let g = and-right (eqb (kind-of xs) FLOAT) (good (word-of xs)) h in
+      Spells.numeral (subst (λ (v : Said). xs is FLOAT saying v then rest xs) (has-text (word-of xs) g) (seen xs tt k))

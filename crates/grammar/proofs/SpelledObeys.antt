@@ -15,7 +15,7 @@ use Rattle.grammar.specs.Spells as spells
 use Rattle.grammar.specs.Spells.{Category as C}
 use Rattle.grammar.specs.Records.{Sort, Is, Fits, times, Spans, Flag, Has, First, Part, Rest, Name, Method, Form, Obeys}
 use Rattle.grammar.proofs.ImageLaws.{row-end}
-use Rattle.grammar.proofs.Possible.{a-text, a-name, a-numeral, name-utf8}
+use Rattle.grammar.proofs.Possible.{a-text, a-name, said-numeral, name-utf8}
 use Rattle.grammar.proofs.Sorts.{0≤1, 1≤1, 0≤2, 1≤2, 2≤2, told, times-length, local-member, field-member, assertion-member, name-pattern-fits}
 use Rattle.grammar.proofs.Sorts.{iteration-clause, if-clause-clause}
 use Rattle.grammar.proofs.Rows.{Are, are, Is-a, are-length, are-append, are-nil, are-as, no-trees, a-record, a-string, string-expression}
@@ -217,7 +217,7 @@ module _ {prefix s : ℕ} {Ends : Open → ℕ → Type 0} where
   spelled (Spells.null k) w = (a-record Form.r2 no-trees, past k w)
   spelled (Spells.true k) w = (a-record (Form.r3 1≤1) no-trees, past k w)
   spelled (Spells.false k) w = (a-record (Form.r3 0≤1) no-trees, past k w)
-  spelled (Spells.numeral l) w = let p = said-there l w in (a-record (Form.r4 (a-numeral (p .0) tt)) no-trees, p .1)
+  spelled (Spells.numeral l) w = let p = said-there l w in (a-record (Form.r4 (said-numeral (p .0) tt)) no-trees, p .1)
   spelled (Spells.literal x) w = let a = spelled x w in (string-expression (a .0), a .1)
   spelled (Spells.quoted q l) w = let p = said-there l w in (a-string (a-text (p .0)), p .1)
   spelled (Spells.variable l) w = let n = name-there l w in (a-record (Form.r6 tt (n .0)) no-trees, n .1)

@@ -8,9 +8,8 @@ use Rattle.strings.specs.Utf8.{Utf8}
 use Rattle.lexemes.specs.Kinds.{EOF, OR, NULL-COAELSE, AND, BIT-OR, BIT-XOR, BIT-AND, EQ, NE, LT, GT, LE, GE, LHS, RHS, PLUS, MINUS, MUL, DIV, MODULO}
 use Rattle.lexemes.specs.Kinds.{L-BRACK, R-BRACK, L-PAREN, R-PAREN, L-BRACE, R-BRACE, COLON, SEMI, DOT, COMMA, ASSIGN, QUESTION-MARK, FLOAT, IDENT}
 use Rattle.lexemes.specs.Kinds.{STRING-DOUBLE, IF-KW, THEN-KW, ELSE-KW, IN-KW, FOR-KW}
-use Rattle.lexemes.specs.Texts.{Numeral}
 use Rattle.grammar.specs.Lexemes.{says, nothing, Lexeme}
-use Rattle.grammar.specs.Words.{NameText, Possible, Worded}
+use Rattle.grammar.specs.Words.{NameText, NumberText, Possible, Worded}
 use Rattle.grammar.specs.Spells.{Quoted, Binary, Open, Continues, greedily}
 use Rattle.grammar.proofs.Possible.{wordless, silent}
 
@@ -43,7 +42,7 @@ speaking k w = record { kind = k; start = 0; stop = 0; word = says w }
 abbrev pub named : (w : List ℕ) → NameText w → Stretch
 named w h = record { before = λ ys. speaking IDENT w ∷ ys; worded = λ ys x. Worded.more (Possible.name h) x }
 
-abbrev pub numbered : (w : List ℕ) → Numeral w → Stretch
+abbrev pub numbered : (w : List ℕ) → NumberText w → Stretch
 numbered w h = record { before = λ ys. speaking FLOAT w ∷ ys; worded = λ ys x. Worded.more (Possible.numeral h) x }
 
 abbrev pub quoted : (w : List ℕ) → Utf8 w → Stretch

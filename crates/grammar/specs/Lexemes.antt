@@ -7,7 +7,7 @@ use lib.ListN.{length}
 use Rattle.lexemes.specs.Kinds.{EOF}
 
 -- What a lexeme says: a name, a number without underscores, a text decoded; of a string with a bad escape no text, but how many bytes of its
--- inside stand before the first; or nothing.
+-- inside stand before the first; or, as a number beyond a double, nothing.
 pub data Said : Type 0 where
   says : List ℕ → Said
   spoiled : ℕ → Said

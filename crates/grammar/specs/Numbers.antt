@@ -45,6 +45,9 @@ DEPTH = 11
 abbrev pub ROOM : ℕ
 ROOM = 12
 
+abbrev pub LARGE : ℕ
+LARGE = 17
+
 -- "Order: 1, 2, 3, 4; then 5 to 11 as the reading meets them; 12 last." What comes last is for a tree, and has a length.
 pub data Order : Type 0 where
   first met last : Order
@@ -75,6 +78,7 @@ table =
     row BLOCK met lexeme nothing ∷
     row DEPTH met lexeme nothing ∷
     row ROOM last nowhere nothing ∷
+    row LARGE met lexeme nothing ∷
     []
 
 -- ── What the table says of numbers ────────────────────────────────────────────────────────────────

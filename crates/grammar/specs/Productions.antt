@@ -11,7 +11,7 @@ use Rattle.lexemes.specs.Kinds.{STRING-DOUBLE, STRING-SINGLE, STRING-DOUBLE-VER
 use Rattle.lexemes.specs.Kinds.{TAILSTRICT-KW, LOCAL-KW, IMPORTSTR-KW, IMPORTBIN-KW, IMPORT-KW, IF-KW, THEN-KW, ELSE-KW, FUNCTION-KW, ERROR-KW, IN-KW, NULL-KW, TRUE-KW, FALSE-KW, SELF-KW, SUPER-KW, FOR-KW, ASSERT-KW}
 use Rattle.grammar.specs.Tags.{IDENTITY, NULL, BOOL, NUMBER, STRING, VARIABLE, ARRAY, ARRAY-COMP, MEMBERS, OBJECT-COMP, EXTENSION, PREFIX, INFIX, ASSERT-EXPR, LOCAL, IMPORT, ERROR, CALL}
 use Rattle.grammar.specs.Tags.{NAMED-ARGUMENT, INDEX-PART, FUNCTION, IF, SLICE, BIND, NAME-PATTERN, SKIP, ARRAY-PATTERN, OBJECT-PATTERN, PATTERN-FIELD, PARAMETER, FIELD, ASSERT, FOR, IF-CLAUSE, OBJECT-ITERATION}
-use Rattle.grammar.specs.Numbers.{WANTED, ABSENT, EXPRESSION, MISPLACED, ESCAPE, BLOCK}
+use Rattle.grammar.specs.Numbers.{WANTED, ABSENT, EXPRESSION, MISPLACED, ESCAPE, BLOCK, LARGE}
 use Rattle.grammar.specs.Trees.{Field, byte, number, span, text}
 use Rattle.grammar.specs.Lexemes.{Said, good, said, spoiled-at}
 
@@ -280,7 +280,7 @@ rule prefix (call-close a u n) v = otherwise (eat R-PAREN ▸ goto (call-end a u
 rule prefix (call-end a u n) v =
     v at TAILSTRICT-KW ⟹ eat TAILSTRICT-KW ▸ close CALL (since a v ∷ byte 1 ∷ number u ∷ number n ∷ []) ▸ goto (suffix 1)
     ∣ otherwise (close CALL (since a v ∷ byte 0 ∷ number u ∷ number n ∷ []) ▸ goto (suffix 1))
--- expr_basic
+-- expr_basic; parse_number, with 02, Item 2: a number beyond a double says nothing
 rule prefix basic v =
     v at SELF-KW ⟹ leaf IDENTITY (byte 0 ∷ here v ∷ []) ▸ end
     ∣ v at SUPER-KW ⟹ leaf IDENTITY (byte 1 ∷ here v ∷ []) ▸ end
@@ -289,7 +289,8 @@ rule prefix basic v =
     ∣ v at TRUE-KW ⟹ leaf BOOL (byte 1 ∷ []) ▸ end
     ∣ v at FALSE-KW ⟹ leaf BOOL (byte 0 ∷ []) ▸ end
     ∣ when is-string v ⟹ goto string
-    ∣ v at FLOAT ⟹ leaf NUMBER (text (word v) ∷ []) ▸ end
+    ∣ when eqb (v .kind) FLOAT && good (v .says) ⟹ leaf NUMBER (text (word v) ∷ []) ▸ end
+    ∣ v at FLOAT ⟹ fail LARGE 0
     ∣ v at L-PAREN ⟹ eat L-PAREN ▸ expression ▸ eat R-PAREN ▸ end
     ∣ v at L-BRACK ⟹ eat L-BRACK ▸ goto array
     ∣ v at L-BRACE ⟹ eat L-BRACE ▸ sub inside ▸ eat R-BRACE ▸ end

@@ -4,13 +4,12 @@ use mathlib.Core.Path.{_≡_}
 use mathlib.Core.List.{List, [], _∷_, _++_}
 use Prim.Native.Nat.{ℕ, zero, suc, _+_, _≤_}
 use Rattle.strings.specs.Utf8.{Utf8}
-use Rattle.lexemes.specs.Texts.{Numeral}
 use Rattle.grammar.specs.Trees.{Field, byte, number, span, text, Trees}
 use Rattle.grammar.specs.Trees as trees
 use Rattle.grammar.specs.Tags.{IDENTITY, NULL, BOOL, NUMBER, STRING, VARIABLE, ARRAY, ARRAY-COMP, MEMBERS, OBJECT-COMP, EXTENSION, PREFIX, INFIX}
 use Rattle.grammar.specs.Tags.{ASSERT-EXPR, LOCAL, IMPORT, ERROR, CALL, NAMED-ARGUMENT, INDEX-PART, FUNCTION, IF, SLICE, BIND, NAME-PATTERN, SKIP}
 use Rattle.grammar.specs.Tags.{ARRAY-PATTERN, OBJECT-PATTERN, PATTERN-FIELD, PARAMETER, FIELD, ASSERT, FOR, IF-CLAUSE, OBJECT-ITERATION}
-use Rattle.grammar.specs.Words.{NameText}
+use Rattle.grammar.specs.Words.{NameText, NumberText}
 
 -- What a record is.
 pub data Sort : Type 0 where
@@ -95,7 +94,7 @@ pub data Form (q : Spans) : Sort → ℕ → List Field → List Sort → Type 0
   r1 : {o a e : ℕ} → o ≤ 2 → Present q a e → Form q expression IDENTITY (byte o ∷ span a e ∷ []) []
   r2 : Form q expression NULL [] []
   r3 : {f : ℕ} → Flag f → Form q expression BOOL (byte f ∷ []) []
-  r4 : {w : List ℕ} → Numeral w → Form q expression NUMBER (text w ∷ []) []
+  r4 : {w : List ℕ} → NumberText w → Form q expression NUMBER (text w ∷ []) []
   r5 : {w : List ℕ} → Utf8 w → Form q string STRING (text w ∷ []) []
   r6 : {a e : ℕ} {w : List ℕ} → Present q a e → NameText w → Form q expression VARIABLE (span a e ∷ text w ∷ []) []
   -- "7 array: count. 8 array comprehension: clause count. 9 members: count."

@@ -6,6 +6,7 @@ use lib.ListN.{drop}
 use lib.Seq.{slice}
 use Rattle.strings.specs.Literals.{Quoted, BadEscape, Verbatim}
 use Rattle.blocks.specs.Blocks.{BlockText}
+use Rattle.numerals.specs.Value.{TooLarge}
 use Rattle.lexemes.specs.declared.Lexeme.{Lexeme as Range}
 use Rattle.lexemes.specs.Kinds.{FLOAT, IDENT, STRING-DOUBLE, STRING-SINGLE, STRING-DOUBLE-VERBATIM, STRING-SINGLE-VERBATIM, STRING-BLOCK}
 use Rattle.lexemes.specs.Texts.{plain}
@@ -14,7 +15,7 @@ use Rattle.grammar.specs.Lexemes.{Said, says, spoiled, nothing, Lexeme}
 -- ident, parse_number, parse_string_content: of the source s, the lexeme of this kind from a to e has this text.
 pub data Means (s : List ℕ) : ℕ → ℕ → ℕ → List ℕ → Type 0 where
   name : {a e : ℕ} → Means s IDENT a e (slice a e s)
-  number : {a e : ℕ} → Means s FLOAT a e (plain (slice a e s))
+  number : {a e : ℕ} → (TooLarge (plain (slice a e s)) → ⊥) → Means s FLOAT a e (plain (slice a e s))  -- 02, Item 2
   double : {a e : ℕ} {w : List ℕ} → Quoted (slice (a + 1) (e - 1) s) w → Means s STRING-DOUBLE a e w
   single : {a e : ℕ} {w : List ℕ} → Quoted (slice (a + 1) (e - 1) s) w → Means s STRING-SINGLE a e w
   double-verbatim : {a e : ℕ} {w : List ℕ} → Verbatim 0x22 (slice (a + 2) (e - 1) s) w → Means s STRING-DOUBLE-VERBATIM a e w

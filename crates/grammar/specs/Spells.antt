@@ -225,7 +225,7 @@ module _ (prefix s : ℕ) (Ends : Open → ℕ → Type 0) where
     null : {d : ℕ} {xs ys : Lexemes} → xs is NULL-KW then ys → Spells d basic xs (tree NULL [] none) ys
     true : {d : ℕ} {xs ys : Lexemes} → xs is TRUE-KW then ys → Spells d basic xs (tree BOOL (byte 1 ∷ []) none) ys
     false : {d : ℕ} {xs ys : Lexemes} → xs is FALSE-KW then ys → Spells d basic xs (tree BOOL (byte 0 ∷ []) none) ys
-    numeral : {d : ℕ} {v : Said} {xs ys : Lexemes} → xs is FLOAT saying v then ys → Spells d basic xs (tree NUMBER (text (said v) ∷ []) none) ys
+    numeral : {d : ℕ} {w : List ℕ} {xs ys : Lexemes} → xs is FLOAT saying says w then ys → Spells d basic xs (tree NUMBER (text w ∷ []) none) ys
     literal : {d : ℕ} {xs ys : Lexemes} {t : Trees} → Spells d string xs t ys → Spells d basic xs t ys
     quoted : {d k : ℕ} {w : List ℕ} {xs ys : Lexemes} → Quoted k → xs is k saying says w then ys
         → Spells d string xs (tree STRING (text w ∷ []) none) ys

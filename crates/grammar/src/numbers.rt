@@ -29,4 +29,6 @@ impl Number {
     pub const DEPTH: u8 = 11;
 
     pub const ROOM: u8 = 12;
+
+    pub const LARGE: u8 = 17;
 }

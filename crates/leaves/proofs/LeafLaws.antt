@@ -7,21 +7,24 @@ use Prim.Native.Nat.{ℕ, _+_, _-_, _≤_, _<_, _^_}
 use native.Mathlib.Omega.{arith}
 use lib.ListN.{length, take, drop}
 use lib.Seq.{slice, length-slice}
+use Rattle.numerals.specs.Value.{TooLarge}
+use Rattle.lexemes.specs.Kinds.{FLOAT}
+use Rattle.lexemes.specs.Texts.{plain}
 use Rattle.grammar.specs.Trees.{Field, number, span, text}
 use Rattle.grammar.specs.Image.{entry, payload}
 use Rattle.grammar.specs.Lexemes.{Lexeme, Said, says}
 use Rattle.grammar.specs.Says.{Spoils}
-use Rattle.grammar.specs.Numbers.{ESCAPE}
+use Rattle.grammar.specs.Numbers.{ESCAPE, LARGE}
 use Rattle.grammar.specs.Reading.{choose}
 use Rattle.grammar.specs.Writing.{Wrote}
-use Rattle.grammar.specs.Productions.{Phrase, Body, end, goto, fail, _▸_, eat, leaf, rule, string, object-rest-end, object-pattern-close}
+use Rattle.grammar.specs.Productions.{Phrase, Body, end, goto, fail, _▸_, eat, leaf, rule, basic, string, object-rest-end, object-pattern-close}
 use Rattle.leaves.specs.Lexing.{Stands, Moved, Past, past, same, Quoting, double, single, double-verbatim, single-verbatim, block, Quotes, quotes, none as no-quotes}
 use Rattle.leaves.specs.Meets.{Ready, State, state, Seg, Eats, Leads, power}
 use Rattle.leaves.proofs.LexemeLaws.{lies, sight}
 use Rattle.leaves.proofs.Steps
 use Rattle.leaves.proofs.PartLaws.{lent-short, wrote-lent}
-use Rattle.leaves.proofs.LeafRules.{rest-comma, rest-over, bad-string}
-use Rattle.leaves.proofs.TextLaws.{spoils-kind, spoiling}
+use Rattle.leaves.proofs.LeafRules.{rest-comma, rest-over, bad-string, large-number}
+use Rattle.leaves.proofs.TextLaws.{spoils-kind, spoiling, exceeding}
 use Rattle.leaves.specs.declared.Cursor.{Cursor}
 use Rattle.leaves.specs.declared.Refusal.{Refusal}
 use Rattle.leaves.specs.declared.Answer.{Answer}
@@ -138,6 +141,11 @@ pub bad-answer : {g : ℕ} {s : List ℕ} {d n w u m x : ℕ} {b : Body} {c : Cu
     → a ≡ Broken (record { number = ESCAPE; place = c; detail = c .start + 1 + x }) → Leads g s d (state (goto string) n c w o) u b m a o₁
 bad-answer {g} {n = n} {x = x} {c = c} st f e =
     Steps.broke (Steps.fails st (spoiling (fail 9 (c .start + 1 + x)) st f (λ xs. bad-string g c xs n (c .kind) x (spoils-kind f .1)) Steps.here)) e
+
+-- a number beyond a double
+pub large-answer : {g : ℕ} {s : List ℕ} {d n w u m : ℕ} {b : Body} {c : Cursor} {o o₁ : List ℕ} {a : Answer} → Stands s c → c .kind ≡ FLOAT
+    → TooLarge (plain (slice (c .start) (c .end) s)) → a ≡ Broken (record { number = LARGE; place = c; detail = 0 }) → Leads g s d (state (goto basic) n c w o) u b m a o₁
+large-answer {g} {n = n} {c = c} st k l e = Steps.broke (Steps.fails st (exceeding (fail LARGE 0) st k l (λ xs. large-number g c xs n) Steps.here)) e
 
 -- ── Phrases of one lexeme ─────────────────────────────────────────────────────────────────────────
 

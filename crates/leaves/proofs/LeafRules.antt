@@ -8,7 +8,7 @@ use native.Mathlib.Omega.{arith}
 use lib.Dec.{eqb}
 use borrow.Author.Tests.{ne-eqb}
 use Rattle.grammar.specs.Trees.{byte, number, span, text}
-use Rattle.grammar.specs.Lexemes.{Lexeme, Said, says, spoiled, good, said, spoiled-at}
+use Rattle.grammar.specs.Lexemes.{Lexeme, Said, says, spoiled, nothing, good, said, spoiled-at}
 use Rattle.grammar.specs.Productions.{Phrase, Body, end, goto, fail, _▸_, eat, leaf, sub, deep, close, rule, exp-destruct, row, Table, otherwise, _∣_}
 use Rattle.grammar.specs.Productions.{suffix, member-name, call-close, call-end, basic, string, field, field-named, pattern, array-pattern, object-pattern, array-pattern-close, object-pattern-close, object-rest, object-rest-end}
 use Rattle.grammar.specs.Reading.{has, choose}
@@ -153,8 +153,12 @@ module _ (g : ℕ) (c : Cursor) (xs : List Lexeme) (n : ℕ) where
   a-false t = refl
 
   pub a-number : (w : List ℕ) → is basic 37 (says w) ≡ leaf 4 (text w ∷ []) ▸ end
-  unfolding choose rule sight has said
+  unfolding choose rule sight has good said
   a-number w = refl
+
+  pub large-number : is basic 37 nothing ≡ fail 17 0
+  unfolding choose rule sight has good
+  large-number = refl
 
   pub a-variable : (w : List ℕ) → is basic 55 (says w) ≡ leaf 6 (span (c .start) (c .end) ∷ text w ∷ []) ▸ end
   unfolding choose rule sight has said

@@ -20,10 +20,11 @@ use Rattle.strings.proofs.Stores.{sets-append}
 use Rattle.blocks.specs.Blocks.{BlockAt, BlockText}
 use Rattle.blocks.specs.declared.Block.the-variants.{Good}
 use Rattle.blocks.proofs.Laws.{text-short, never-refused}
-use Rattle.grammar.specs.Lexemes.{Lexeme, Said, says, spoiled}
-use Rattle.grammar.specs.Says.{Says, its-text, its-escape, Means, name, number, double, single, double-verbatim, single-verbatim, block, Spoils, in-double, in-single}
+use Rattle.numerals.specs.Value.{TooLarge}
+use Rattle.grammar.specs.Lexemes.{Lexeme, Said, says, spoiled, nothing}
+use Rattle.grammar.specs.Says.{Says, its-text, its-escape, no-text, Means, name, number, double, single, double-verbatim, single-verbatim, block, Spoils, in-double, in-single}
 use Rattle.lexemes.specs.Texts.{plain}
-use Rattle.grammar.proofs.SaysLaws.{says-once}
+use Rattle.grammar.proofs.SaysLaws.{says-once, no-spoils}
 use Rattle.grammar.specs.Productions.{Phrase, Body, goto, rule}
 use Rattle.grammar.specs.Reading.{choose}
 use Rattle.leaves.specs.Lexing.{Stands, Quoting, double as quoting-double, single as quoting-single, double-verbatim as quoting-double-verbatim, single-verbatim as quoting-single-verbatim, block as quoting-block}
@@ -174,7 +175,7 @@ a-lexeme quoting-block = omega arith
 -- no longer than the lexeme
 pub means-short : {s : List ℕ} {c : Cursor} {k : ℕ} {t : List ℕ} → Stands s c → c .kind ≡ k → Means s k (c .start) (c .end) t → length t ≤ c .end - c .start
 means-short {s} {c} st q name = omega (arith, length-slice (c .start) (c .end) s (lies st .within))
-means-short {s} {c} st q number = omega (arith, plain-short (slice (c .start) (c .end) s), length-slice (c .start) (c .end) s (lies st .within))
+means-short {s} {c} st q (number n) = omega (arith, plain-short (slice (c .start) (c .end) s), length-slice (c .start) (c .end) s (lies st .within))
 means-short {s} {c} st q (double p) = let w = lies st .within in omega (arith, quoted-short p, length-slice (c .start + 1) (c .end - 1) s (omega arith))
 means-short {s} {c} st q (single p) = let w = lies st .within in omega (arith, quoted-short p, length-slice (c .start + 1) (c .end - 1) s (omega arith))
 means-short {s} {c} st q (double-verbatim p) = let w = lies st .within in omega (arith, verbatim-short p, length-slice (c .start + 2) (c .end - 1) s (omega arith))
@@ -197,6 +198,16 @@ says-it x m = says-once x (its-text m)
 pub says-spoiled : {s : List ℕ} {k a e n : ℕ} {w : Said} → Says s k a e w → Spoils s k a e n → w ≡ spoiled n
 says-spoiled x f = says-once x (its-escape f)
 
+-- a number that is too large says nothing
+pub says-nothing : {s : List ℕ} {k a e : ℕ} {w : Said} → k ≡ 37 → Says s k a e w → TooLarge (plain (slice a e s)) → w ≡ nothing
+says-nothing {s} {k} {a} {e} q x l = says-once x (no-text (λ t m. back t m l) (no-spoils (λ i. omega (arith, i, q)) (λ i. omega (arith, i, q))))
+  where
+    of-number : (t : List ℕ) → Means s 37 a e t → TooLarge (plain (slice a e s)) → ⊥
+    of-number t (number n) = n
+
+    back : (t : List ℕ) → Means s k a e t → TooLarge (plain (slice a e s)) → ⊥
+    back t m = of-number t (subst (λ (j : ℕ). Means s j a e t) q m)
+
 module _ {g : ℕ} {s : List ℕ} {d : ℕ} {from : State} {q : Phrase} {n e v w : ℕ} {c : Cursor} {o : List ℕ} where
   -- the next lexeme has this text
   pub meaning : (b : Body) {k : ℕ} {t : List ℕ} → Stands s c → c .kind ≡ k → 1 < k → Means s k (c .start) (c .end) t
@@ -204,6 +215,11 @@ module _ {g : ℕ} {s : List ℕ} {d : ℕ} {from : State} {q : Phrase} {n e v w
   meaning b {k} {t} st i h m f p =
       let m′ = subst⁻¹ (λ (j : ℕ). Means s j (c .start) (c .end) t) i m in
       Steps.goes b st (λ xs y. seen (power g) g q n y i (says-it (y .says (λ z. omega (arith, z, i, h))) m′) ∙ f xs) p
+
+  -- this one is a number, and too large
+  pub exceeding : (b : Body) → Stands s c → c .kind ≡ 37 → TooLarge (plain (slice (c .start) (c .end) s))
+      → ((xs : List Lexeme) → choose g (rule (power g) q (sight c xs n 37 nothing)) ≡ b) → Seg g s d from e v (state (goto q) n c w o) → Seg g s d from e v (state b n c w o)
+  exceeding b st i l f p = Steps.goes b st (λ xs y. seen (power g) g q n y i (says-nothing i (y .says (λ z. omega (arith, z, i))) l) ∙ f xs) p
 
   -- and this one has this bad escape
   pub spoiling : (b : Body) {m : ℕ} → Stands s c → Spoils s (c .kind) (c .start) (c .end) m

@@ -7,6 +7,7 @@ ghost use lib.ListN.{length};
 ghost use lib.Seq.{sets, slice};
 ghost use Rattle.strings.specs.Decoding.{Decoding, Never};
 ghost use Rattle.strings.specs.Literals.{Quoted, BadEscape, Verbatim};
+ghost use Rattle.numerals.specs.Value.{TooLarge};
 ghost use Rattle.lexemes.specs.Kinds.{L-BRACK, L-BRACE, FLOAT};
 ghost use Rattle.lexemes.specs.Texts.{plain as plainText};
 ghost use Rattle.grammar.specs.Tags.{MEMBERS};
@@ -149,9 +150,9 @@ fn plain(text: &[u8], part: &mut [u8]) -> usize
     n
 }
 
-// parse_number
-fn parse_number(src: &[u8], out: &mut [u8], c: Cursor, w: usize) -> Answer
-    requires { ⌜ Ready (now src) c w × (c .kind ≡ FLOAT) ⌝ }
+// A number that a double holds: its record.
+fn number_in_range(src: &[u8], out: &mut [u8], c: Cursor, w: usize) -> Answer
+    requires { ⌜ Ready (now src) c w × (c .kind ≡ FLOAT) × (TooLarge (plainText (slice (c .start) (c .end) (now src))) → ⊥) ⌝ }
     ensures { λ r. ⌜ Ends (now (src .entry)) (state (goto basic) 0 c w (now (out .entry))) 0 end 1 r (now (out .exit)) ⌝ }
 {
     let start = c.start;
@@ -160,6 +161,19 @@ fn parse_number(src: &[u8], out: &mut [u8], c: Cursor, w: usize) -> Answer
     let n = plain(&src[start..end], &mut out[from..]);
     let w1 = writers::put_head(out, w, Tag::NUMBER, n);
     Answer::Done(eat_any(src, c), w1 + n, 1)
+}
+
+// parse_number, with `NumValue::try_from`, which refuses what a double does not hold.
+fn parse_number(src: &[u8], out: &mut [u8], c: Cursor, w: usize) -> Answer
+    requires { ⌜ Ready (now src) c w × (c .kind ≡ FLOAT) ⌝ }
+    ensures { λ r. ⌜ Ends (now (src .entry)) (state (goto basic) 0 c w (now (out .entry))) 0 end 1 r (now (out .exit)) ⌝ }
+{
+    let start = c.start;
+    let end = c.end;
+    if numerals::too_large(&src[start..end]) {
+        return error(c, Number::LARGE, 0);
+    }
+    number_in_range(src, out, c, w)
 }
 
 // expr_basic: those of its phrases that are one lexeme.

@@ -8,7 +8,7 @@ use native.Mathlib.Omega.{arith}
 use borrow.Author.Tests.{leb-true, leb-false, le-leb, lt-leb}
 use lib.Dec.{eqb, leb}
 use lib.ListN.{length, replicate}
-use Rattle.grammar.specs.Numbers.{TREE, SETTING, LONG, ENCODING, LEXEME, WANTED, ABSENT, EXPRESSION, MISPLACED, ESCAPE, BLOCK, DEPTH, ROOM}
+use Rattle.grammar.specs.Numbers.{TREE, SETTING, LONG, ENCODING, LEXEME, WANTED, ABSENT, EXPRESSION, MISPLACED, ESCAPE, BLOCK, DEPTH, ROOM, LARGE}
 use Rattle.grammar.specs.Trees.{Trees}
 use Rattle.grammar.specs.Image.{image}
 use Rattle.grammar.specs.Answer.{Answer, Verdict, refused, tree, Judged, answer, output, document-01}
@@ -17,7 +17,7 @@ use Rattle.grammar.proofs.Whole.{Accepted, Parsed, parsed, judged-tree}
 use Rattle.grammar.proofs.Source.{lexing}
 use Rattle.reader.specs.Reader.{numbers}
 use Rattle.reader.specs.declared.Reading.{Reading}
-use Rattle.reader.specs.declared.Reading.the-variants.{Tree, Setting, Long, Encoding, Lexeme, Wanted, Absent, Expression, Misplaced, Escape, Block, Depth, Room}
+use Rattle.reader.specs.declared.Reading.the-variants.{Tree, Setting, Long, Encoding, Lexeme, Wanted, Absent, Expression, Misplaced, Escape, Block, Depth, Room, Large}
 
 -- ── The case that has these numbers ───────────────────────────────────────────────────────────────
 
@@ -38,7 +38,8 @@ case-of a = by (eqb (a .number))
         (cond (is ESCAPE) (Escape (a .start) (a .stop) (a .detail))
         (cond (is BLOCK) (Block (a .start) (a .stop))
         (cond (is DEPTH) (Depth (a .start) (a .stop))
-        (Room (a .size)))))))))))))
+        (cond (is ROOM) (Room (a .size))
+        (Large (a .start) (a .stop))))))))))))))
 
 case-back : (r : Reading) → case-of (numbers r) ≡ r
 unfolding numbers case-of
@@ -55,6 +56,7 @@ case-back (Escape a e x) = refl
 case-back (Block a e) = refl
 case-back (Depth a e) = refl
 case-back (Room n) = refl
+case-back (Large a e) = refl
 
 -- No two cases have the same numbers.
 pub same-case : (r r′ : Reading) → numbers r ≡ numbers r′ → r ≡ r′

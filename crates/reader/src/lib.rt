@@ -29,6 +29,7 @@ pub enum Reading {
     Block(usize, usize),
     Depth(usize, usize),
     Room(usize), // the length needed
+    Large(usize, usize), // a number
 }
 
 // 01's limits: the longest source, and how deep phrases may nest.
@@ -51,6 +52,7 @@ fn refused(r: Refusal) -> Reading
         Number::MISPLACED => Reading::Misplaced(place.start, place.end, detail),
         Number::ESCAPE => Reading::Escape(place.start, place.end, detail),
         Number::BLOCK => Reading::Block(place.start, place.end),
+        Number::LARGE => Reading::Large(place.start, place.end),
         _ => Reading::Depth(place.start, place.end),
     }
 }
@@ -173,5 +175,6 @@ pub fn numbers(r: Reading) -> Fields
         Reading::Block(a, e) => refusal(Number::BLOCK, a, e, 0),
         Reading::Depth(a, e) => refusal(Number::DEPTH, a, e, 0),
         Reading::Room(n) => tree(Number::ROOM, n),
+        Reading::Large(a, e) => refusal(Number::LARGE, a, e, 0),
     }
 }

@@ -4,7 +4,7 @@ use lexemes::Lexeme;
 use lists::Tally;
 
 // Room for the longest source of the list, in bytes.
-const ROOM: usize = 4096;
+const ROOM: usize = 8192;
 
 // A number of a word, and the place after the byte behind it.
 struct Number {

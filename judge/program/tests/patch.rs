@@ -1,4 +1,4 @@
-//! The patch puts numbers in place of messages, counts depth, and takes literals of any size.
+//! The patch puts numbers in place of messages and counts depth.
 //! In all else the Rust without it must answer alike.
 
 use jrsonnet_lexer::SyntaxKind;
@@ -20,6 +20,7 @@ fn message(number: u16, detail: u16) -> String {
         (8, 4) => "missing object comprehension field".to_owned(),
         (9, _) => "invalid string escape".to_owned(),
         (10, 0) => "invalid string block".to_owned(),
+        (17, 0) => "invalid number value: ".to_owned(),
         _ => panic!("no message for {number} with {detail}"),
     }
 }
@@ -33,12 +34,7 @@ fn compare(setting: u64, complaint: fn(&str) -> Option<(String, u32, u32)>) {
         };
         let answer = reader::answer(setting, u64::MAX, source.as_bytes());
         let complaint = complaint(&source);
-        let too_large = |text: &str| text.starts_with("invalid number value");
-        let skipped = match &complaint {
-            Some((text, _, _)) if too_large(text) => true,
-            _ => matches!(answer.number, 2 | 11),
-        };
-        if skipped {
+        if matches!(answer.number, 2 | 11) {
             continue;
         }
         compared += 1;

@@ -80,6 +80,11 @@ fn escapes() {
 }
 
 #[test]
+fn large() {
+    check(readings::LARGE);
+}
+
+#[test]
 fn signs() {
     check(readings::SIGNS);
 }

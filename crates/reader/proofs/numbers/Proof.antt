@@ -87,6 +87,12 @@ enum-known-r-11 c = search needs
 tree-requires-2 : tie.Need-tree-requires-2
 tree-requires-2 c κs = search needs
 
+enum-known-r-12 : tie.Need-enum-known-r-12
+enum-known-r-12 c = search needs
+
+refusal-requires-12 : tie.Need-refusal-requires-12
+refusal-requires-12 c κs = search needs
+
 returns : tie.Need-returns
 unfolding numbers
 returns c = c .tree .ensures ∙ sym (ap numbers (c .before .before .r .given .1))
@@ -139,6 +145,10 @@ returns-13 : tie.Need-returns-13
 unfolding numbers
 returns-13 c = c .tree2 .ensures ∙ sym (ap numbers (c .before .before .r11 .given .1))
 
+returns-14 : tie.Need-returns-14
+unfolding numbers
+returns-14 c = c .refusal12 .ensures ∙ sym (ap numbers (c .before .before .r12 .given .1))
+
 pub numbers-spec : {M : Type 1} → statement M
 numbers-spec =
     tie.close
@@ -170,6 +180,8 @@ numbers-spec =
     refusal-requires-11
     enum-known-r-11
     tree-requires-2
+    enum-known-r-12
+    refusal-requires-12
     returns
     returns-2
     returns-3
@@ -182,4 +194,5 @@ numbers-spec =
     returns-10
     returns-11
     returns-12
-    returns-13)
+    returns-13
+    returns-14)

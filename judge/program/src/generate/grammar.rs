@@ -42,12 +42,14 @@ const INFIX: [&str; 19] = [
 
 const ATOMS: [&str; 32] = [
     "a", "b", "c", "x", "a", "b", "_1", "null", "true", "false", "self", "super", "$", "0", "1",
-    "1_0", "1.5", "2e3", "0.0_1E-5", "1e999", "\"\"", "\"a\"", "'b'", "'\\n'", "\"\\u00e9\"",
+    "1_0", "1.5", "2e3", "0.0_1E-5", "0e999", "\"\"", "\"a\"", "'b'", "'\\n'", "\"\\u00e9\"",
     "\"\\x41\"", "\"é\"", "@\"a\"\"\"", "@''''", "|||\n a\n|||", "|||-\n\n  a\n\n   b\n|||",
     "'\\uD83D\\uDE00'",
 ];
 
-const BAD_ESCAPES: [&str; 4] = ["\"\\q\"", "'\\uD800'", "\"\\u12\"", "'\\xg0'"];
+/// Literals that say nothing: bad escapes, and numbers that a double does not hold.
+const BAD_LITERALS: [&str; 6] =
+    ["\"\\q\"", "'\\uD800'", "\"\\u12\"", "'\\xg0'", "1e999", "1_8.0e+3_07"];
 
 const NAMES: [&str; 6] = ["a", "b", "k", "v", "x", "mass"];
 
@@ -85,7 +87,7 @@ impl Writer<'_> {
     }
 
     fn atom(&mut self) {
-        let atoms = if self.rng.once_in(60) { &BAD_ESCAPES[..] } else { &ATOMS[..] };
+        let atoms = if self.rng.once_in(60) { &BAD_LITERALS[..] } else { &ATOMS[..] };
         let atom = self.rng.pick(atoms);
         self.put(&[atom]);
     }

@@ -5,6 +5,7 @@ mod blocks;
 mod damage;
 mod grammar;
 mod lexemes;
+mod numbers;
 mod rng;
 mod sources;
 mod strings;
@@ -40,6 +41,7 @@ pub fn lines(what: &str, seed: u64, count: usize) -> Result<Vec<String>, String>
         "blocks" => (blocks::fixed, blocks::random),
         "lexemes" => (lexemes::fixed, lexemes::random),
         "sources" => (sources::fixed, sources::random),
+        "numbers" => (numbers::fixed, numbers::random),
         _ => return Err(format!("nothing to generate for {what}")),
     };
     let mut lines = Lines::default();

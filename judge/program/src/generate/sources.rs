@@ -10,7 +10,7 @@ use crate::{hex, reader, readings};
 /// Room that `readtree` lends.
 const ROOM: u64 = 65_536;
 
-fn line(setting: u64, room: u64, source: &[u8]) -> String {
+pub fn line(setting: u64, room: u64, source: &[u8]) -> String {
     format!("{setting} {room} {}", hex::encode(source))
 }
 
