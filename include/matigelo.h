@@ -29,7 +29,7 @@ extern "C" {
     7  no expression begins so                     the one that stands there
     8  misplaced                                   current; 1 positional after named, 2 to 4 faults of an object comprehension
     9  a bad escape                                the literal; where the backslash of the first one stands
-   10  a block without a text                      the literal
+   10  not used; retired
    11  deeper than 200                             the one that stands there
    12  a tree, but its image has no room           length that is needed
    17  a number that no double holds               the literal

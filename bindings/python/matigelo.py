@@ -43,7 +43,6 @@ NUMBERS = {
     7: "an expression is wanted",
     8: "what stands there is misplaced",
     9: "a string has a bad escape",
-    10: "a text block does not decode",
     11: "phrases would nest 201 deep",
     12: "the image is longer than the output",
     17: "a number is more than a double holds",

@@ -94,7 +94,6 @@ numbers! {
     7 Expression "an expression is wanted"
     8 Misplaced "what stands there is misplaced"
     9 Escape "a string has a bad escape"
-    10 Block "a text block does not decode"
     11 Deep "phrases would nest 201 deep"
     12 Room "the image is longer than the output"
     17 Large "a number is more than a double holds"

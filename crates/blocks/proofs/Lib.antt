@@ -4,6 +4,7 @@ pub mod Texts
 pub mod Readings
 pub mod Once
 pub mod Laws
+pub mod Alone
 pub mod Always
 pub mod Marked
 pub mod Whole

@@ -1,9 +1,10 @@
--- Trees that differ in spans only: what the forms (Spells.antt) leave open of a tree. And rows of trees side by side.
+-- Laws of trees that are the same but for spans (specs/Alike.antt), and of rows of trees side by side.
 -- Assumes nothing.
 use mathlib.Core.Path.{_≡_, refl, sym, ap, subst, _∙_}
 use mathlib.Core.List.{List, [], _∷_}
 use Prim.Native.Nat.{ℕ, suc}
-use Rattle.grammar.specs.Trees.{Field, number, span, Trees, none, node, tree, _⊕_, count}
+use Rattle.grammar.specs.Trees.{Field, byte, number, span, text, Trees, none, node, tree, _⊕_, count}
+pub use Rattle.grammar.specs.Alike.{AlikeField, same, spans, AlikeFields, nil, _⋆_, Alike, no-trees, a-node}
 
 -- ── Rows ──────────────────────────────────────────────────────────────────────────────────────────
 
@@ -18,19 +19,6 @@ unfolding _⊕_
 ⊕-assoc (node t fs cs ts) us vs = ap (node t fs cs) (⊕-assoc ts us vs)
 
 -- ── Alike ─────────────────────────────────────────────────────────────────────────────────────────
-
-pub data AlikeField : Field → Field → Type 0 where
-  same : {f g : Field} → f ≡ g → AlikeField f g
-  spans : {a e b f : ℕ} → AlikeField (span a e) (span b f)
-
-infixr 90 _⋆_
-pub data AlikeFields : List Field → List Field → Type 0 where
-  nil : AlikeFields [] []
-  _⋆_ : {f g : Field} {fs gs : List Field} → AlikeField f g → AlikeFields fs gs → AlikeFields (f ∷ fs) (g ∷ gs)
-
-pub data Alike : Trees → Trees → Type 0 where
-  no-trees : Alike none none
-  a-node : {t : ℕ} {fs gs : List Field} {cs ds ts us : Trees} → AlikeFields fs gs → Alike cs ds → Alike ts us → Alike (node t fs cs ts) (node t gs ds us)
 
 pub alike-tree : {t : ℕ} {fs gs : List Field} {cs ds : Trees} → AlikeFields fs gs → Alike cs ds → Alike (tree t fs cs) (tree t gs ds)
 alike-tree f a = a-node f a no-trees
@@ -76,3 +64,34 @@ fields-trans (f ⋆ fs) (g ⋆ gs) = field-trans f g ⋆ fields-trans fs gs
 pub alike-trans : {ts us vs : Trees} → Alike ts us → Alike us vs → Alike ts vs
 alike-trans no-trees no-trees = no-trees
 alike-trans (a-node f c r) (a-node g d q) = a-node (fields-trans f g) (alike-trans c d) (alike-trans r q)
+
+-- ── Trees without their spans ─────────────────────────────────────────────────────────────────────
+
+-- A tree with 0, 0 for every span.
+unfoldable pub placeless-fields : List Field → List Field
+placeless-fields [] = []
+placeless-fields (byte b ∷ fs) = byte b ∷ placeless-fields fs
+placeless-fields (number n ∷ fs) = number n ∷ placeless-fields fs
+placeless-fields (span a e ∷ fs) = span 0 0 ∷ placeless-fields fs
+placeless-fields (text w ∷ fs) = text w ∷ placeless-fields fs
+
+unfoldable pub placeless : Trees → Trees
+placeless none = none
+placeless (node t fs cs ts) = node t (placeless-fields fs) (placeless cs) (placeless ts)
+
+fields-placeless : (fs : List Field) → AlikeFields fs (placeless-fields fs)
+unfolding placeless-fields
+fields-placeless [] = nil
+fields-placeless (byte b ∷ fs) = same refl ⋆ fields-placeless fs
+fields-placeless (number n ∷ fs) = same refl ⋆ fields-placeless fs
+fields-placeless (span a e ∷ fs) = spans ⋆ fields-placeless fs
+fields-placeless (text w ∷ fs) = same refl ⋆ fields-placeless fs
+
+alike-placeless : (ts : Trees) → Alike ts (placeless ts)
+unfolding placeless
+alike-placeless none = no-trees
+alike-placeless (node t fs cs ts) = a-node (fields-placeless fs) (alike-placeless cs) (alike-placeless ts)
+
+-- Trees that are one tree without their spans are the same but for spans.
+pub one-placeless : {ts us : Trees} → placeless ts ≡ placeless us → Alike ts us
+one-placeless {ts} {us} e = alike-trans (alike-placeless ts) (subst (λ (w : Trees). Alike w us) (sym e) (alike-sym (alike-placeless us)))

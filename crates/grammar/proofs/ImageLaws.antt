@@ -1,11 +1,12 @@
 -- Laws of rows of trees and of their images: lengths add up, and writing is appending.
 -- Assumes nothing.
-use mathlib.Core.Path.{_≡_, refl, sym, ap, _∙_}
+use mathlib.Core.Path.{_≡_, refl, sym, ap, subst, _∙_}
 use mathlib.Core.List.{List, [], _∷_, _++_, append-assoc, append-nil}
 use Prim.Native.Nat.{ℕ, _+_}
 use native.Mathlib.Omega.{arith}
 use lib.ListN.{length, length-append}
-use Rattle.grammar.specs.Trees.{Field, Trees, none, node, tree, _⊕_, count}
+use Rattle.grammar.specs.Trees.{Field, byte, number, span, text, Trees, none, node, tree, _⊕_, count}
+use Rattle.grammar.specs.Alike.{AlikeFields, same, spans, nil, _⋆_, Alike, no-trees, a-node}
 use Rattle.grammar.specs.Image.{two, payload, entry, image}
 
 pub row-end : (ts : Trees) → ts ⊕ none ≡ ts
@@ -55,3 +56,23 @@ close-length tag fields ts = omega (arith, ap length (image-close tag fields ts)
 
 pub row-length : (ts us : Trees) → length (image (ts ⊕ us)) ≡ length (image ts) + length (image us)
 row-length ts us = omega (arith, ap length (image-row ts us), length-append (image ts) (image us))
+
+-- ── The same but for spans: as many bytes ─────────────────────────────────────────────────────────
+
+same-field-length : (f : Field) {fs gs : List Field} → AlikeFields fs gs → length (payload fs) ≡ length (payload gs) → length (payload (f ∷ fs)) ≡ length (payload (f ∷ gs))
+unfolding payload
+same-field-length (byte b) a e = omega (arith, e)
+same-field-length (number n) a e = omega (arith, e)
+same-field-length (span i j) a e = omega (arith, e)
+same-field-length (text w) nil e = refl
+same-field-length (text w) (_⋆_ {f} {g} {fs} {gs} x a) e = omega (arith, e, length-append w (payload (f ∷ fs)), length-append w (payload (g ∷ gs)))
+
+alike-payload : {fs gs : List Field} → AlikeFields fs gs → length (payload fs) ≡ length (payload gs)
+unfolding payload
+alike-payload nil = refl
+alike-payload (_⋆_ {f} {g} {fs} {gs} (same e) a) = subst (λ (h : Field). length (payload (f ∷ fs)) ≡ length (payload (h ∷ gs))) e (same-field-length f a (alike-payload a))
+alike-payload (spans ⋆ a) = omega (arith, alike-payload a)
+
+pub alike-length : {ts us : Trees} → Alike ts us → length (image ts) ≡ length (image us)
+alike-length no-trees = refl
+alike-length (a-node {t} {fs} {gs} {cs} {ds} {ts} {us} f c r) = omega (arith, image-length t fs cs ts, image-length t gs ds us, alike-payload f, alike-length c, alike-length r)

@@ -59,3 +59,5 @@ pub mod ButForSpans
 pub mod Spanned
 pub mod Derived
 pub mod Signs
+pub mod Placeless
+pub mod SameSources

@@ -6,7 +6,7 @@ use mathlib.Core.List.{List, [], _∷_}
 use Prim.Native.Nat.{ℕ}
 use lib.Dec.{T, eqb}
 use borrow.Author.Tests.{eq-eqb}
-use Rattle.grammar.specs.Numbers.{TREE, ENCODING, ROOM, Row, row, first, met, last, nowhere, point, lexeme, table, placed, detailed, met-in, met-with, fits-in, fits}
+use Rattle.grammar.specs.Numbers.{TREE, ENCODING, ROOM, Row, row, first, met, last, nowhere, point, lexeme, table, placed, is-lexeme, detailed, met-in, met-with, fits-in, fits, at-lexeme-in, at-lexeme}
 use Rattle.grammar.specs.Trees.{Trees, none, count}
 use Rattle.grammar.specs.Lexemes.{Lexeme}
 use Rattle.grammar.specs.Productions.{Phrase, Body, source}
@@ -48,7 +48,7 @@ pub met-no-room : (n x : ℕ) → T (met-with n x) → n ≡ ROOM → ⊥
 unfolding met-with
 met-no-room n x h e = subst (λ (m : ℕ). T (met-with m x)) e h
 
--- They stand at a lexeme.
+-- They stand at a lexeme: so the table has it.
 unfoldable at-lexemes : List Row → Bool
 at-lexemes [] = true
 at-lexemes (row m first p d ∷ rows) = at-lexemes rows
@@ -57,25 +57,24 @@ at-lexemes (row m met nowhere d ∷ rows) = false
 at-lexemes (row m met point d ∷ rows) = false
 at-lexemes (row m met lexeme d ∷ rows) = at-lexemes rows
 
+-- One row, which is the number's or not: from what it is known to say to what it is to say.
+by-row : (t u v m r : Bool) → (T u → T v) → (T m → T r) → T (cond t u m) → T (cond t v r)
+by-row true u v m r own rest h = own h
+by-row false u v m r own rest h = rest h
+
+with-true : (b : Bool) → T b → T (b && true)
+with-true true h = tt
+with-true false h = absurd h
+
 module _ (n a e x : ℕ) where
-  -- a row of another order has another number; a row that is met fits if its detail does
-  skipped : (t u : Bool) (rows : List Row) → (T (met-in n x rows) → T (fits-in n a e x 0 rows)) → T (cond t false (met-in n x rows)) → T (cond t u (fits-in n a e x 0 rows))
-  skipped true u rows rest h = absurd h
-  skipped false u rows rest h = rest h
-
-  chosen : (t u : Bool) (rows : List Row) → (T (met-in n x rows) → T (fits-in n a e x 0 rows)) → T (cond t u (met-in n x rows)) → T (cond t (u && true) (fits-in n a e x 0 rows))
-  chosen true true rows rest h = tt
-  chosen true false rows rest h = absurd h
-  chosen false u rows rest h = rest h
-
   met-fits-in : (rows : List Row) → T (at-lexemes rows) → T (met-in n x rows) → T (fits-in n a e x 0 rows)
   unfolding at-lexemes met-in fits-in
   met-fits-in [] l h = absurd h
-  met-fits-in (row m first p d ∷ rows) l h = skipped (eqb n m) (placed p a e && (detailed d x && true)) rows (met-fits-in rows l) h
-  met-fits-in (row m last p d ∷ rows) l h = skipped (eqb n m) (placed p a e && (detailed d x && true)) rows (met-fits-in rows l) h
+  met-fits-in (row m first p d ∷ rows) l h = by-row (eqb n m) false (placed p a e && (detailed d x && true)) _ _ (λ z. absurd z) (met-fits-in rows l) h
+  met-fits-in (row m last p d ∷ rows) l h = by-row (eqb n m) false (placed p a e && (detailed d x && true)) _ _ (λ z. absurd z) (met-fits-in rows l) h
   met-fits-in (row m met nowhere d ∷ rows) l h = absurd l
   met-fits-in (row m met point d ∷ rows) l h = absurd l
-  met-fits-in (row m met lexeme d ∷ rows) l h = chosen (eqb n m) (detailed d x) rows (met-fits-in rows l) h
+  met-fits-in (row m met lexeme d ∷ rows) l h = by-row (eqb n m) (detailed d x) (detailed d x && true) _ _ (with-true (detailed d x)) (met-fits-in rows l) h
 
   pub met-fits : T (met-with n x) → T (fits n a e x 0)
   unfolding met-with fits table at-lexemes
@@ -84,3 +83,18 @@ module _ (n a e x : ℕ) where
 pub point-fits : (n : ℕ) → T (fits ENCODING n n 0 0)
 unfolding fits
 point-fits n = subst⁻¹ (λ (b : Bool). T (b && true)) (eq-eqb n n refl) tt
+
+-- So each of them does.
+module _ (n x : ℕ) where
+  met-at-in : (rows : List Row) → T (at-lexemes rows) → T (met-in n x rows) → T (at-lexeme-in n rows)
+  unfolding at-lexemes met-in at-lexeme-in
+  met-at-in [] l h = absurd h
+  met-at-in (row m first p d ∷ rows) l h = by-row (eqb n m) false (is-lexeme p) _ _ (λ z. absurd z) (met-at-in rows l) h
+  met-at-in (row m last p d ∷ rows) l h = by-row (eqb n m) false (is-lexeme p) _ _ (λ z. absurd z) (met-at-in rows l) h
+  met-at-in (row m met nowhere d ∷ rows) l h = absurd l
+  met-at-in (row m met point d ∷ rows) l h = absurd l
+  met-at-in (row m met lexeme d ∷ rows) l h = by-row (eqb n m) (detailed d x) true _ _ (λ z. tt) (met-at-in rows l) h
+
+  pub met-at-lexeme : T (met-with n x) → T (at-lexeme n)
+  unfolding met-with at-lexeme table at-lexemes
+  met-at-lexeme h = met-at-in table tt h

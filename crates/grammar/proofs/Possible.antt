@@ -169,7 +169,7 @@ take-nil : (n : ℕ) → _≡_ {A = List ℕ} (take n []) []
 take-nil zero = refl
 take-nil (suc n) = refl
 
-slice-part : (a e : ℕ) (s : List ℕ) → slice a e s ≡ part s a e
+pub slice-part : (a e : ℕ) (s : List ℕ) → slice a e s ≡ part s a e
 slice-part zero e s = let q : e ≡ e - zero = omega arith in ap (λ (n : ℕ). take n s) q
 slice-part (suc a) zero s = let q : 0 ≡ 0 - suc a = omega arith in ap (λ (n : ℕ). take n (drop (suc a) s)) q
 slice-part (suc a) (suc e) [] = sym (take-nil (suc e - suc a))

@@ -320,10 +320,7 @@ module _ (prefix : ℕ) where
     )
     pays string = (
       (λ t. (let l = spoken t in (l, omega arith))),
-      (
-        (λ t. tt),
-        tt,
-      ),
+      tt,
     )
     pays array = (
       (λ t. (tt, (λ l. omega arith))),
@@ -598,7 +595,7 @@ module _ (prefix : ℕ) where
     light (call-end a u n) held = ((omega arith, omega arith), (omega arith, omega arith))
     light named-argument held = (omega arith, (omega arith, tt))
     light basic held = ((omega arith, tt), ((omega arith, tt), ((omega arith, tt), ((omega arith, tt), ((omega arith, tt), ((omega arith, tt), (omega arith, ((omega arith, tt), (tt, ((omega arith, tt), (omega arith, ((omega arith, tt), (omega arith, ((omega arith, (omega arith, omega arith)), ((omega arith, omega arith), ((omega arith, (omega arith, (omega arith, tt))), ((omega arith, (omega arith, tt)), ((omega arith, (omega arith, tt)), ((omega arith, (omega arith, tt)), ((omega arith, (omega arith, tt)), ((omega arith, tt), tt)))))))))))))))))))))
-    light string held = ((omega arith, tt), (tt, tt))
+    light string held = ((omega arith, tt), tt)
     light array held = ((omega arith, tt), (omega arith, omega arith))
     light array-first held = (omega arith, (omega arith, omega arith))
     light array-comp held = (omega arith, omega arith)

@@ -253,7 +253,6 @@ module _ (prefix : ℕ) where
         tt
     keeps string f =
         (λ t. (Sort.string, Form.r5 (a-text w), fits-append f one)) also
-        (λ t. tt) also
         tt
     keeps array f =
         (λ t. (Sort.expression, _, Form.r7, f, one)) also

@@ -32,6 +32,7 @@ use Rattle.grammar.specs.Answer.{Limits, Answer, Verdict, refused, tree,
 use Rattle.grammar.specs.Source.{Bad, Kept, Reads01}
 use Rattle.grammar.specs.Settings.{Signed, signed, Unsigned, NoPrefixSign}
 use Rattle.grammar.specs.Spells.{Lexemes, _is_then_, Unary, Binary, Open, Spells, Category as C}
+use Rattle.grammar.proofs.Alike.{Alike, placeless, placeless-fields, one-placeless}
 use Rattle.grammar.proofs.Tables.{Facts, plain as alone, switched, an-expr, facts}
 use Rattle.grammar.proofs.Chosen.{true-false, and-left, and-right}
 use Rattle.grammar.proofs.OperatorLaws.{signed as sign-body, prefix-chosen}
@@ -84,21 +85,9 @@ module _ (s : ℕ) (Ends : Open → ℕ → Type 0) where
 
 -- ── Worked readings ───────────────────────────────────────────────────────────────────────────────
 
--- A tree with 0, 0 for every span.
-unfoldable pub placeless-fields : List Field → List Field
-placeless-fields [] = []
-placeless-fields (byte b ∷ fs) = byte b ∷ placeless-fields fs
-placeless-fields (number n ∷ fs) = number n ∷ placeless-fields fs
-placeless-fields (span a e ∷ fs) = span 0 0 ∷ placeless-fields fs
-placeless-fields (text w ∷ fs) = text w ∷ placeless-fields fs
-
-unfoldable pub placeless : Trees → Trees
-placeless none = none
-placeless (node t fs cs ts) = node t (placeless-fields fs) (placeless cs) (placeless ts)
-
 -- Under a setting two sources have one tree, but for spans.
 abbrev pub Same : ℕ → List ℕ → List ℕ → Type 0
-Same s x y = (ts : Trees) × (us : Trees) × Judged Bad Kept document-01 s x (tree ts) × Judged Bad Kept document-01 s y (tree us) × (placeless ts ≡ placeless us)
+Same s x y = (ts : Trees) × (us : Trees) × Judged Bad Kept document-01 s x (tree ts) × Judged Bad Kept document-01 s y (tree us) × Alike ts us
 
 -- What setting 8 gives, and what the others give.
 pub record Readings : Type 0 where
@@ -114,13 +103,13 @@ pub readings : Readings
 unfolding placeless placeless-fields lex rules firstBad keep lexemes.bad lexemes.dropped no-strings no-string words word-at digits low run after prefix-power published production choose rule view has _⊕_ count good said verdict
 readings =
     record {
-      sign-before-product = (_, _, plainly 8 _ _ _ tt tt tt refl refl tt refl, plainly 8 _ _ _ tt tt tt refl refl tt refl, refl);
-      sign-between-products = (_, _, plainly 8 _ _ _ tt tt tt refl refl tt refl, plainly 8 _ _ _ tt tt tt refl refl tt refl, refl);
-      reviewers-file = (_, _, plainly 8 _ _ _ tt tt tt refl refl tt refl, plainly 8 _ _ _ tt tt tt refl refl tt refl, refl);
-      part-stays-inside = (_, _, plainly 8 _ _ _ tt tt tt refl refl tt refl, plainly 8 _ _ _ tt tt tt refl refl tt refl, refl);
-      call-stays-inside = (_, _, plainly 8 _ _ _ tt tt tt refl refl tt refl, plainly 8 _ _ _ tt tt tt refl refl tt refl, refl);
-      product-before-sign = (_, _, plainly 0 _ _ _ tt tt tt refl refl tt refl, plainly 0 _ _ _ tt tt tt refl refl tt refl, refl);
-      product-inside = (_, _, plainly 0 _ _ _ tt tt tt refl refl tt refl, plainly 0 _ _ _ tt tt tt refl refl tt refl, refl);
+      sign-before-product = (_, _, plainly 8 _ _ _ tt tt tt refl refl tt refl, plainly 8 _ _ _ tt tt tt refl refl tt refl, one-placeless refl);
+      sign-between-products = (_, _, plainly 8 _ _ _ tt tt tt refl refl tt refl, plainly 8 _ _ _ tt tt tt refl refl tt refl, one-placeless refl);
+      reviewers-file = (_, _, plainly 8 _ _ _ tt tt tt refl refl tt refl, plainly 8 _ _ _ tt tt tt refl refl tt refl, one-placeless refl);
+      part-stays-inside = (_, _, plainly 8 _ _ _ tt tt tt refl refl tt refl, plainly 8 _ _ _ tt tt tt refl refl tt refl, one-placeless refl);
+      call-stays-inside = (_, _, plainly 8 _ _ _ tt tt tt refl refl tt refl, plainly 8 _ _ _ tt tt tt refl refl tt refl, one-placeless refl);
+      product-before-sign = (_, _, plainly 0 _ _ _ tt tt tt refl refl tt refl, plainly 0 _ _ _ tt tt tt refl refl tt refl, one-placeless refl);
+      product-inside = (_, _, plainly 0 _ _ _ tt tt tt refl refl tt refl, plainly 0 _ _ _ tt tt tt refl refl tt refl, one-placeless refl);
     }
 
 -- NOTHING IS CLAIMED ACROSS 8: `-a*` so many times and then `1` nests two levels each time without 8, and not at all with it.

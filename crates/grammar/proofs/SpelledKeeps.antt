@@ -163,7 +163,7 @@ module _ (R : Rules) where
         (λ n17. if-fits (λ t h. (tt, (λ k. ((λ d. fresh), (λ us ys a. one (Spells.import Import.importbin k (inner a)) refl)))))
         (λ n18. if-fits (λ t h. (tt, (λ k. ((λ d. fresh), (λ us ys a. one (Spells.import Import.import k (inner a)) refl)))))
         (λ n19. if-fits (λ t h. one (Spells.variable (seen xs tt t)) refl) (λ n20. tt)))))))))))))))))))))
-    keeps Phrase.string p x₀ xs ts (q, fresh) = if-fits (λ t h. one (spells-literal R xs q t) refl) (λ n1. if-fits (λ t h. tt) (λ n2. tt))
+    keeps Phrase.string p x₀ xs ts (q, fresh) = if-fits (λ t h. one (spells-literal R xs q t) refl) (λ n1. tt)
     keeps Phrase.array p x₀ xs ts (opened k) =
         if-fits (λ t h. (tt, (λ j. one (Spells.array k (Spells.row-shut Spells.each-none) j) refl)))
         (λ n1. ((λ d. fresh), (λ us ys a. (behind k (entered a), (λ us ys y. y)))))

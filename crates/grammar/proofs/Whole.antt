@@ -41,7 +41,7 @@ known-or-not t f = absurd (true-false (sym t ∙ f))
 utf8-all : {source : List ℕ} {n : ℕ} → ValidTo source n → length source ≤ n → Utf8 source
 utf8-all x h = valid-whole x (omega (arith, x .within))
 
-utf8-cut : {source : List ℕ} {n : ℕ} → ValidTo source n → n < length source → Utf8 source → ⊥
+pub utf8-cut : {source : List ℕ} {n : ℕ} → ValidTo source n → n < length source → Utf8 source → ⊥
 utf8-cut x h u = omega (arith, valid-all u x)
 
 -- The answer says that there is a tree: number 0, or, refused for room, 12.

@@ -1,6 +1,7 @@
 pub mod Tags
 pub mod Numbers
 pub mod Trees
+pub mod Alike
 pub mod Image
 pub mod Lexemes
 pub mod Productions
@@ -13,5 +14,6 @@ pub mod Operators
 pub mod Records
 pub mod Layout
 pub mod Source
+pub mod SameAnswers
 pub mod Spells
 pub mod Words

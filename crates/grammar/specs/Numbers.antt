@@ -36,8 +36,7 @@ MISPLACED = 8
 abbrev pub ESCAPE : ℕ
 ESCAPE = 9
 
-abbrev pub BLOCK : ℕ
-BLOCK = 10
+-- 10 is not used: 02, Item 10, "retire its number without using it again".
 
 abbrev pub DEPTH : ℕ
 DEPTH = 11
@@ -75,7 +74,6 @@ table =
     row EXPRESSION met lexeme nothing ∷
     row MISPLACED met lexeme which ∷
     row ESCAPE met lexeme byte ∷
-    row BLOCK met lexeme nothing ∷
     row DEPTH met lexeme nothing ∷
     row ROOM last nowhere nothing ∷
     row LARGE met lexeme nothing ∷
@@ -92,6 +90,11 @@ unfoldable pub placed : Place → ℕ → ℕ → Bool
 placed nowhere a e = eqb a 0 && eqb e 0
 placed point a e = eqb a e
 placed lexeme a e = true
+
+unfoldable pub is-lexeme : Place → Bool
+is-lexeme nowhere = false
+is-lexeme point = false
+is-lexeme lexeme = true
 
 unfoldable pub detailed : Detail → ℕ → Bool
 detailed nothing x = eqb x 0
@@ -123,3 +126,13 @@ fits-in n a e x l (row m o p d ∷ rows) = cond (eqb n m) (placed p a e && (deta
 unfoldable pub fits : ℕ → ℕ → ℕ → ℕ → ℕ → Bool
 unfolding fits-in table
 fits n a e x l = fits-in n a e x l table
+
+unfoldable pub at-lexeme-in : ℕ → List Row → Bool
+unfolding is-lexeme
+at-lexeme-in n [] = false
+at-lexeme-in n (row m o p d ∷ rows) = cond (eqb n m) (is-lexeme p) (at-lexeme-in n rows)
+
+-- Number n stands at a lexeme, or at the end.
+unfoldable pub at-lexeme : ℕ → Bool
+unfolding at-lexeme-in table
+at-lexeme n = at-lexeme-in n table

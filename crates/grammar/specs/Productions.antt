@@ -11,7 +11,7 @@ use Rattle.lexemes.specs.Kinds.{STRING-DOUBLE, STRING-SINGLE, STRING-DOUBLE-VER
 use Rattle.lexemes.specs.Kinds.{TAILSTRICT-KW, LOCAL-KW, IMPORTSTR-KW, IMPORTBIN-KW, IMPORT-KW, IF-KW, THEN-KW, ELSE-KW, FUNCTION-KW, ERROR-KW, IN-KW, NULL-KW, TRUE-KW, FALSE-KW, SELF-KW, SUPER-KW, FOR-KW, ASSERT-KW}
 use Rattle.grammar.specs.Tags.{IDENTITY, NULL, BOOL, NUMBER, STRING, VARIABLE, ARRAY, ARRAY-COMP, MEMBERS, OBJECT-COMP, EXTENSION, PREFIX, INFIX, ASSERT-EXPR, LOCAL, IMPORT, ERROR, CALL}
 use Rattle.grammar.specs.Tags.{NAMED-ARGUMENT, INDEX-PART, FUNCTION, IF, SLICE, BIND, NAME-PATTERN, SKIP, ARRAY-PATTERN, OBJECT-PATTERN, PATTERN-FIELD, PARAMETER, FIELD, ASSERT, FOR, IF-CLAUSE, OBJECT-ITERATION}
-use Rattle.grammar.specs.Numbers.{WANTED, ABSENT, EXPRESSION, MISPLACED, ESCAPE, BLOCK, LARGE}
+use Rattle.grammar.specs.Numbers.{WANTED, ABSENT, EXPRESSION, MISPLACED, ESCAPE, LARGE}
 use Rattle.grammar.specs.Trees.{Field, byte, number, span, text}
 use Rattle.grammar.specs.Lexemes.{Said, good, said, spoiled-at}
 
@@ -307,7 +307,6 @@ rule prefix basic v =
 -- parse_string_content; 02, Item 3: the detail is where the bad escape's backslash stands in the source, one byte of it being the quote
 rule prefix string v =
     when good (v .says) ⟹ leaf STRING (text (word v) ∷ []) ▸ end
-    ∣ v at STRING-BLOCK ⟹ fail BLOCK 0
     ∣ otherwise (fail ESCAPE (v .start + 1 + spoiled-at (v .says)))
 -- expr_basic's arrays, after `[`
 rule prefix array v =

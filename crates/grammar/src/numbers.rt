@@ -24,7 +24,7 @@ impl Number {
 
     pub const ESCAPE: u8 = 9;
 
-    pub const BLOCK: u8 = 10;
+    // 10 is retired, and not used again.
 
     pub const DEPTH: u8 = 11;
 

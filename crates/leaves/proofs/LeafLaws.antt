@@ -24,7 +24,7 @@ use Rattle.leaves.proofs.LexemeLaws.{lies, sight}
 use Rattle.leaves.proofs.Steps
 use Rattle.leaves.proofs.PartLaws.{lent-short, wrote-lent}
 use Rattle.leaves.proofs.LeafRules.{rest-comma, rest-over, bad-string, large-number}
-use Rattle.leaves.proofs.TextLaws.{spoils-kind, spoiling, exceeding}
+use Rattle.leaves.proofs.TextLaws.{spoiling, exceeding}
 use Rattle.leaves.specs.declared.Cursor.{Cursor}
 use Rattle.leaves.specs.declared.Refusal.{Refusal}
 use Rattle.leaves.specs.declared.Answer.{Answer}
@@ -140,7 +140,7 @@ any-size k st t h = omega (arith, h, lies st .from)
 pub bad-answer : {g : ℕ} {s : List ℕ} {d n w u m x : ℕ} {b : Body} {c : Cursor} {o o₁ : List ℕ} {a : Answer} → Stands s c → Spoils s (c .kind) (c .start) (c .end) x
     → a ≡ Broken (record { number = ESCAPE; place = c; detail = c .start + 1 + x }) → Leads g s d (state (goto string) n c w o) u b m a o₁
 bad-answer {g} {n = n} {x = x} {c = c} st f e =
-    Steps.broke (Steps.fails st (spoiling (fail 9 (c .start + 1 + x)) st f (λ xs. bad-string g c xs n (c .kind) x (spoils-kind f .1)) Steps.here)) e
+    Steps.broke (Steps.fails st (spoiling (fail 9 (c .start + 1 + x)) st f (λ xs. bad-string g c xs n (c .kind) x) Steps.here)) e
 
 -- a number beyond a double
 pub large-answer : {g : ℕ} {s : List ℕ} {d n w u m : ℕ} {b : Body} {c : Cursor} {o o₁ : List ℕ} {a : Answer} → Stands s c → c .kind ≡ FLOAT

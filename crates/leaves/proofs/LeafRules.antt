@@ -114,9 +114,9 @@ module _ (g : ℕ) (c : Cursor) (xs : List Lexeme) (n : ℕ) where
   unfolding choose rule sight has said good
   good-string k w = refl
 
-  pub bad-string : (k m : ℕ) → ¬ (k ≡ 50) → is string k (spoiled m) ≡ fail 9 (c .start + 1 + m)
+  pub bad-string : (k m : ℕ) → is string k (spoiled m) ≡ fail 9 (c .start + 1 + m)
   unfolding choose rule sight has good spoiled-at
-  bad-string k m h = simp (ne-eqb k 50 h)
+  bad-string k m = refl
 
   pub basic-string : (k : ℕ) (t : Said) → Quoting k → is basic k t ≡ goto string
   unfolding choose rule sight has

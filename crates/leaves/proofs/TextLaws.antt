@@ -183,9 +183,9 @@ means-short {s} {c} st q (single-verbatim p) = let w = lies st .within in omega 
 means-short {s} {c} st q (block p) = omega (arith, text-short (lies st .block′ q) p)
 
 -- a bad escape is a quoted literal's, and within it
-pub spoils-kind : {s : List ℕ} {k a e n : ℕ} → Spoils s k a e n → (1 < k) × ¬ (k ≡ 50)
-spoils-kind (in-double p) = (omega arith, λ q. omega arith)
-spoils-kind (in-single p) = (omega arith, λ q. omega arith)
+pub spoils-kind : {s : List ℕ} {k a e n : ℕ} → Spoils s k a e n → 1 < k
+spoils-kind (in-double p) = omega arith
+spoils-kind (in-single p) = omega arith
 
 pub spoils-within : {s : List ℕ} {k a e n : ℕ} → e ≤ length s → Spoils s k a e n → a + 1 + n < e
 spoils-within {s} {a = a} {e = e} w (in-double p) = omega (arith, bad-escape-within p .0, length-slice (a + 1) (e - 1) s (omega arith))
@@ -224,4 +224,4 @@ module _ {g : ℕ} {s : List ℕ} {d : ℕ} {from : State} {q : Phrase} {n e v w
   -- and this one has this bad escape
   pub spoiling : (b : Body) {m : ℕ} → Stands s c → Spoils s (c .kind) (c .start) (c .end) m
       → ((xs : List Lexeme) → choose g (rule (power g) q (sight c xs n (c .kind) (spoiled m))) ≡ b) → Seg g s d from e v (state (goto q) n c w o) → Seg g s d from e v (state b n c w o)
-  spoiling b st m f p = Steps.goes b st (λ xs y. seen (power g) g q n y refl (says-spoiled (y .says (λ z. omega (arith, z, spoils-kind m .0))) m) ∙ f xs) p
+  spoiling b st m f p = Steps.goes b st (λ xs y. seen (power g) g q n y refl (says-spoiled (y .says (λ z. omega (arith, z, spoils-kind m))) m) ∙ f xs) p

@@ -12,6 +12,7 @@ pub mod Firsts
 pub mod Automaton
 pub mod Laws
 pub mod KeptLaws
+pub mod SameLaws
 pub mod Fates
 pub mod Munch
 pub mod TextLaws

@@ -4,5 +4,6 @@ pub mod Rules
 pub mod Lexeme
 pub mod Kept
 pub mod Texts
+pub mod Same
 pub mod Scan
 pub mod Words

@@ -8,7 +8,7 @@ use native.Mathlib.Omega.{arith}
 use borrow.Author.Tests.{leb-true, leb-false, le-leb, lt-leb}
 use lib.Dec.{eqb, leb}
 use lib.ListN.{length, replicate}
-use Rattle.grammar.specs.Numbers.{TREE, SETTING, LONG, ENCODING, LEXEME, WANTED, ABSENT, EXPRESSION, MISPLACED, ESCAPE, BLOCK, DEPTH, ROOM, LARGE}
+use Rattle.grammar.specs.Numbers.{TREE, SETTING, LONG, ENCODING, LEXEME, WANTED, ABSENT, EXPRESSION, MISPLACED, ESCAPE, DEPTH, ROOM, LARGE}
 use Rattle.grammar.specs.Trees.{Trees}
 use Rattle.grammar.specs.Image.{image}
 use Rattle.grammar.specs.Answer.{Answer, Verdict, refused, tree, Judged, answer, output, document-01}
@@ -17,7 +17,7 @@ use Rattle.grammar.proofs.Whole.{Accepted, Parsed, parsed, judged-tree}
 use Rattle.grammar.proofs.Source.{lexing}
 use Rattle.reader.specs.Reader.{numbers}
 use Rattle.reader.specs.declared.Reading.{Reading}
-use Rattle.reader.specs.declared.Reading.the-variants.{Tree, Setting, Long, Encoding, Lexeme, Wanted, Absent, Expression, Misplaced, Escape, Block, Depth, Room, Large}
+use Rattle.reader.specs.declared.Reading.the-variants.{Tree, Setting, Long, Encoding, Lexeme, Wanted, Absent, Expression, Misplaced, Escape, Depth, Room, Large}
 
 -- ── The case that has these numbers ───────────────────────────────────────────────────────────────
 
@@ -36,10 +36,9 @@ case-of a = by (eqb (a .number))
         (cond (is EXPRESSION) (Expression (a .start) (a .stop))
         (cond (is MISPLACED) (Misplaced (a .start) (a .stop) (a .detail))
         (cond (is ESCAPE) (Escape (a .start) (a .stop) (a .detail))
-        (cond (is BLOCK) (Block (a .start) (a .stop))
         (cond (is DEPTH) (Depth (a .start) (a .stop))
         (cond (is ROOM) (Room (a .size))
-        (Large (a .start) (a .stop))))))))))))))
+        (Large (a .start) (a .stop)))))))))))))
 
 case-back : (r : Reading) → case-of (numbers r) ≡ r
 unfolding numbers case-of
@@ -53,7 +52,6 @@ case-back (Absent a e x) = refl
 case-back (Expression a e) = refl
 case-back (Misplaced a e x) = refl
 case-back (Escape a e x) = refl
-case-back (Block a e) = refl
 case-back (Depth a e) = refl
 case-back (Room n) = refl
 case-back (Large a e) = refl
@@ -80,7 +78,7 @@ accepted-derived {room = room} x h =
 
 -- ── A tree's answer and output, with room and without ─────────────────────────────────────────────
 
-has-room : (b : Bool) → TREE ≡ cond b TREE ROOM → b ≡ true
+pub has-room : (b : Bool) → TREE ≡ cond b TREE ROOM → b ≡ true
 has-room true e = refl
 has-room false e = absurd (omega (arith, e))
 

@@ -1,3 +1,4 @@
 pub mod ReaderLaws
 pub mod AnswerLaws
 pub mod Demands
+pub mod Comments

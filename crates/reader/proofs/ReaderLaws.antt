@@ -20,7 +20,7 @@ use Rattle.lexemes.specs.Kept.{FirstBad}
 use Rattle.lexemes.specs.Kept as lexemes
 use Rattle.lexemes.proofs.Laws.{lexeme-not-eof}
 use Rattle.lexemes.proofs.KeptLaws.{Rest, next, kept-step, first-bad-once}
-use Rattle.grammar.specs.Numbers.{TREE, SETTING, LONG, ENCODING, LEXEME, WANTED, ABSENT, EXPRESSION, MISPLACED, ESCAPE, BLOCK, DEPTH, ROOM, LARGE, met-with}
+use Rattle.grammar.specs.Numbers.{TREE, SETTING, LONG, ENCODING, LEXEME, WANTED, ABSENT, EXPRESSION, MISPLACED, ESCAPE, DEPTH, ROOM, LARGE, met-with}
 use Rattle.grammar.specs.Trees.{none, count as size}
 use Rattle.grammar.specs.Image.{image}
 use Rattle.grammar.specs.Lexemes.{Lexeme as Token, stop-of}
@@ -40,7 +40,7 @@ use Rattle.leaves.specs.declared.Refusal.{Refusal}
 use Rattle.leaves.specs.declared.Answer.{Answer}
 use Rattle.leaves.specs.declared.Answer.the-variants.{Done, Broken}
 use Rattle.reader.specs.declared.Reading.{Reading}
-use Rattle.reader.specs.declared.Reading.the-variants.{Tree, Setting, Long, Encoding, Lexeme, Wanted, Absent, Expression, Misplaced, Escape, Block, Depth, Room, Large}
+use Rattle.reader.specs.declared.Reading.the-variants.{Tree, Setting, Long, Encoding, Lexeme, Wanted, Absent, Expression, Misplaced, Escape, Depth, Room, Large}
 use Rattle.reader.proofs.Reading.{the-type}
 use Rattle.leaves.proofs.LexemeLaws.{sees}
 use Rattle.reader.proofs.AnswerLaws.{fits-answer, fits-output, lacks-answer, lacks-output}
@@ -273,9 +273,9 @@ module _ {g : ℕ} {s out out′ : List ℕ} where
       long = ap length (take-all (length out′ - n) (drop n out′) (omega (arith, length-drop n out′))) ∙ length-drop n out′ ∙ ap (λ (m : ℕ). m - n) k
 
 -- Only a tree has an image.
-pub no-image : (r : Reading) → OneOf (1 ∷ 2 ∷ 3 ∷ 4 ∷ 5 ∷ 6 ∷ 7 ∷ 8 ∷ 9 ∷ 10 ∷ 11 ∷ 12 ∷ 13 ∷ []) (tagOf the-type r) → 0 ≡ written r
+pub no-image : (r : Reading) → OneOf (1 ∷ 2 ∷ 3 ∷ 4 ∷ 5 ∷ 6 ∷ 7 ∷ 8 ∷ 9 ∷ 10 ∷ 11 ∷ 12 ∷ []) (tagOf the-type r) → 0 ≡ written r
 unfolding written numbers
-no-image (Tree n) m = absurd (miss (1 ∷ 2 ∷ 3 ∷ 4 ∷ 5 ∷ 6 ∷ 7 ∷ 8 ∷ 9 ∷ 10 ∷ 11 ∷ 12 ∷ 13 ∷ []) 0 tt m)
+no-image (Tree n) m = absurd (miss (1 ∷ 2 ∷ 3 ∷ 4 ∷ 5 ∷ 6 ∷ 7 ∷ 8 ∷ 9 ∷ 10 ∷ 11 ∷ 12 ∷ []) 0 tt m)
 no-image Setting m = refl
 no-image Long m = refl
 no-image (Encoding n) m = refl
@@ -285,7 +285,6 @@ no-image (Absent a e x) m = refl
 no-image (Expression a e) m = refl
 no-image (Misplaced a e x) m = refl
 no-image (Escape a e x) m = refl
-no-image (Block a e) m = refl
 no-image (Depth a e) m = refl
 no-image (Room n) m = refl
 no-image (Large a e) m = refl
@@ -309,9 +308,9 @@ module _ {n : ℕ} (x : ℕ) (h : met-with n x ≡ true) where
   no-detail k row e = eqb-true x 0 (sym row ∙ subst (λ (m : ℕ). met-with m x ≡ true) e h)
 
   -- what is none of the others is the depth
-  pub depth-else : ¬ (n ≡ WANTED) → ¬ (n ≡ ABSENT) → ¬ (n ≡ EXPRESSION) → ¬ (n ≡ MISPLACED) → ¬ (n ≡ ESCAPE) → ¬ (n ≡ BLOCK) → ¬ (n ≡ LARGE) → n ≡ DEPTH
+  pub depth-else : ¬ (n ≡ WANTED) → ¬ (n ≡ ABSENT) → ¬ (n ≡ EXPRESSION) → ¬ (n ≡ MISPLACED) → ¬ (n ≡ ESCAPE) → ¬ (n ≡ LARGE) → n ≡ DEPTH
   unfolding met-with
-  depth-else a b c d e f l =
+  depth-else a b c d e l =
       eqb-true n DEPTH
       (of-rows (eqb n TREE) (eqb n SETTING) (eqb n LONG) (eqb n ENCODING) (eqb n LEXEME) (eqb n DEPTH) (eqb x 0) (eqb n ROOM)
-      (rw (ne-eqb n WANTED a, ne-eqb n ABSENT b, ne-eqb n EXPRESSION c, ne-eqb n MISPLACED d, ne-eqb n ESCAPE e, ne-eqb n BLOCK f, ne-eqb n LARGE l) at h))
+      (rw (ne-eqb n WANTED a, ne-eqb n ABSENT b, ne-eqb n EXPRESSION c, ne-eqb n MISPLACED d, ne-eqb n ESCAPE e, ne-eqb n LARGE l) at h))

@@ -8,7 +8,7 @@ use lib.Dec.{eqb}
 use lib.ListN.{length, take, replicate}
 use lib.Seq.{sets}
 use Rattle.strings.specs.Utf8.{Utf8}
-use Rattle.grammar.specs.Numbers.{TREE, SETTING, LONG, ENCODING, LEXEME, WANTED, ABSENT, EXPRESSION, MISPLACED, ESCAPE, BLOCK, DEPTH, ROOM, LARGE, met-with}
+use Rattle.grammar.specs.Numbers.{TREE, SETTING, LONG, ENCODING, LEXEME, WANTED, ABSENT, EXPRESSION, MISPLACED, ESCAPE, DEPTH, ROOM, LARGE, met-with}
 use Rattle.grammar.specs.Trees.{Trees}
 use Rattle.grammar.specs.Image.{image}
 use Rattle.grammar.specs.Lexemes.{Lexeme as Token}
@@ -18,7 +18,7 @@ use Rattle.leaves.specs.declared.Answer.{Answer as Phrased}
 use Rattle.leaves.specs.declared.Answer.the-variants.{Done, Broken}
 use Rattle.reader.specs.declared.Fields.{Fields}
 use Rattle.reader.specs.declared.Reading.{Reading}
-use Rattle.reader.specs.declared.Reading.the-variants.{Tree, Setting, Long, Encoding, Lexeme, Wanted, Absent, Expression, Misplaced, Escape, Block, Depth, Room, Large}
+use Rattle.reader.specs.declared.Reading.the-variants.{Tree, Setting, Long, Encoding, Lexeme, Wanted, Absent, Expression, Misplaced, Escape, Depth, Room, Large}
 
 -- ── Document 01's numbers for each case of the answer ─────────────────────────────────────────────
 
@@ -42,7 +42,6 @@ numbers (Absent a e x) = refusal ABSENT a e x
 numbers (Expression a e) = refusal EXPRESSION a e 0
 numbers (Misplaced a e x) = refusal MISPLACED a e x
 numbers (Escape a e x) = refusal ESCAPE a e x
-numbers (Block a e) = refusal BLOCK a e 0
 numbers (Depth a e) = refusal DEPTH a e 0
 numbers (Room n) = tree-of ROOM n
 numbers (Large a e) = refusal LARGE a e 0

@@ -26,7 +26,6 @@ pub enum Reading {
     Expression(usize, usize),
     Misplaced(usize, usize, usize), // an argument, or what a comprehension cannot have
     Escape(usize, usize, usize), // the backslash of the first bad escape
-    Block(usize, usize),
     Depth(usize, usize),
     Room(usize), // the length needed
     Large(usize, usize), // a number
@@ -51,7 +50,6 @@ fn refused(r: Refusal) -> Reading
         Number::EXPRESSION => Reading::Expression(place.start, place.end),
         Number::MISPLACED => Reading::Misplaced(place.start, place.end, detail),
         Number::ESCAPE => Reading::Escape(place.start, place.end, detail),
-        Number::BLOCK => Reading::Block(place.start, place.end),
         Number::LARGE => Reading::Large(place.start, place.end),
         _ => Reading::Depth(place.start, place.end),
     }
@@ -172,7 +170,6 @@ pub fn numbers(r: Reading) -> Fields
         Reading::Expression(a, e) => refusal(Number::EXPRESSION, a, e, 0),
         Reading::Misplaced(a, e, d) => refusal(Number::MISPLACED, a, e, d),
         Reading::Escape(a, e, d) => refusal(Number::ESCAPE, a, e, d),
-        Reading::Block(a, e) => refusal(Number::BLOCK, a, e, 0),
         Reading::Depth(a, e) => refusal(Number::DEPTH, a, e, 0),
         Reading::Room(n) => tree(Number::ROOM, n),
         Reading::Large(a, e) => refusal(Number::LARGE, a, e, 0),

@@ -1,5 +1,6 @@
 // An answer as a person reads it: a tree as indented lines, a refusal as a sentence with its place.
 mod escapes; // what is wrong with an escape
+pub mod differences; // two sources that part
 mod lines; // a record as a line
 mod places; // places as a person counts them
 pub mod records; // the image's records

@@ -110,7 +110,6 @@ fn say_fault(number: u8, detail: u8) {
         }
         Number::EXPRESSION => say(b"an expression is wanted"),
         Number::MISPLACED => say_misplaced(detail),
-        Number::BLOCK => say(b"a text block cannot be decoded"),
         Number::LARGE => say(b"the number is more than a double holds, some 1.797e308"),
         _ => say(b"phrases stand more than 200 deep in each other"),
     }
@@ -215,7 +214,7 @@ fn say_carets(n: usize) {
 }
 
 // The line, and carets under the place.
-fn say_line(source: &[u8], start: usize, end: usize) {
+pub fn say_line(source: &[u8], start: usize, end: usize) {
     if source.len() < start {
         return;
     }

@@ -78,20 +78,14 @@ refusal-requires-10 c κs = search needs
 enum-known-r-10 : tie.Need-enum-known-r-10
 enum-known-r-10 c = search needs
 
-refusal-requires-11 : tie.Need-refusal-requires-11
-refusal-requires-11 c κs = search needs
+tree-requires-2 : tie.Need-tree-requires-2
+tree-requires-2 c κs = search needs
 
 enum-known-r-11 : tie.Need-enum-known-r-11
 enum-known-r-11 c = search needs
 
-tree-requires-2 : tie.Need-tree-requires-2
-tree-requires-2 c κs = search needs
-
-enum-known-r-12 : tie.Need-enum-known-r-12
-enum-known-r-12 c = search needs
-
-refusal-requires-12 : tie.Need-refusal-requires-12
-refusal-requires-12 c κs = search needs
+refusal-requires-11 : tie.Need-refusal-requires-11
+refusal-requires-11 c κs = search needs
 
 returns : tie.Need-returns
 unfolding numbers
@@ -139,15 +133,11 @@ returns-11 c = c .refusal10 .ensures ∙ sym (ap numbers (c .before .before .r9 
 
 returns-12 : tie.Need-returns-12
 unfolding numbers
-returns-12 c = c .refusal11 .ensures ∙ sym (ap numbers (c .before .before .r10 .given .1))
+returns-12 c = c .tree2 .ensures ∙ sym (ap numbers (c .before .before .r10 .given .1))
 
 returns-13 : tie.Need-returns-13
 unfolding numbers
-returns-13 c = c .tree2 .ensures ∙ sym (ap numbers (c .before .before .r11 .given .1))
-
-returns-14 : tie.Need-returns-14
-unfolding numbers
-returns-14 c = c .refusal12 .ensures ∙ sym (ap numbers (c .before .before .r12 .given .1))
+returns-13 c = c .refusal11 .ensures ∙ sym (ap numbers (c .before .before .r11 .given .1))
 
 pub numbers-spec : {M : Type 1} → statement M
 numbers-spec =
@@ -177,11 +167,9 @@ numbers-spec =
     enum-known-r-9
     refusal-requires-10
     enum-known-r-10
-    refusal-requires-11
-    enum-known-r-11
     tree-requires-2
-    enum-known-r-12
-    refusal-requires-12
+    enum-known-r-11
+    refusal-requires-11
     returns
     returns-2
     returns-3
@@ -194,5 +182,4 @@ numbers-spec =
     returns-10
     returns-11
     returns-12
-    returns-13
-    returns-14)
+    returns-13)

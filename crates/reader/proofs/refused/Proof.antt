@@ -2,7 +2,7 @@
 -- Assumes nothing.
 use mathlib.Core.Path.{refl, sym, ap, _∙_}
 use Prim.Native.Nat.{ℕ}
-use Rattle.grammar.specs.Numbers.{EXPRESSION, BLOCK, DEPTH, LARGE, met-with}
+use Rattle.grammar.specs.Numbers.{EXPRESSION, DEPTH, LARGE, met-with}
 use Rattle.reader.specs.Reader.{refusal, numbers}
 use Rattle.reader.proofs.ReaderLaws.{no-detail, depth-else}
 use Rattle.reader.proofs.refused.Statement.{statement}
@@ -43,24 +43,17 @@ returns-6 : tie.Need-returns-6
 unfolding numbers met-with
 returns-6 c =
     let r′ = c .before .before .args .r in
-    let z = no-detail (r′ .detail) (c .before .before .pre) BLOCK refl (c .match .keys6) in
-    sym (ap (λ (n : ℕ). refusal n (r′ .place .start) (r′ .place .end) (r′ .detail)) (c .match .keys6) ∙ ap (λ (x : ℕ). refusal BLOCK (r′ .place .start) (r′ .place .end) x) z)
+    let z = no-detail (r′ .detail) (c .before .before .pre) LARGE refl (c .match .keys6) in
+    sym (ap (λ (n : ℕ). refusal n (r′ .place .start) (r′ .place .end) (r′ .detail)) (c .match .keys6) ∙ ap (λ (x : ℕ). refusal LARGE (r′ .place .start) (r′ .place .end) x) z)
 
 returns-7 : tie.Need-returns-7
 unfolding numbers met-with
 returns-7 c =
     let r′ = c .before .before .args .r in
-    let z = no-detail (r′ .detail) (c .before .before .pre) LARGE refl (c .match .keys7) in
-    sym (ap (λ (n : ℕ). refusal n (r′ .place .start) (r′ .place .end) (r′ .detail)) (c .match .keys7) ∙ ap (λ (x : ℕ). refusal LARGE (r′ .place .start) (r′ .place .end) x) z)
-
-returns-8 : tie.Need-returns-8
-unfolding numbers met-with
-returns-8 c =
-    let r′ = c .before .before .args .r in
     let none = c .match .rest in
-    let z = depth-else (r′ .detail) (c .before .before .pre) (none .0 .0 .0 .0 .0 .0 .1) (none .0 .0 .0 .0 .0 .1) (none .0 .0 .0 .0 .1) (none .0 .0 .0 .1) (none .0 .0 .1) (none .0 .1) (none .1) in
+    let z = depth-else (r′ .detail) (c .before .before .pre) (none .0 .0 .0 .0 .0 .1) (none .0 .0 .0 .0 .1) (none .0 .0 .0 .1) (none .0 .0 .1) (none .0 .1) (none .1) in
     sym (ap (λ (n : ℕ). refusal n (r′ .place .start) (r′ .place .end) (r′ .detail)) z ∙ ap (λ (x : ℕ). refusal DEPTH (r′ .place .start) (r′ .place .end) x) (no-detail (r′ .detail) (c .before .before .pre) DEPTH refl z))
 
 pub refused-spec : {M : Type 1} → statement M
 refused-spec =
-    tie.close (tie.spec returns returns-2 returns-3 returns-4 returns-5 returns-6 returns-7 returns-8)
+    tie.close (tie.spec returns returns-2 returns-3 returns-4 returns-5 returns-6 returns-7)

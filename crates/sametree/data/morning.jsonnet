@@ -1,0 +1,4 @@
+/* checked by the gate crew */ {
+  bays: [1, 2],
+  level: 4, # raised
+}
