@@ -4,6 +4,7 @@ mod Rows
 mod Reading
 pub mod Utf8Laws
 pub mod CharacterLaws
+mod ValidLaws
 pub mod LiteralLaws
 mod Escapes
 mod Walk

@@ -1,11 +1,12 @@
 // UTF-8: whether bytes are well formed, and the bytes of a code point.
 ghost use mathlib.Core.Path.{_≡_};
 ghost use mathlib.Core.List.{[], _∷_};
-ghost use Prim.Native.Nat.{_+_, _/_, _%_, _^_, _<_};
+ghost use Prim.Native.Nat.{_+_, _/_, _%_, _^_, _<_, _≤_};
 ghost use lib.ListN.{length, drop};
 ghost use lib.Seq.{sets};
 ghost use Rattle.strings.specs.Utf8.{CharacterLength, ValidTo, utf8, Encodes};
 ghost use Rattle.strings.specs.Rows.{Row};
+ghost use Rattle.strings.specs.Valid.{NoneAbove, ValidSoFar, Reaches};
 ghost use Rattle.strings.specs.Decoding.{Decoding, Missing};
 use crate::Decoded;
 use crate::clear;
@@ -169,12 +170,30 @@ pub fn char_len(s: &[u8], at: usize) -> usize
     width
 }
 
-// The bytes valid so far.
-pub fn valid_to(s: &[u8]) -> usize
-    ensures { λ r. ⌜ ValidTo (now (s .entry)) r ⌝ }
+// The largest of 64 bytes, or more: a loop without a way out, which is compiled to a few wide instructions.
+fn largest(s: &[u8], from: usize) -> u8
+    requires { ⌜ from + 64 ≤ length (now s) ⌝ }
+    ensures { λ r. ⌜ NoneAbove (now (s .entry)) from 64 r ⌝ }
 {
-    let mut i = 0;
-    while i < s.len() {
+    let mut most = 0;
+    let mut k = 0;
+    while k < 64 {
+        let b = s[from + k];
+        if most < b {
+            most = b;
+        }
+        k += 1;
+    }
+    most
+}
+
+// Character after character, from a place up to which all is valid, until another place is reached or no character begins.
+fn valid_from(s: &[u8], from: usize, to: usize) -> usize
+    requires { ⌜ ValidSoFar (now s) from × (to ≤ length (now s)) ⌝ }
+    ensures { λ r. ⌜ Reaches (now (s .entry)) to r ⌝ }
+{
+    let mut i = from;
+    while i < to {
         let n = char_len(s, i);
         if n == 0 {
             return i;
@@ -182,4 +201,23 @@ pub fn valid_to(s: &[u8]) -> usize
         i += n;
     }
     i
+}
+
+// The bytes valid so far. Blocks of ASCII are passed whole.
+pub fn valid_to(s: &[u8]) -> usize
+    ensures { λ r. ⌜ ValidTo (now (s .entry)) r ⌝ }
+{
+    let mut i = 0;
+    while 64 <= s.len() - i {
+        let next = i + 64;
+        if largest(s, i) < 0x80 {
+            i = next;
+            continue;
+        }
+        i = valid_from(s, i, next);
+        if i < next {
+            return i;
+        }
+    }
+    valid_from(s, i, s.len())
 }

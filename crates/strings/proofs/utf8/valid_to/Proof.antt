@@ -1,51 +1,56 @@
 -- `strings::utf8::valid_to` meets its contract. The loop's invariant: the bytes before i are UTF-8.
 -- Assumes nothing.
-use Prim.Native.Nat.{_≤_, _-_}
+use Prim.Native.Nat.{_-_}
 use native.Mathlib.Omega.{arith}
-use lib.ListN.{length, take}
 use borrow.Author.Needs.{needs}
-use Rattle.strings.specs.Utf8.{Utf8, none}
-use Rattle.strings.proofs.Reading.{past-end}
-use Rattle.strings.proofs.CharacterLaws.{CharacterAt, character-at, valid-on, valid-stop}
+use lib.ListN.{length}
+use Rattle.strings.specs.Utf8.{none}
+use Rattle.strings.specs.Valid.{ValidSoFar}
+use Rattle.strings.proofs.ValidLaws.{ascii-more, valid-end, stopped-short, valid-there}
 use Rattle.strings.proofs.utf8.valid_to.Statement.{statement}
 use Rattle.strings.proofs.utf8.valid_to.Tie as tie
 
 abbrev Inv-loop : tie.InvT-loop
-Inv-loop s i₀ i = (i ≤ length s) × Utf8 (take i s)
+Inv-loop s i₀ i = ValidSoFar s i
 
 abbrev μ-loop : tie.MeasureT-loop
 μ-loop s i₀ i = length s - i
 
 loop-holds : tie.Need-loop-holds Inv-loop μ-loop
-loop-holds c = (omega arith, none)
+loop-holds c = record { within = omega arith; valid = none }
 
-char-len-requires : tie.Need-char-len-requires Inv-loop μ-loop
-char-len-requires c κs = search needs
+sub-loop : tie.Need-sub-loop Inv-loop μ-loop
+sub-loop c = omega arith
 
-returns : tie.Need-returns Inv-loop μ-loop
-returns c =
-    let inv = c .before .before .before .loop .inv in
-    valid-stop _ _ (inv .0) (inv .1) (rw (c .if1 .taken) at (c .before .char-len .ensures))
+add-next : tie.Need-add-next Inv-loop μ-loop
+add-next c = omega arith
 
--- the character that was found
-found :
-    (c : tie.Else1 Inv-loop μ-loop) →
-    CharacterAt (c .before .before .before .before .before .args .s .now) (c .before .before .before .loop .i) (c .before .char-len .result)
-found c = character-at _ _ _ (c .before .char-len .ensures) (omega arith)
-
-add-i : tie.Need-add-i Inv-loop μ-loop
-add-i c = omega (arith, found c .within)
+largest-requires : tie.Need-largest-requires Inv-loop μ-loop
+largest-requires c κs = omega arith
 
 loop-less : tie.Need-loop-less Inv-loop μ-loop
-loop-less c = omega (arith, found c .within)
+loop-less c = omega arith
 
 loop-again : tie.Need-loop-again Inv-loop μ-loop
-loop-again c = (omega (arith, found c .within), valid-on (c .before .before .before .loop .inv .1) (found c))
+loop-again c = ascii-more 64 (omega arith) (c .before .largest .ensures) (c .if1 .taken) (c .before .before .before .loop .inv)
+
+valid-from-requires : tie.Need-valid-from-requires Inv-loop μ-loop
+valid-from-requires c κs = (c .before .before .before .loop .inv, omega arith)
+
+returns : tie.Need-returns Inv-loop μ-loop
+returns c = stopped-short (c .before .valid-from .ensures) (c .if2 .taken)
+
+loop-less-2 : tie.Need-loop-less-2 Inv-loop μ-loop
+loop-less-2 c = omega arith
+
+loop-again-2 : tie.Need-loop-again-2 Inv-loop μ-loop
+loop-again-2 c = valid-there (c .before .valid-from .ensures) (c .if2 .left)
+
+valid-from-requires-2 : tie.Need-valid-from-requires-2 Inv-loop μ-loop
+valid-from-requires-2 c κs = (c .before .loop .inv, omega arith)
 
 returns-2 : tie.Need-returns-2 Inv-loop μ-loop
-returns-2 c =
-    let inv = c .before .loop .inv in
-    valid-stop _ _ (inv .0) (inv .1) (past-end _ _ (c .loop-test .left))
+returns-2 c = valid-end (c .valid-from2 .ensures)
 
 pub valid-to-spec : {M : Type 1} → statement M
 valid-to-spec =
@@ -54,9 +59,14 @@ valid-to-spec =
     Inv-loop
     μ-loop
     loop-holds
-    char-len-requires
-    returns
-    add-i
+    sub-loop
+    add-next
+    largest-requires
     loop-less
     loop-again
+    valid-from-requires
+    returns
+    loop-less-2
+    loop-again-2
+    valid-from-requires-2
     returns-2)
