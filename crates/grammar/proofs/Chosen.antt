@@ -11,7 +11,7 @@ use Rattle.lexemes.specs.Kinds.{QUESTION-MARK, NULL-COAELSE}
 use Rattle.grammar.specs.Lexemes.{Lexeme}
 use Rattle.grammar.specs.Productions.{Phrase, Body, Switch, always, exp-destruct, exp-object-iteration, exp-null-coaelse, Row, row, Table, otherwise, _∣_, View, rule}
 use Rattle.grammar.specs.Reading.{has, choose, view, production}
-use Rattle.grammar.proofs.Tables.{order, rank, moves, low, halts, fine, moved, numbered, sound-body, sound-table, halts-table, stops-table, unguarded, with-kind, Facts, plain, switched, an-expr, facts, checked}
+use Rattle.grammar.proofs.Tables.{order, rank, moves, low, halts, fine, moved, numbered, sound-body, sound-table, halts-table, stops-table, unguarded, with-kind, Facts, plain, switched, an-expr, facts, careful, checked}
 
 pub true-false : true ≡ false → ⊥
 true-false e = let z : _≡_ {A = ℕ} 0 1 = cc in omega arith
@@ -86,16 +86,26 @@ pub at-kind {ℓ} : (P : View → Type ℓ) (v : View) {k : ℕ} → v .kind ≡
 at-kind P v e x = subst (λ (n : ℕ). P (with-kind v n)) (sym e) x
 
 module _ (prefix s : ℕ) (q : Phrase) (v : View) where
-  is-checked : T (checked prefix q v)
-  is-checked = by (facts prefix q v)
+  all-checked : T (checked prefix q v)
+  all-checked = by (facts prefix q v)
     where
       by : Facts prefix q v → T (checked prefix q v)
       by (plain h same) = and-left (checked prefix q v) (unguarded (rule prefix q v)) h
       by (switched w h same) = h
       by (an-expr e h) = and-left (checked prefix q v) (unguarded (rule prefix q v)) h
 
-  sound-both : T (sound-table q (rule prefix q v) && stops-table q (rule prefix q (with-kind v QUESTION-MARK)))
+  abbrev is-sound : Bool
+  is-sound = sound-table q (rule prefix q v) && stops-table q (rule prefix q (with-kind v QUESTION-MARK)) && stops-table q (rule prefix q (with-kind v NULL-COAELSE))
+
+  is-checked : T is-sound
   unfolding checked
+  is-checked = and-left is-sound (careful prefix q v) all-checked
+
+  pub careful-chosen : T (careful prefix q v)
+  unfolding checked
+  careful-chosen = and-right is-sound (careful prefix q v) all-checked
+
+  sound-both : T (sound-table q (rule prefix q v) && stops-table q (rule prefix q (with-kind v QUESTION-MARK)))
   sound-both = and-left (sound-table q (rule prefix q v) && stops-table q (rule prefix q (with-kind v QUESTION-MARK))) (stops-table q (rule prefix q (with-kind v NULL-COAELSE))) is-checked
 
   sound : T (sound-body q (choose s (rule prefix q v)))
@@ -134,7 +144,6 @@ module _ (prefix s : ℕ) (q : Phrase) (v : View) where
       by false h k = absurd h
 
   pub halting : T (ltb 0 (rank q)) → has s exp-null-coaelse ≡ false → Stopper (v .kind) → T (halts (rank q) (choose s (rule prefix q v)))
-  unfolding checked
   halting h off (inl e) =
       at-kind (λ (w : View). T (halts (rank q) (choose s (rule prefix q w)))) v e
       (stops (rule prefix q (with-kind v QUESTION-MARK)) h off (and-right (sound-table q (rule prefix q v)) (stops-table q (rule prefix q (with-kind v QUESTION-MARK))) sound-both))

@@ -12,6 +12,7 @@ pub mod ImageLaws
 pub mod OperatorLaws
 pub mod Whole
 pub mod Possible
+pub mod Taken
 pub mod Sorts
 pub mod Shapes
 pub mod ShapesKept

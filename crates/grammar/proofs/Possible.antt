@@ -202,7 +202,7 @@ module _ {s : List ℕ} (u : Utf8 s) where
   possible {k} {a} {e} h d (no-text n m) =
       Possible.silent (λ q. n (slice a e s) (subst (λ (j : ℕ). Means s j a e (slice a e s)) (sym q) name))
 
-  worded : {at : ℕ} {ranges : List Range} {xs : List Lexeme} → lexemes.Kept s at ranges → Told s ranges xs → Worded xs
+  pub worded : {at : ℕ} {ranges : List Range} {xs : List Lexeme} → lexemes.Kept s at ranges → Told s ranges xs → Worded xs
   worded k Told.none = Worded.none
   worded {at} k (Told.more {k = kind} {a = a} {e = e} {w = w} {xs = ranges} {ys = xs} x t) = by (kept-step k) (λ r. worded r t)
     where

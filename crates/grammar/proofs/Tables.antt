@@ -7,7 +7,10 @@ use Prim.Native.Nat.{ℕ, _≤_, _<_}
 use native.Mathlib.Omega.{arith}
 use lib.Dec.{T, eqb, leb, ltb}
 use Rattle.lexemes.specs.Kinds.{EOF, QUESTION-MARK, NULL-COAELSE}
+use Rattle.lexemes.specs.Kept.{badKinds, bad}
+use Rattle.lexemes.proofs.KeptLaws.{every}
 use Rattle.grammar.specs.Numbers.{met-with}
+use Rattle.grammar.specs.Lexemes.{Said, nothing, good}
 use Rattle.grammar.specs.Productions.{Phrase, Body, end, goto, fail, _▸_, Step, eat, leaf, sub, deep, close, Switch, always, exp-destruct, exp-object-iteration, exp-null-coaelse, Row, row, Table, otherwise, _∣_, View, rule, signs, operators, sign-rows, operator-rows}
 use Rattle.grammar.specs.Productions.{expr, infix-tail, suffixed, suffix, null-safe, null-safe-index, bracket, member-name, null-safe-end, index-or-slice, slice-end, slice-ended, slice-step}
 use Rattle.grammar.specs.Productions.{slice-stepped, arguments, argument, argument-end, call-close, call-end, named-argument, basic, string, array, array-first, array-comp, array-comp-end, elements}
@@ -191,6 +194,18 @@ numbered (fail n x) = met-with n x
 numbered (goto q) = true
 numbered (st ▸ b) = numbered b
 
+-- It takes no bad lexeme: what it eats has a good kind. A leaf takes whatever stands next, so one is let pass as the first step only.
+unfoldable pub picky : Bool → Body → Bool
+unfolding bad
+picky first end = true
+picky first (fail n x) = true
+picky first (goto q) = true
+picky first (eat k ▸ b) = not (bad k) && picky false b
+picky first (leaf t fs ▸ b) = first && picky false b
+picky first (close t fs ▸ b) = picky false b
+picky first (sub q ▸ b) = picky false b
+picky first (deep q ▸ b) = picky false b
+
 -- ── Checkers of a table ───────────────────────────────────────────────────────────────────────────
 
 -- Every production of phrase q is low, fine and numbered, and moves if q does.
@@ -219,11 +234,21 @@ unguarded (row exp-destruct t b ∣ rest) = false
 unguarded (row exp-object-iteration t b ∣ rest) = false
 unguarded (row exp-null-coaelse t b ∣ rest) = false
 
+-- Every production takes no bad lexeme, but for a leaf at its start.
+unfoldable pub picky-table : Table → Bool
+picky-table (otherwise b) = picky true b
+picky-table (row g t b ∣ rest) = picky true b && picky-table rest
+
+-- No production whose test holds begins with a leaf.
+unfoldable pub shuns : Table → Bool
+shuns (otherwise b) = picky false b
+shuns (row g t b ∣ rest) = (picky false b || not t) && shuns rest
+
 -- ── The facts ─────────────────────────────────────────────────────────────────────────────────────
 
--- The view with another kind next.
-abbrev pub with-kind : View → ℕ → View
-with-kind v k =
+-- The view with another lexeme next, of which the kind is known, and what it says.
+abbrev pub with-next : View → ℕ → Said → View
+with-next v k w =
     record {
       kind = k;
       kind₁ = v .kind₁;
@@ -232,10 +257,13 @@ with-kind v k =
       start = v .start;
       stop = v .stop;
       before = v .before;
-      says = v .says;
+      says = w;
       says₁ = v .says₁;
       count = v .count;
     }
+
+abbrev pub with-kind : View → ℕ → View
+with-kind v k = with-next v k (v .says)
 
 -- The phrases that a switch bears on.
 pub data Switched : Phrase → Type 0 where
@@ -245,8 +273,13 @@ pub data Switched : Phrase → Type 0 where
   at-for-clause : Switched for-clause
 
 module _ (prefix : ℕ) where
+  -- It takes no bad lexeme: where one stands, which says nothing, no production begins with a leaf.
+  unfoldable pub careful : Phrase → View → Bool
+  careful q v = picky-table (rule prefix q v) && every badKinds (λ (k : ℕ). shuns (rule prefix q (with-next v k nothing)))
+
   unfoldable pub checked : Phrase → View → Bool
-  checked q v = sound-table q (rule prefix q v) && stops-table q (rule prefix q (with-kind v QUESTION-MARK)) && stops-table q (rule prefix q (with-kind v NULL-COAELSE))
+  checked q v =
+      sound-table q (rule prefix q v) && stops-table q (rule prefix q (with-kind v QUESTION-MARK)) && stops-table q (rule prefix q (with-kind v NULL-COAELSE)) && careful q v
 
   -- What is found of phrase q: its productions are checked; which phrases have switches; and that only expressions ask for the prefix power.
   pub data Facts (q : Phrase) (v : View) : Type 0 where
@@ -255,7 +288,7 @@ module _ (prefix : ℕ) where
     an-expr : {m : ℕ} → q ≡ expr m → T (checked q v && unguarded (rule prefix q v)) → Facts q v
 
   pub facts : (q : Phrase) (v : View) → Facts q v
-  unfolding rule checked sound-table sound-body stops-table halts-table low halts fails fine moved numbered moves order rank unguarded
+  unfolding rule checked sound-table sound-body stops-table halts-table low halts fails fine moved numbered moves order rank unguarded careful every picky-table shuns picky good
   facts (expr a) v = an-expr refl tt
   facts (infix-tail a) v = switched at-infix-tail tt (λ other. refl)
   facts suffixed v = plain tt (λ other. refl)

@@ -2,7 +2,7 @@
 -- ones from a place are none, or one and the kept ones from its end.
 -- Assumes nothing.
 use mathlib.Core.Path.{_≡_, refl, sym, _∙_, ap, subst}
-use mathlib.Core.Bool.{Bool, true, false, not, cond, _&&_}
+use mathlib.Core.Bool.{Bool, true, false, not, cond, _&&_, _||_}
 use mathlib.Core.List.{List, [], _∷_, _++_, append-assoc}
 use mathlib.Core.Logic.{_⊎_, inl, inr, ⊎-elim}
 use Prim.Native.Nat.{ℕ, zero, suc, _+_, _-_, _≤_, _<_}
@@ -11,14 +11,14 @@ use native.Mathlib.Decide.{decLt, ℕ-discrete}
 use lib.Dec.{T, eqb, leb, ltb, le→leb, lt→ltb, eqb→eq}
 use lib.ListN.{length, getD, take, drop, drop-of-length-le, take-append-drop}
 use lib.Seq.{drop-drop}
-use Rattle.regex.proofs.Bools.{and, and-left, and-right, all, all-at, implies, implied, refuted}
+use Rattle.regex.proofs.Bools.{false-is, and, and-left, and-right, or-cases, all, all-at, implies, implied, refuted}
 use Rattle.lexemes.specs.declared.Lexeme.{Lexeme}
 use Rattle.lexemes.specs.declared.kept.Cursor.{Cursor}
 use Rattle.lexemes.specs.Kinds.{EOF, IDENT, STRING-BLOCK, WHITESPACE}
 use Rattle.lexemes.specs.Lexeme.{LexemeAt, rule, lexeme}
 use Rattle.lexemes.specs.Scan.{classOf, Ran, Alone}
 use Rattle.lexemes.specs.Words.{wordKind, KeywordAt}
-use Rattle.lexemes.specs.Kept.{Lexemes, none, some, dropped, bad, keep, Kept, first, NextKept, firstBad, FirstBad, Stands, oneOf}
+use Rattle.lexemes.specs.Kept.{Lexemes, none, some, droppedKinds, dropped, bad, keep, Kept, first, NextKept, firstBad, FirstBad, Stands, oneOf}
 use Rattle.lexemes.specs.Texts.{textOf}
 use Rattle.lexemes.proofs.Operations.{alone-scanned, alone-low}
 use Rattle.lexemes.proofs.Keywords.{word-scanned, some-word}
@@ -97,6 +97,47 @@ stands-once {s} {at} {c} {c′} k k′ =
     let e : c .last ≡ c′ .last = k .last ∙ sym (k′ .last) in
     let f : c .current ≡ c′ .current = next-once (k .current) (k′ .current) in
     λ i. record { last = e i; current = f i }
+
+-- A test of every kind of a list holds of each.
+unfoldable pub every : List ℕ → (ℕ → Bool) → Bool
+every [] f = true
+every (k ∷ ks) f = f k && every ks f
+
+pub every-at : (ks : List ℕ) (f : ℕ → Bool) → T (every ks f) → (k : ℕ) → T (oneOf ks k) → T (f k)
+unfolding every
+every-at [] f h k m = absurd m
+every-at (x ∷ ks) f h k m = by (or-cases (eqb k x) (oneOf ks k) m) (every-at ks f (and-right (f x) (every ks f) h) k)
+  where
+    by : T (eqb k x) ⊎ T (oneOf ks k) → (T (oneOf ks k) → T (f k)) → T (f k)
+    by (inl e) later = subst (λ (j : ℕ). T (f j)) (sym (eqb→eq k x e)) (and-left (f x) (every ks f) h)
+    by (inr m) later = later m
+
+-- What is dropped is not bad.
+dropped-good : (k : ℕ) → dropped k ≡ true → bad k ≡ false
+unfolding dropped bad every
+dropped-good k h = sym (false-is (bad k) (every-at droppedKinds (λ (k : ℕ). not (bad k)) tt k (subst T (sym h) tt)))
+
+-- None of these lexemes is bad.
+pub data NoneBad : List Lexeme → Type 0 where
+  over : NoneBad []
+  also : {l : Lexeme} {ls : List Lexeme} → bad (l .kind) ≡ false → NoneBad ls → NoneBad (l ∷ ls)
+
+none-bad-first : (n : ℕ) (ls : List Lexeme) → NoneBad (keep ls) → firstBad n ls ≡ lexeme EOF n n
+unfolding keep firstBad
+none-bad-first n [] h = refl
+none-bad-first n (l ∷ ls) h = by (dropped (l .kind)) refl h (none-bad-first n ls)
+  where
+    head : NoneBad (l ∷ keep ls) → (bad (l .kind) ≡ false) × NoneBad (keep ls)
+    head (also g r) = (g, r)
+
+    by : (b : Bool) → dropped (l .kind) ≡ b → NoneBad (cond b (keep ls) (l ∷ keep ls)) → (NoneBad (keep ls) → firstBad n ls ≡ lexeme EOF n n)
+        → cond (bad (l .kind)) l (firstBad n ls) ≡ lexeme EOF n n
+    by true e r later = ap (λ (b : Bool). cond b l (firstBad n ls)) (dropped-good (l .kind) e) ∙ later r
+    by false e r later = ap (λ (b : Bool). cond b l (firstBad n ls)) (head r .0) ∙ later (head r .1)
+
+-- Where none of the kept lexemes is bad, none of all is.
+pub kept-none-bad : {s : List ℕ} {ks : List Lexeme} → Kept s 0 ks → NoneBad ks → FirstBad s (lexeme EOF (length s) (length s))
+kept-none-bad {s} k h = record { lexemes = k .lexemes; all = k .all; is-first = sym (none-bad-first (length s) (k .lexemes) (subst NoneBad (k .kept) h)) }
 
 -- A lexeme before a list: dropped or kept.
 module _ {s : List ℕ} {at : ℕ} {l : Lexeme} (h : at < length s) (d : LexemeAt s at l) where

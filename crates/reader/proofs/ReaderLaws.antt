@@ -16,25 +16,27 @@ use Rattle.strings.specs.Utf8.{Utf8, ValidTo}
 use Rattle.strings.proofs.CharacterLaws.{valid-whole}
 use Rattle.lexemes.specs.declared.Lexeme.{Lexeme as Range}
 use Rattle.lexemes.specs.Kinds.{EOF}
+use Rattle.lexemes.specs.Lexeme.{lexeme}
 use Rattle.lexemes.specs.Kept.{FirstBad}
 use Rattle.lexemes.specs.Kept as lexemes
 use Rattle.lexemes.proofs.Laws.{lexeme-not-eof}
-use Rattle.lexemes.proofs.KeptLaws.{Rest, next, kept-step, first-bad-once}
+use Rattle.lexemes.proofs.KeptLaws.{Rest, next, kept-step, kept-always, first-bad-once}
 use Rattle.grammar.specs.Numbers.{TREE, SETTING, LONG, ENCODING, LEXEME, WANTED, ABSENT, EXPRESSION, MISPLACED, ESCAPE, DEPTH, ROOM, LARGE, met-with}
-use Rattle.grammar.specs.Trees.{none, count as size}
+use Rattle.grammar.specs.Trees.{Trees, none, count as size}
 use Rattle.grammar.specs.Image.{image}
 use Rattle.grammar.specs.Lexemes.{Lexeme as Token, stop-of}
 use Rattle.grammar.specs.Says.{Told}
 use Rattle.grammar.specs.Productions.{end, _▸_, eat, deep, expr, source}
-use Rattle.grammar.specs.Reading.{Outcome, Reading as Derived, ended, eaten, uneaten}
+use Rattle.grammar.specs.Reading.{Outcome, done, broken, Reading as Derived, ended, eaten, uneaten}
 use Rattle.grammar.specs.Answer.{Answer as Handed, Verdict, refused, tree, verdict, Judged, read, answer, output, valid-setting, document-01}
 use Rattle.grammar.specs.Source.{Bad, bad, Kept, kept}
 use Rattle.grammar.proofs.Chosen.{true-false, holds}
 use Rattle.grammar.proofs.NumberLaws.{refusal as met-in-reading}
-use Rattle.grammar.proofs.Source.{lexing}
+use Rattle.grammar.proofs.Source.{told-always, lexing}
+use Rattle.grammar.proofs.Taken.{tree-kept}
 use Rattle.leaves.specs.Lexing.{Left, over, more, Stands}
 use Rattle.leaves.specs.Meets.{power, state, Seg, Breaks, Takes}
-use Rattle.reader.specs.Reader.{refusal, numbers, written, Clean, Parsed, Parses, Finds, Reads}
+use Rattle.reader.specs.Reader.{refusal, numbers, written, Admitted, Met, Parsed, Parses, Finds, Reads}
 use Rattle.leaves.specs.declared.Cursor.{Cursor}
 use Rattle.leaves.specs.declared.Refusal.{Refusal}
 use Rattle.leaves.specs.declared.Answer.{Answer}
@@ -56,31 +58,56 @@ pub left-of : {s : List ℕ} {at : ℕ} {ranges : List Range} {xs : List Token} 
 left-of k Told.none = over (record { left = []; is-left = k; is-first = refl })
 left-of k (Told.more t ts) = let r = first-rest (kept-step k) in more (record { left = _; is-left = k; is-first = refl }) (r .0) t (left-of (r .1) ts)
 
-kept-left : {s : List ℕ} {xs : List Token} → Kept s xs → Left s 0 xs
-kept-left (kept b k t) = left-of k t
+-- Every source has some.
+left-always : (s : List ℕ) → (xs : List Token) × Left s 0 xs
+left-always s =
+    let k = kept-always s 0 in
+    let t = told-always s (k .0) in
+    (t .0, left-of (k .1) (t .1))
 
--- Where the first bad lexeme is the end, there are kept ones.
-pub none-bad : {s : List ℕ} {l : Range} → Utf8 s → FirstBad s l → l .kind ≡ EOF → (xs : List Token) × Kept s xs
-none-bad {s} {l} u b e = by (lexing .lexed s u)
+-- Where the first bad lexeme is the end, none is bad.
+end-first : {s : List ℕ} {l : Range} → Utf8 s → FirstBad s l → l .kind ≡ EOF → FirstBad s (lexeme EOF (length s) (length s))
+end-first {s} {l} u b e = by (lexing .lexed s u)
   where
-    by : ((k : ℕ) × (a : ℕ) × (z : ℕ) × Bad s k a z) ⊎ ((xs : List Token) × Kept s xs) → (xs : List Token) × Kept s xs
+    by : ((k : ℕ) × (a : ℕ) × (z : ℕ) × Bad s k a z) ⊎ ((xs : List Token) × Kept s xs) → FirstBad s (lexeme EOF (length s) (length s))
     by (inl (k, a, z, bad n x)) = absurd (n (sym (ap (λ (y : Range). y .kind) (first-bad-once b x)) ∙ e))
-    by (inr k) = k
+    by (inr (xs, kept x k t)) = x
 
 -- All bytes are valid.
 pub valid-all : {s : List ℕ} {n : ℕ} → ValidTo s n → length s ≤ n → Utf8 s
 valid-all v h = valid-whole v (omega (arith, v .within))
 
--- What the lexemes of a source are read as is what is found out about it.
-judged-by : {g : ℕ} {s : List ℕ} {v : Verdict} → Clean g s
-    → ((xs : List Token) → Left s 0 xs → (o : Outcome) × Derived (power g) g source none 200 0 xs o × (verdict o ≡ v)) → Judged Bad Kept document-01 g s v
-judged-by {g} {s} c f =
-    let o = f (c .lexemes .0) (kept-left (c .lexemes .1)) in
-    subst (λ (v : Verdict). Judged Bad Kept document-01 g s v) (o .2) (read (c .known) (c .short) (c .valid) (c .lexemes .1) (o .1))
+-- What the lexemes of a source are read as is what the phrases make of it.
+met-by : {g : ℕ} {s : List ℕ} {v : Verdict} → ((xs : List Token) → Left s 0 xs → (o : Outcome) × Derived (power g) g source none 200 0 xs o × (verdict o ≡ v)) → Met g s v
+met-by {s = s} f =
+    let k = kept-always s 0 in
+    let t = told-always s (k .0) in
+    let o = f (t .0) (left-of (k .1) (t .1)) in
+    record { ranges = k .0; tokens = t .0; kept = k .1; told = t .1; outcome = o .0; reads = o .1; so = o .2 }
+
+no-tree : {n a e x : ℕ} {ts : Trees} → refused n a e x ≡ tree ts → ⊥
+no-tree e = let z : _≡_ {A = ℕ} 0 1 = cc in omega arith
+
+module _ {g : ℕ} {s : List ℕ} (a : Admitted g s) where
+  judged-kept : {v : Verdict} (m : Met g s v) → Kept s (m .tokens) → Judged Bad Kept document-01 g s v
+  judged-kept m k = subst (λ (v : Verdict). Judged Bad Kept document-01 g s v) (m .so) (read (a .known) (a .short) (a .valid) k (m .reads))
+
+  -- With no bad lexeme that is what is found out about it.
+  judged-good : {v : Verdict} {l : Range} → FirstBad s l → l .kind ≡ EOF → Met g s v → Judged Bad Kept document-01 g s v
+  judged-good b e m = judged-kept m (kept (end-first (a .valid) b e) (m .kept) (m .told))
+
+  -- Where there is a tree there is no bad lexeme.
+  judged-tree : {ts : Trees} → Met g s (tree ts) → Judged Bad Kept document-01 g s (tree ts)
+  unfolding verdict
+  judged-tree {ts} m = judged-kept m (by (m .outcome) (m .reads) (m .so))
+    where
+      by : (o : Outcome) → Derived (power g) g source none 200 0 (m .tokens) o → verdict o ≡ tree ts → Kept s (m .tokens)
+      by (done us p ys) z e = tree-kept (a .valid) (m .kept) (m .told) z
+      by (broken n p ys x) z e = absurd (no-tree e)
 
 -- ── What an expression's answer says of the whole source ──────────────────────────────────────────
 
-module _ {g : ℕ} {s out : List ℕ} {c : Cursor} {a : Answer} {out′ : List ℕ} (clean : Clean g s) (at : (c .at ≡ 0) × Stands s c)
+module _ {g : ℕ} {s out : List ℕ} {c : Cursor} {a : Answer} {out′ : List ℕ} (at : (c .at ≡ 0) × Stands s c)
     (t : Takes g s (deep (expr 0)) 1 0 200 c 0 out a out′) where
   from-start : {xs : List Token} → Left s 0 xs → Left s (c .at) xs
   from-start {xs} l = subst⁻¹ (λ (p : ℕ). Left s p xs) (at .0) l
@@ -93,10 +120,10 @@ module _ {g : ℕ} {s out : List ℕ} {c : Cursor} {a : Answer} {out′ : List �
     broke : Breaks g s 200 (state source 0 c 0 out) r
     broke = Steps.refused (t .takes (eat EOF ▸ end) 0) q
 
-    refusal-judged : Judged Bad Kept document-01 g s (refused (r .number) (r .place .start) (r .place .end) (r .detail))
+    refusal-made : Met g s (refused (r .number) (r .place .start) (r .place .end) (r .detail))
     unfolding size verdict
-    refusal-judged =
-        judged-by clean (λ xs l.
+    refusal-made =
+        met-by (λ xs l.
         let b = broke .breaks none xs refl (from-start l) in
         let y = sees (broke .stands) refl (b .kept) in (
           _,
@@ -108,12 +135,13 @@ module _ {g : ℕ} {s out : List ℕ} {c : Cursor} {a : Answer} {out′ : List �
     refusal-met : met-with (r .number) (r .detail) ≡ true
     unfolding size
     refusal-met =
-        let b = broke .breaks none (clean .lexemes .0) refl (from-start (kept-left (clean .lexemes .1))) in
+        let some = left-always s in
+        let b = broke .breaks none (some .0) refl (from-start (some .1)) in
         holds (met-with (r .number) (r .detail)) (met-in-reading (power g) g (to-start (b .reading)))
 
     pub parses-broken : Parses g s out a out′
     unfolding Parsed
-    parses-broken = record { parsed = subst⁻¹ (λ (y : Answer). Parsed g s out y out′) q (refusal-judged, refusal-met) }
+    parses-broken = record { parsed = subst⁻¹ (λ (y : Answer). Parsed g s out y out′) q (refusal-made, refusal-met) }
 
   -- done, up to a cursor
   module _ {c₁ : Cursor} {w k : ℕ} (q : a ≡ Done c₁ w k) where
@@ -121,10 +149,10 @@ module _ {g : ℕ} {s out : List ℕ} {c : Cursor} {a : Answer} {out′ : List �
     whole = Steps.led (t .takes (eat EOF ▸ end) 0) q
 
     -- with a lexeme there
-    more-judged : ¬ (c₁ .kind ≡ EOF) → Judged Bad Kept document-01 g s (refused WANTED (c₁ .start) (c₁ .end) EOF)
+    more-made : ¬ (c₁ .kind ≡ EOF) → Met g s (refused WANTED (c₁ .start) (c₁ .end) EOF)
     unfolding size verdict
-    more-judged n =
-        judged-by clean (λ xs l.
+    more-made n =
+        met-by (λ xs l.
         let b = whole .run none xs refl (from-start l) in
         let y = sees (whole .stands (at .1)) refl (b .kept) in (
           _,
@@ -133,10 +161,10 @@ module _ {g : ℕ} {s out : List ℕ} {c : Cursor} {a : Answer} {out′ : List �
         ))
 
     -- with none
-    tree-judged : c₁ .kind ≡ EOF → Judged Bad Kept document-01 g s (tree (whole .trees none))
+    tree-made : c₁ .kind ≡ EOF → Met g s (tree (whole .trees none))
     unfolding size verdict
-    tree-judged e =
-        judged-by clean (λ xs l.
+    tree-made e =
+        met-by (λ xs l.
         let b = whole .run none xs refl (from-start l) in
         let y = sees (whole .stands (at .1)) refl (b .kept) in
         (_, to-start (b .back _ (eaten (y .kind ∙ e) ended)), refl))
@@ -153,11 +181,11 @@ module _ {g : ℕ} {s out : List ℕ} {c : Cursor} {a : Answer} {out′ : List �
 
     pub parses-more : {b : Answer} → ¬ (c₁ .kind ≡ EOF) → b ≡ Broken (record { number = WANTED; place = c₁; detail = EOF }) → Parses g s out b out′
     unfolding Parsed met-with
-    parses-more n e = record { parsed = subst⁻¹ (λ (y : Answer). Parsed g s out y out′) e (more-judged n, refl) }
+    parses-more n e = record { parsed = subst⁻¹ (λ (y : Answer). Parsed g s out y out′) e (more-made n, refl) }
 
     pub parses-tree : c₁ .kind ≡ EOF → Parses g s out (Done c₁ w k) out′
     unfolding Parsed
-    parses-tree e = record { parsed = (whole .trees none, tree-judged e, tree-long, tree-stored) }
+    parses-tree e = record { parsed = (whole .trees none, tree-made e, tree-long, tree-stored) }
 
 -- ── Settings ──────────────────────────────────────────────────────────────────────────────────────
 
@@ -201,7 +229,7 @@ module _ {g : ℕ} {s out out′ : List ℕ} where
       }
 
   -- what the phrases refuse, and what they have a tree of
-  module _ {a : Answer} (p : Parses g s out a out′) where
+  module _ {a : Answer} (ok : Admitted g s) (p : Parses g s out a out′) where
     refused-by : {r : Refusal} → a ≡ Broken r → Parsed g s out (Broken r) out′
     refused-by q = subst (λ (y : Answer). Parsed g s out y out′) q (p .parsed)
 
@@ -209,9 +237,9 @@ module _ {g : ℕ} {s out out′ : List ℕ} where
     unfolding Parsed
     broken-met q = refused-by q .1
 
-    pub finds-broken : {r : Refusal} {y : Reading} → a ≡ Broken r → numbers y ≡ refusal (r .number) (r .place .start) (r .place .end) (r .detail) → Finds g s out y out′
+    pub finds-broken : {r : Refusal} {y : Reading} {l : Range} → a ≡ Broken r → FirstBad s l → l .kind ≡ EOF → numbers y ≡ refusal (r .number) (r .place .start) (r .place .end) (r .detail) → Finds g s out y out′
     unfolding Parsed
-    finds-broken q e = finds-refusal (refused-by q .0) e
+    finds-broken q b z e = finds-refusal (judged-good ok b z (refused-by q .0)) e
 
     done-by : {c : Cursor} {w k : ℕ} → a ≡ Done c w k → Parsed g s out (Done c w k) out′
     done-by q = subst (λ (y : Answer). Parsed g s out y out′) q (p .parsed)
@@ -227,7 +255,7 @@ module _ {g : ℕ} {s out out′ : List ℕ} where
         let z : length out < length (image ts) = omega (arith, q, h, same-long out out′ (image ts) e) in
         record {
           found = _;
-          judged = x .1;
+          judged = judged-tree ok (x .1);
           told = ap (λ (n : ℕ). numbers (Room n)) q ∙ sym (lacks-answer (length out) ts z);
           room = omega arith;
           left = lacks-output (length out) ts z ∙ ap (λ (n : ℕ). replicate n 0) (sym (minus-none (length out)));
@@ -245,7 +273,7 @@ module _ {g : ℕ} {s out out′ : List ℕ} where
         let p : out′ ≡ image ts ++ drop (0 + length (image ts)) out = e ∙ sets-eq (image ts) out 0 (omega (arith, z)) in
         record {
           found = _;
-          judged = x .1;
+          judged = judged-tree ok (x .1);
           told = ap (λ (n : ℕ). numbers (Tree n)) q ∙ sym (fits-answer (length out) ts z);
           room = omega (arith, q, z);
           left =

@@ -8,11 +8,15 @@ use lib.Dec.{eqb}
 use lib.ListN.{length, take, replicate}
 use lib.Seq.{sets}
 use Rattle.strings.specs.Utf8.{Utf8}
+use Rattle.lexemes.specs.declared.Lexeme.{Lexeme as Range}
+use Rattle.lexemes.specs.Kept as lexemes
 use Rattle.grammar.specs.Numbers.{TREE, SETTING, LONG, ENCODING, LEXEME, WANTED, ABSENT, EXPRESSION, MISPLACED, ESCAPE, DEPTH, ROOM, LARGE, met-with}
 use Rattle.grammar.specs.Trees.{Trees}
 use Rattle.grammar.specs.Image.{image}
 use Rattle.grammar.specs.Lexemes.{Lexeme as Token}
-use Rattle.grammar.specs.Answer.{Answer, Verdict, refused, tree, Judged, answer, output, valid-setting, document-01}
+use Rattle.grammar.specs.Says.{Told}
+use Rattle.grammar.specs.Reading.{Outcome, Reads as Derived}
+use Rattle.grammar.specs.Answer.{Answer, Verdict, refused, tree, verdict, Judged, answer, output, valid-setting, prefix-power, document-01}
 use Rattle.grammar.specs.Source.{Bad, Kept, Reads01}
 use Rattle.leaves.specs.declared.Answer.{Answer as Phrased}
 use Rattle.leaves.specs.declared.Answer.the-variants.{Done, Broken}
@@ -62,19 +66,27 @@ Reads setting source out reading out′ = Reads01 setting source (length out) (n
 unfoldable pub written : Reading → ℕ
 written r = cond (eqb (numbers r .number) TREE) (numbers r .size) 0
 
--- None of 1 to 4 is to be answered: the source has lexemes, and none is bad.
-pub record Clean (setting : ℕ) (source : List ℕ) : Type 0 where
+-- None of 1 to 3 is to be answered.
+pub record Admitted (setting : ℕ) (source : List ℕ) : Type 0 where
   pub known : valid-setting setting ≡ true
   pub short : length source ≤ 65000
   pub valid : Utf8 source
-  pub lexemes : (xs : List Token) × Kept source xs
 
--- What the phrases answer then: of a tree its image's length, with the image stored as far as there is room; or the refusal.
+-- What the phrases make of the kept lexemes, whether one of them is bad or not.
+pub record Met (setting : ℕ) (source : List ℕ) (found : Verdict) : Type 0 where
+  pub ranges : List Range
+  pub tokens : List Token
+  pub kept : lexemes.Kept source 0 ranges
+  pub told : Told source ranges tokens
+  pub outcome : Outcome
+  pub reads : Derived (prefix-power setting) setting 200 tokens outcome
+  pub so : verdict outcome ≡ found
+
+-- Their answer: of a tree its image's length, with the image stored as far as there is room; or the refusal.
 unfoldable pub Parsed : ℕ → List ℕ → List ℕ → Phrased → List ℕ → Type 0
-Parsed setting source out (Done c w k) out′ =
-    (ts : Trees) × Judged Bad Kept document-01 setting source (tree ts) × (w ≡ length (image ts)) × (out′ ≡ sets out 0 (image ts))
+Parsed setting source out (Done c w k) out′ = (ts : Trees) × Met setting source (tree ts) × (w ≡ length (image ts)) × (out′ ≡ sets out 0 (image ts))
 Parsed setting source out (Broken r) out′ =
-    Judged Bad Kept document-01 setting source (refused (r .number) (r .place .start) (r .place .end) (r .detail)) × (met-with (r .number) (r .detail) ≡ true)
+    Met setting source (refused (r .number) (r .place .start) (r .place .end) (r .detail)) × (met-with (r .number) (r .detail) ≡ true)
 
 pub record Parses (setting : ℕ) (source out : List ℕ) (a : Phrased) (out′ : List ℕ) : Type 0 where
   pub parsed : Parsed setting source out a out′

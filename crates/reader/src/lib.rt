@@ -2,7 +2,7 @@
 ghost use mathlib.Core.Path.{_≡_};
 ghost use mathlib.Core.Bool.{true};
 ghost use Rattle.grammar.specs.Numbers.{met-with};
-ghost use Rattle.reader.specs.Reader.{numbers as numbers01, refusal as refusal01, tree-of as tree01, written as written01, answered, Clean, Parses, Finds, Reads};
+ghost use Rattle.reader.specs.Reader.{numbers as numbers01, refusal as refusal01, tree-of as tree01, written as written01, answered, Admitted, Parses, Finds, Reads};
 use grammar::numbers::Number;
 use grammar::settings;
 use leaves::Answer;
@@ -57,7 +57,7 @@ fn refused(r: Refusal) -> Reading
 
 // parse: an expression, and then no lexeme more. The image stands in the output, as far as it has room.
 fn parse(setting: u64, source: &[u8], output: &mut [u8]) -> Answer
-    requires { ⌜ Clean setting (now source) ⌝ }
+    requires { ⌜ Admitted setting (now source) ⌝ }
     ensures { λ a. ⌜ Parses setting (now (source .entry)) (now (output .entry)) a (now (output .exit)) ⌝ }
 {
     let a = phrases::expr(source, output, cursor_at(source, 0), 0, DEPTH, setting, 0);
@@ -70,7 +70,8 @@ fn parse(setting: u64, source: &[u8], output: &mut [u8]) -> Answer
     a
 }
 
-// The answer, in 01's order. Beyond the image the output may hold anything yet.
+// The answer, in 01's order. A bad lexeme is looked for only where the phrases refuse: no phrase takes one, so a source that has a tree
+// has none. Beyond the image the output may hold anything yet.
 fn find(setting: u64, source: &[u8], output: &mut [u8]) -> Reading
     ensures { λ r. ⌜ Finds setting (now (source .entry)) (now (output .entry)) r (now (output .exit)) ⌝ }
 {
@@ -85,13 +86,15 @@ fn find(setting: u64, source: &[u8], output: &mut [u8]) -> Reading
     if valid < source.len() {
         return Reading::Encoding(valid);
     }
-    let bad = kept::first_bad(source);
-    if bad.kind != Kind::EOF {
-        return Reading::Lexeme(bad.start, bad.end, bad.kind);
-    }
     let a = parse(setting, source, output);
     match a {
-        Answer::Broken(r) => refused(r),
+        Answer::Broken(r) => {
+            let bad = kept::first_bad(source);
+            if bad.kind != Kind::EOF {
+                return Reading::Lexeme(bad.start, bad.end, bad.kind);
+            }
+            refused(r)
+        }
         Answer::Done(_, w, _) => {
             if output.len() < w {
                 return Reading::Room(w);

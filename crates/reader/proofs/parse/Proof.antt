@@ -26,10 +26,9 @@ same-length c = search needs
 
 returns : tie.Need-returns
 returns c =
-    let pre′ = c .before .before .before .before .before .before .before .before .before .pre in
     let cursor-at′ = c .before .before .before .before .before .cursor-at in
     let expr′ = c .before .before .before .before .expr in
-    parses-broken pre′ (cursor-at′ .ensures) (expr′ .ensures) (no-done (expr′ .result) (c .before .match .keys2) .1)
+    parses-broken (cursor-at′ .ensures) (expr′ .ensures) (no-done (expr′ .result) (c .before .match .keys2) .1)
 
 error-requires : tie.Need-error-requires
 error-requires c κs = search needs
@@ -39,22 +38,20 @@ same-length-2 c = search needs
 
 returns-2 : tie.Need-returns-2
 returns-2 c =
-    let pre′ = c .before .before .before .before .before .before .before .before .before .before .before .before .before .pre in
     let cursor-at′ = c .before .before .before .before .before .before .before .before .before .cursor-at in
     let expr′ = c .before .before .before .before .before .before .before .before .expr in
     let a′ = c .before .before .before .before .a in
-    parses-more pre′ (cursor-at′ .ensures) (expr′ .ensures) (a′ .given .1) (c .before .if1 .taken) (c .error .ensures)
+    parses-more (cursor-at′ .ensures) (expr′ .ensures) (a′ .given .1) (c .before .if1 .taken) (c .error .ensures)
 
 same-length-3 : tie.Need-same-length-3
 same-length-3 c = search needs
 
 returns-3 : tie.Need-returns-3
 returns-3 c =
-    let pre′ = c .before .before .before .before .before .before .before .before .before .before .before .before .pre in
     let cursor-at′ = c .before .before .before .before .before .before .before .before .cursor-at in
     let expr′ = c .before .before .before .before .before .before .before .expr in
     let a′ = c .before .before .before .a in
-    parses-tree pre′ (cursor-at′ .ensures) (expr′ .ensures) (a′ .given .1) (c .if1 .left)
+    parses-tree (cursor-at′ .ensures) (expr′ .ensures) (a′ .given .1) (c .if1 .left)
 
 pub parse-spec : {M : Type 1} → statement M
 parse-spec =
