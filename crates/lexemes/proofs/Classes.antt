@@ -1,6 +1,6 @@
 -- The table of byte classes and its rule: one test of all 256 entries, which antt computes, and what it says of each.
 -- Assumes nothing.
-use mathlib.Core.Path.{_≡_, refl, sym, _∙_, subst}
+use mathlib.Core.Path.{_≡_, refl, sym, _∙_, ap, subst}
 use mathlib.Core.Bool.{Bool, true, false, not, _&&_}
 use mathlib.Core.List.{List, [], _∷_}
 use Prim.Native.Nat.{ℕ, zero, suc, _+_, _-_, _<_, _≤_}
@@ -8,12 +8,12 @@ use native.Mathlib.Omega.{arith}
 use native.Mathlib.Decide.{decLt}
 use borrow.Author.Tests.{le-ltb}
 use lib.Dec.{T, eqb, eqb→eq, leb, le→leb, leb→le}
-use lib.ListN.{length, getD}
+use lib.ListN.{length, getD, List·getD-eq-default}
 use Rattle.regex.specs.Regex.{END, Rule}
 use Rattle.regex.proofs.Bools.{and, refutes, refuted, and-left, and-right, every, Each, each, all, all-at, implies, implied}
 use Rattle.regex.proofs.Tables.{steps, gives}
 use Rattle.lexemes.specs.Letters.{WHITE, OTHER, letter, next}
-use Rattle.lexemes.specs.Scan.{classOf, asciiClass, classTable, Ran, Best}
+use Rattle.lexemes.specs.Scan.{classOf, asciiClass, classTable, Ran, InWord, Best}
 use Rattle.lexemes.proofs.Letters.{letter-ascii, next-ascii, by-byte, inside}
 use Rattle.lexemes.proofs.Moves.{Sees, notIn, Rest, at-rest, go, stop}
 
@@ -104,6 +104,76 @@ up-to P f i h p k g l = by (decLt k i)
     by : Dec (k < i) → P k
     by (yes m) = h k g m
     by (no n) = subst (λ (x : ℕ). P x) (omega arith) p
+
+-- A run so far: its bytes have the classes lo to hi.
+pub record Passed (s : List ℕ) (f lo hi i : ℕ) : Type 0 where
+  pub start : f ≤ i
+  pub end : i ≤ length s
+  pub each : (k : ℕ) → f ≤ k → k < i → (lo ≤ classOf (getD s k 0)) × (classOf (getD s k 0) ≤ hi)
+
+pub passed-none : {s : List ℕ} {f lo hi : ℕ} → f ≤ length s → Passed s f lo hi f
+passed-none h = record { start = omega arith; end = h; each = λ k g l. omega arith }
+
+pub passed-on : {s : List ℕ} {f lo hi i : ℕ} → Passed s f lo hi i → i < length s → (lo ≤ classOf (getD s i 0)) × (classOf (getD s i 0) ≤ hi) → Passed s f lo hi (i + 1)
+passed-on {s} {f} {lo} {hi} {i} p h c =
+    record {
+      start = omega (arith, p .start);
+      end = omega arith;
+      each = up-to (λ (k : ℕ). (lo ≤ classOf (getD s k 0)) × (classOf (getD s k 0) ≤ hi)) f i (p .each) c;
+    }
+
+-- It is over at a byte of another class, and at the end of the source.
+pub passed-over : {s : List ℕ} {f lo hi i : ℕ} → Passed s f lo hi i → ((lo ≤ classOf (getD s i 0)) × (classOf (getD s i 0) ≤ hi) → ⊥) → Ran s f lo hi i
+passed-over p n = record { start = p .start; end = p .end; each = p .each; over = λ h g. n (h, g) }
+
+pub passed-end : {s : List ℕ} {f lo hi i : ℕ} → Passed s f lo hi i → 1 ≤ lo → length s ≤ i → Ran s f lo hi i
+passed-end {s} {i = i} p some h =
+    let z : getD s i 0 ≡ 0 = List·getD-eq-default s 0 h in
+    passed-over p (λ c. omega (arith, ap classOf z ∙ class-zero))
+
+-- All bytes from one to another pass a test.
+abbrev from-to : ℕ → ℕ → ℕ → Bool
+from-to lo hi b = leb lo b && leb b hi
+
+ranged : (f : ℕ → Bool) (lo hi : ℕ) → T (implies 256 (from-to lo hi) f) → (b : ℕ) → b < 256 → lo ≤ b → b ≤ hi → T (f b)
+ranged f lo hi t b h g l = implied 256 (from-to lo hi) f t b h (and (leb lo b) (leb b hi) (le→leb lo b g) (le→leb b hi l))
+
+-- All bytes from one to another begin a word, and none does; a word goes on with each, and with none.
+module _ (lo hi : ℕ) where
+  unfoldable pub begins-all : Bool
+  unfolding implies classOf asciiClass
+  begins-all = implies 256 (from-to lo hi) (λ b. eqb (classOf b) 1)
+
+  unfoldable pub begins-none : Bool
+  unfolding implies classOf asciiClass
+  begins-none = implies 256 (from-to lo hi) (λ b. not (eqb (classOf b) 1))
+
+  unfoldable pub goes-on-all : Bool
+  unfolding implies classOf asciiClass
+  goes-on-all = implies 256 (from-to lo hi) (between 1 3)
+
+  unfoldable pub goes-on-none : Bool
+  unfolding implies classOf asciiClass
+  goes-on-none = implies 256 (from-to lo hi) (λ b. not (between 1 3 b))
+
+  module _ (b : ℕ) (h : b < 256) (g : lo ≤ b) (l : b ≤ hi) where
+    pub begins-word : T begins-all → classOf b ≡ 1
+    unfolding begins-all
+    begins-word t = eqb→eq (classOf b) 1 (ranged (λ b. eqb (classOf b) 1) lo hi t b h g l)
+
+    pub begins-no-word : T begins-none → classOf b ≡ 1 → ⊥
+    unfolding begins-none
+    begins-no-word t e = refuted (eqb (classOf b) 1) (ranged (λ b. not (eqb (classOf b) 1)) lo hi t b h g l) (subst (λ (x : ℕ). T (eqb x 1)) (sym e) tt)
+
+    pub in-word : T goes-on-all → InWord b
+    unfolding goes-on-all
+    in-word t =
+        let u = ranged (between 1 3) lo hi t b h g l in
+        (leb→le 1 (classOf b) (and-left (leb 1 (classOf b)) (leb (classOf b) 3) u), leb→le (classOf b) 3 (and-right (leb 1 (classOf b)) (leb (classOf b) 3) u))
+
+    pub in-no-word : T goes-on-none → InWord b → ⊥
+    unfolding goes-on-none
+    in-no-word t w = refuted (between 1 3 b) (ranged (λ b. not (between 1 3 b)) lo hi t b h g l) (is-between 1 3 b (w .0) (w .1))
 
 -- A digit, by its byte.
 digits-are : T (implies 256 (λ b. leb 48 b && leb b 57) (between 2 3))

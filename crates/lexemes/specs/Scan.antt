@@ -74,6 +74,10 @@ pub record Ran (s : List ℕ) (f lo hi r : ℕ) : Type 0 where
   pub each : (k : ℕ) → f ≤ k → k < r → (lo ≤ classOf (getD s k 0)) × (classOf (getD s k 0) ≤ hi)
   pub over : lo ≤ classOf (getD s r 0) → classOf (getD s r 0) ≤ hi → ⊥
 
+-- A word goes on with the byte.
+abbrev pub InWord : ℕ → Type 0
+InWord b = (1 ≤ classOf b) × (classOf b ≤ 3)
+
 -- Operators of one byte and of two.
 unfoldable pub single : ℕ → ℕ
 single b =

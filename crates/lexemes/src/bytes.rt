@@ -5,7 +5,7 @@ ghost use Prim.Native.Nat.{ℕ, _+_, _≤_, _<_, min};
 ghost use lib.ListN.{length, getD};
 ghost use Rattle.regex.specs.Regex.{within};
 ghost use Rattle.lexemes.specs.Letters.{WHITE, OTHER, letter, next, codePoint, whiteSpace};
-ghost use Rattle.lexemes.specs.Scan.{classOf, classTable, Ran, Says};
+ghost use Rattle.lexemes.specs.Scan.{classOf, classTable, Ran, InWord, Says};
 
 // What a byte begins, or goes on with: the classes by name.
 pub struct Class {
@@ -110,6 +110,80 @@ pub fn blanks(src: &[u8], from: usize) -> usize
     let mut i = from;
     while i < src.len() {
         if !is_blank(src[i]) {
+            return i;
+        }
+        i += 1;
+    }
+    i
+}
+
+// Whether a byte begins a word, without the table.
+pub fn is_alpha(b: u8) -> bool
+    ensures { λ r. ⌜ Says r (classOf b ≡ 1) ⌝ }
+{
+    if b'z' < b {
+        return false;
+    }
+    if b'a' <= b {
+        return true;
+    }
+    if b'_' < b {
+        return false;
+    }
+    if b'_' <= b {
+        return true;
+    }
+    if b'Z' < b {
+        return false;
+    }
+    if b < b'A' {
+        return false;
+    }
+    true
+}
+
+// Whether a word goes on with a byte that is below the small letters, without the table.
+fn is_other(b: u8) -> bool
+    requires { ⌜ b < 97 ⌝ }
+    ensures { λ r. ⌜ Says r (InWord b) ⌝ }
+{
+    if b'_' < b {
+        return false;
+    }
+    if b'_' <= b {
+        return true;
+    }
+    if b'Z' < b {
+        return false;
+    }
+    if b'A' <= b {
+        return true;
+    }
+    if b'9' < b {
+        return false;
+    }
+    if b < b'0' {
+        return false;
+    }
+    true
+}
+
+// The end of the word that goes on from `from`: small letters first, of which most words are.
+pub fn word_end(src: &[u8], from: usize) -> usize
+    requires { ⌜ from ≤ length (now src) ⌝ }
+    ensures { λ r. ⌜ Ran (now (src .entry)) from 1 3 r ⌝ }
+{
+    let mut i = from;
+    while i < src.len() {
+        let b = src[i];
+        if b'z' < b {
+            return i;
+        }
+        if b'a' <= b {
+            i += 1;
+            continue;
+        }
+        if !is_other(b) {
             return i;
         }
         i += 1;

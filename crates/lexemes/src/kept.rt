@@ -13,6 +13,7 @@ use super::lexer;
 use super::numbers;
 use super::operators;
 use super::scan;
+use super::words;
 
 // White space and good comments, which stand together in `SyntaxKind`.
 fn is_dropped(kind: u8) -> bool
@@ -44,11 +45,14 @@ fn is_bad(kind: u8) -> bool
     }
 }
 
-// The lexeme at a place. The table of classes is set up only where it is needed.
+// The lexeme at a place. The table of classes is set up only where nothing else tells: not for words and numbers.
 fn lexeme_from(src: &[u8], at: usize) -> Lexeme
     requires { ⌜ at < length (now src) ⌝ }
     ensures { λ r. ⌜ LexemeAt (now (src .entry)) at r ⌝ }
 {
+    if bytes::is_alpha(src[at]) {
+        return scan::lexeme_of(src, at, words::word_at(src, at));
+    }
     if numbers::is_digit(src, at) {
         return scan::lexeme_of(src, at, numbers::number_at(src, at));
     }
@@ -101,7 +105,7 @@ pub fn first_bad(src: &[u8]) -> Lexeme
             continue;
         }
         if c == Class::ALPHA {
-            i = bytes::run(src, i + 1, Class::ALPHA, Class::ZERO, &classes);
+            i = bytes::word_end(src, i + 1);
             continue;
         }
         if operators::lone_kind(b, bytes::peek(src, i + 1)) != 0 {

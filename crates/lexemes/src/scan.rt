@@ -45,7 +45,7 @@ fn matched_at(src: &[u8], at: usize, classes: &[u8; 256]) -> Matched
 {
     let c = bytes::class_of(classes, src[at]);
     match c {
-        Class::ALPHA => words::word_at(src, at, classes),
+        Class::ALPHA => words::word_at(src, at),
         Class::DIGIT => numbers::number_at(src, at),
         Class::ZERO => numbers::number_at(src, at),
         Class::BLANK => blank_at(src, at, classes),

@@ -3,12 +3,11 @@ ghost use mathlib.Core.Path.{_≡_};
 ghost use mathlib.Core.List.{List};
 ghost use Prim.Native.Nat.{ℕ, _+_, _≤_, _<_};
 ghost use lib.ListN.{length, getD};
-ghost use Rattle.lexemes.specs.Scan.{classOf, classTable, Says};
+ghost use Rattle.lexemes.specs.Scan.{classOf, Says};
 ghost use Rattle.lexemes.specs.Lexeme.{Ruled};
 ghost use Rattle.lexemes.specs.Words.{FirstWord, Spells, KeywordAt, wordBytes, wordFrom, wordKind, wordNext, wordText};
 use super::Matched;
 use super::bytes;
-use super::bytes::Class;
 use super::kinds::Kind;
 
 // The keywords in the order of their kinds, one after the other. The text is handed down, since a constant is set up anew wherever it is named.
@@ -156,11 +155,11 @@ fn keyword(src: &[u8], at: usize, end: usize) -> u8
     Kind::IDENT
 }
 
-pub fn word_at(src: &[u8], at: usize, classes: &[u8; 256]) -> Matched
-    requires { ⌜ (at < length (now src)) × (classOf (getD (now src) at 0) ≡ 1) × (now classes ≡ classTable) ⌝ }
+pub fn word_at(src: &[u8], at: usize) -> Matched
+    requires { ⌜ (at < length (now src)) × (classOf (getD (now src) at 0) ≡ 1) ⌝ }
     ensures { λ r. ⌜ Ruled (now (src .entry)) at (r .kind) (r .end) ⌝ }
 {
-    let end = bytes::run(src, at + 1, Class::ALPHA, Class::ZERO, classes);
+    let end = bytes::word_end(src, at + 1);
     let kind = keyword(src, at, end);
     Matched { kind, end }
 }

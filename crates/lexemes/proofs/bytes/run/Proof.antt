@@ -1,24 +1,21 @@
 -- `lexemes::bytes::run` meets its contract. The loop's invariant: all bytes so far have these classes.
 -- Assumes nothing.
-use mathlib.Core.Path.{_≡_, _∙_, ap}
-use Prim.Native.Nat.{ℕ, _-_, _≤_, _<_}
+use Prim.Native.Nat.{_-_}
 use native.Mathlib.Omega.{arith}
-use lib.ListN.{length, getD, List·getD-eq-default}
+use lib.ListN.{length}
 use borrow.Author.Needs.{needs}
-use Rattle.lexemes.specs.Scan.{classOf}
-use Rattle.lexemes.proofs.Classes.{class-zero, up-to}
+use Rattle.lexemes.proofs.Classes.{Passed, passed-none, passed-on, passed-over, passed-end}
 use Rattle.lexemes.proofs.bytes.run.Statement.{statement}
 use Rattle.lexemes.proofs.bytes.run.Tie as tie
 
 abbrev Inv-loop : tie.InvT-loop
-Inv-loop src from lo hi classes i₀ i =
-    (from ≤ i) × (i ≤ length src) × ((k : ℕ) → from ≤ k → k < i → (lo ≤ classOf (getD src k 0)) × (classOf (getD src k 0) ≤ hi))
+Inv-loop src from lo hi classes i₀ i = Passed src from lo hi i
 
 abbrev μ-loop : tie.MeasureT-loop
 μ-loop src from lo hi classes i₀ i = length src - i
 
 loop-holds : tie.Need-loop-holds Inv-loop μ-loop
-loop-holds c = (search needs, search needs, λ k g l. omega arith)
+loop-holds c = passed-none (c .before .pre .0)
 
 shared-slice-read-class-of : tie.Need-shared-slice-read-class-of Inv-loop μ-loop
 shared-slice-read-class-of c = search needs
@@ -27,18 +24,10 @@ class-of-requires : tie.Need-class-of-requires Inv-loop μ-loop
 class-of-requires c κs = search needs
 
 returns : tie.Need-returns Inv-loop μ-loop
-returns c =
-    let loop = c .before .before .before .before .loop in
-    let class-of = c .before .class-of in
-    let if1 = c .if1 in
-    record { start = loop .inv .0; end = loop .inv .1; each = loop .inv .2; over = λ h g. omega (arith, class-of .ensures, if1 .taken) }
+returns c = passed-over (c .before .before .before .before .loop .inv) (λ b. omega (arith, c .before .class-of .ensures, c .if1 .taken))
 
 returns-2 : tie.Need-returns-2 Inv-loop μ-loop
-returns-2 c =
-    let loop = c .before .before .before .before .before .loop in
-    let class-of = c .before .before .class-of in
-    let if2 = c .if2 in
-    record { start = loop .inv .0; end = loop .inv .1; each = loop .inv .2; over = λ h g. omega (arith, class-of .ensures, if2 .taken) }
+returns-2 c = passed-over (c .before .before .before .before .before .loop .inv) (λ b. omega (arith, c .before .before .class-of .ensures, c .if2 .taken))
 
 add-i : tie.Need-add-i Inv-loop μ-loop
 add-i c = search needs
@@ -48,27 +37,11 @@ loop-less c = search needs
 
 loop-again : tie.Need-loop-again Inv-loop μ-loop
 loop-again c =
-    let args = c .before .before .before .before .before .before .before .args in
-    let s = args .src .now in
-    let loop = c .before .before .before .before .before .loop in
     let class-of = c .before .before .class-of in
-    let if1 = c .before .if1 in
-    let if2 = c .if2 in (
-      omega arith,
-      omega arith,
-      up-to (λ (k : ℕ). (args .lo ≤ classOf (getD s k 0)) × (classOf (getD s k 0) ≤ args .hi)) (args .from) (loop .i) (loop .inv .2)
-          (omega (arith, class-of .ensures, if1 .left), omega (arith, class-of .ensures, if2 .left)),
-    )
+    passed-on (c .before .before .before .before .before .loop .inv) (omega arith) (omega (arith, class-of .ensures, c .before .if1 .left), omega (arith, class-of .ensures, c .if2 .left))
 
 returns-3 : tie.Need-returns-3 Inv-loop μ-loop
-returns-3 c =
-    let args = c .before .before .before .args in
-    let s = args .src .now in
-    let loop = c .before .loop in
-    let loop-test = c .loop-test in
-    let pre = c .before .before .before .pre in
-    let z : getD s (loop .i) 0 ≡ 0 = List·getD-eq-default s 0 (loop-test .left) in
-    record { start = loop .inv .0; end = loop .inv .1; each = loop .inv .2; over = λ h g. omega (arith, ap classOf z ∙ class-zero, pre) }
+returns-3 c = passed-end (c .before .loop .inv) (c .before .before .before .pre .1) (c .loop-test .left)
 
 pub run-spec : {M : Type 1} → statement M
 run-spec =

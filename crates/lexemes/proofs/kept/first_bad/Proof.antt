@@ -55,30 +55,22 @@ loop-again c =
     let loop = c .before .before .before .before .before .before .before .loop in
     (loop .inv .0, good-on (loop .inv .1) (loop-test .taken) (blank-lexeme (loop-test .taken) (sym (class-of .ensures) ∙ if1 .taken) (run .ensures)) blank-good)
 
-add-run-2 : tie.Need-add-run-2 Inv-loop μ-loop
-add-run-2 c = search needs
+add-word-end : tie.Need-add-word-end Inv-loop μ-loop
+add-word-end c = search needs
 
-run-requires-2 : tie.Need-run-requires-2 Inv-loop μ-loop
-run-requires-2 c κs =
-    let loop-test = c .before .before .before .before .before .before .loop-test in
-    let loop = c .before .before .before .before .before .before .before .loop in
-    (omega (arith, loop-test .taken), omega arith, loop .inv .0)
+word-end-requires : tie.Need-word-end-requires Inv-loop μ-loop
+word-end-requires c κs = omega (arith, c .before .before .before .before .before .loop-test .taken)
 
 loop-less-2 : tie.Need-loop-less-2 Inv-loop μ-loop
-loop-less-2 c =
-    let run2 = c .run2 in
-    let loop-test = c .before .before .before .before .before .before .before .loop-test in
-    omega (arith, loop-test .taken, run2 .ensures .start)
+loop-less-2 c = omega (arith, c .before .before .before .before .before .before .loop-test .taken, c .word-end .ensures .start)
 
 -- A word is not bad, whatever its kind.
 loop-again-2 : tie.Need-loop-again-2 Inv-loop μ-loop
 loop-again-2 c =
-    let run2 = c .run2 in
-    let if2 = c .before .before .if2 in
-    let class-of = c .before .before .before .before .class-of in
-    let loop-test = c .before .before .before .before .before .before .before .loop-test in
-    let loop = c .before .before .before .before .before .before .before .before .loop in
-    let word = word-lexeme (loop-test .taken) (sym (class-of .ensures) ∙ if2 .taken) (run2 .ensures) in
+    let class-of = c .before .before .before .class-of in
+    let loop-test = c .before .before .before .before .before .before .loop-test in
+    let loop = c .before .before .before .before .before .before .before .loop in
+    let word = word-lexeme (loop-test .taken) (sym (class-of .ensures) ∙ c .before .if2 .taken) (c .word-end .ensures) in
     (loop .inv .0, good-on (loop .inv .1) (loop-test .taken) (word .1) (word .2))
 
 add-peek : tie.Need-add-peek Inv-loop μ-loop
@@ -162,8 +154,8 @@ first-bad-spec =
     run-requires
     loop-less
     loop-again
-    add-run-2
-    run-requires-2
+    add-word-end
+    word-end-requires
     loop-less-2
     loop-again-2
     add-peek

@@ -6,25 +6,25 @@ use Rattle.lexemes.proofs.Keywords.{word-scanned}
 use Rattle.lexemes.proofs.words.word_at.Statement.{statement}
 use Rattle.lexemes.proofs.words.word_at.Tie as tie
 
-add-run : tie.Need-add-run
-add-run c = search needs
+add-word-end : tie.Need-add-word-end
+add-word-end c = search needs
 
-run-requires : tie.Need-run-requires
-run-requires c κs = search needs
+word-end-requires : tie.Need-word-end-requires
+word-end-requires c κs = search needs
 
 keyword-requires : tie.Need-keyword-requires
 keyword-requires c κs =
-    let run = c .run in
-    omega (arith, run .ensures .start, run .ensures .end)
+    let word-end = c .word-end in
+    omega (arith, word-end .ensures .start, word-end .ensures .end)
 
 returns : tie.Need-returns
 returns c =
     let args = c .before .before .before .args in
     let s = args .src .now in
-    let run = c .before .run in
+    let word-end = c .before .word-end in
     let pre = c .before .before .before .pre in
     let keyword = c .keyword in
-    word-scanned s (args .at) (run .result) (pre .1) (run .ensures) (keyword .ensures)
+    word-scanned s (args .at) (word-end .result) (pre .1) (word-end .ensures) (keyword .ensures)
 
 pub word-at-spec : {M : Type 1} → statement M
-word-at-spec = tie.close (tie.spec add-run run-requires keyword-requires returns)
+word-at-spec = tie.close (tie.spec add-word-end word-end-requires keyword-requires returns)
