@@ -3,7 +3,7 @@
 use mathlib.Core.Path.{_≡_, refl, sym, _∙_, ap}
 use mathlib.Core.Bool.{Bool, true, false, true≢false}
 use mathlib.Core.List.{List, [], _∷_, _++_}
-use Prim.Native.Nat.{ℕ, _+_, _-_, _≤_, _<_}
+use Prim.Native.Nat.{ℕ, zero, suc, _+_, _-_, _≤_, _<_}
 use native.Mathlib.Omega.{arith}
 use native.Mathlib.Numerals.{add-one}
 use lib.ListN.{length, getD, set, take, drop, length-append, length-drop, take-append-drop, drop-of-length-le, List·getD-append}
@@ -91,6 +91,16 @@ module _ (s : List ℕ) (a e i : ℕ) (h : a ≤ e) (g : e ≤ length s) where
       n
       (sym (getD-slice k l) ∙ sym (List·getD-append (slice a e s) r 0 k (omega (arith, length-slice a e s g))) ∙ ap (λ (t : List ℕ). getD t k 0) (sym d)
       ∙ getD-drop i s k 0))
+
+-- A store, and a run of stores, beyond the end of an output leaves it as it was.
+set-beyond : (l : List ℕ) (i v : ℕ) → length l ≤ i → set l i v ≡ l
+set-beyond [] i v h = refl
+set-beyond (x ∷ l) zero v h = absurd (omega arith)
+set-beyond (x ∷ l) (suc i) v h = ap (λ (k : List ℕ). x ∷ k) (set-beyond l i v (omega arith))
+
+pub sets-beyond : (vs l : List ℕ) (i : ℕ) → length l ≤ i → sets l i vs ≡ l
+sets-beyond [] l i h = refl
+sets-beyond (v ∷ vs) l i h = ap (λ (k : List ℕ). sets k (suc i) vs) (set-beyond l i v h) ∙ sets-beyond vs l (suc i) (omega arith)
 
 -- A loop has copied the bytes from a up to i.
 pub record Copied (s : List ℕ) (a : ℕ) (out₀ : List ℕ) (at i : ℕ) (out : List ℕ) (w : ℕ) : Type 0 where

@@ -167,11 +167,14 @@ fn eat_error(source: &[u8], from: usize) -> usize
     i
 }
 
-// Bytes of the source into the output, as far as it has room; the place after them.
+// Bytes of the source into the output, as far as it has room; the place after them. Where none has room none is looked at: the count runs on.
 fn copy(source: &[u8], from: usize, to: usize, out: &mut [u8], at: usize) -> usize
     requires { ⌜ (from ≤ to) × (to ≤ length (now source)) × (at ≤ from) ⌝ }
     ensures { λ r. ⌜ (now (out .exit) ≡ sets (now (out .entry)) at (slice from to (now (source .entry)))) × (r ≡ at + (to - from)) ⌝ }
 {
+    if out.len() <= at {
+        return at + (to - from);
+    }
     let mut i = from;
     let mut w = at;
     while i < to {
