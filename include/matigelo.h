@@ -50,6 +50,16 @@ typedef struct {
    at most 16 bytes for each byte of its source. Reading recurses, at most 200 levels deep: 1 MiB of stack is enough. */
 void matigelo_read(uint64_t setting, const uint8_t *source, size_t source_length, uint8_t *output, size_t output_length, matigelo_answer *answer);
 
+/* Reads a night's files in one call. They stand one behind the other in sources; ends says where each ends, counted from the start of sources, and
+   parts where its part of output ends. Answer and part of each file are what matigelo_read gives for that source, setting and part; a refused file
+   affects no other. The answers go to answers, five numbers for each file in the order of matigelo_answer.
+   0 is handed back, or MATIGELO_LISTS: ends and parts are for unequal numbers of files, the list for the answers has not five numbers for each, an
+   end goes backward, or the last is not its buffer's. Then no file is read, and output and answers are zero.
+   What is said of pointers, lengths and the stack above holds here too; nothing is copied, and the stack is that of one file. */
+#define MATIGELO_LISTS 20u
+uint64_t matigelo_night(uint64_t setting, const uint8_t *sources, size_t sources_length, const size_t *ends, size_t ends_count,
+                        uint8_t *output, size_t output_length, const size_t *parts, size_t parts_count, uint64_t *answers, size_t answers_count);
+
 #ifdef __cplusplus
 }
 #endif

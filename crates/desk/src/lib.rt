@@ -1,5 +1,6 @@
 // What the desk's programs share.
 pub mod input; // a file taken whole
+mod nights; // a night's files, as the judge asks for them
 pub mod options; // the words that a program is started with
 pub mod questions; // the judge's lines: a question, and the answer to it
 pub mod status; // how a program ends

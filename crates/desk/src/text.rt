@@ -58,3 +58,20 @@ pub fn put_hex_line(text: &mut [u8], at: usize, bytes: &[u8]) -> usize
     }
     put(text, n, b"\n")
 }
+
+// Numbers with commas between them; a sign for none.
+pub fn put_list(text: &mut [u8], at: usize, numbers: &[u64]) -> usize
+    ensures { λ r. ⌜ Counts r (now (text .exit)) ⌝ }
+{
+    if numbers.len() == 0 {
+        return put(text, at, b"-");
+    }
+    let mut n = put_number(text, at, numbers[0]);
+    let mut i = 1;
+    while i < numbers.len() {
+        n = put(text, n, b",");
+        n = put_number(text, n, numbers[i]);
+        i += 1;
+    }
+    n
+}

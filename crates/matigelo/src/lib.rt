@@ -1,7 +1,8 @@
 // The reader for C and Rust programs to link: `rt staticlib matigelo`.
 ghost use lib.ListN.{length};
 ghost use Rattle.grammar.specs.Source.{Reads01};
-ghost use Rattle.matigelo.specs.Five.{five};
+ghost use Rattle.reader.specs.Five.{five as five01};
+ghost use Rattle.night.specs.Night.{Night};
 
 // Reads a source under a setting into a lent output. The answer's five numbers: number, start, end, detail, length.
 #[no_mangle]
@@ -11,10 +12,25 @@ pub extern "C" fn matigelo_read(
     output: &mut [u8],
     answer: &mut [u64; 5],
 )
-    ensures { λ _. ⌜ Reads01 setting (now (source .entry)) (length (now (output .entry))) (five (now (answer .exit))) (now (output .exit)) ⌝ }
+    ensures { λ _. ⌜ Reads01 setting (now (source .entry)) (length (now (output .entry))) (five01 (now (answer .exit))) (now (output .exit)) ⌝ }
 {
     let reading = reader::read(setting, source, output);
-    let f = reader::numbers(reading);
-    let five = [f.number, f.start, f.end, f.detail, f.length];
+    let five = reader::five(reading);
     *answer = five;
+}
+
+// Reads a night's files in one call: sources in one buffer, with the ends of the files; an output, with the ends of their parts; five numbers for
+// each in `answers`. The number of the call is handed back.
+#[no_mangle]
+pub extern "C" fn matigelo_night(
+    setting: u64,
+    sources: &[u8],
+    ends: &[usize],
+    output: &mut [u8],
+    parts: &[usize],
+    answers: &mut [u64],
+) -> u64
+    ensures { λ r. ⌜ Night setting (now (sources .entry)) (now (ends .entry)) (length (now (output .entry))) (now (parts .entry)) (length (now (answers .entry))) r (now (output .exit)) (now (answers .exit)) ⌝ }
+{
+    night::read(setting, sources, ends, output, parts, answers)
 }

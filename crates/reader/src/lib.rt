@@ -1,7 +1,9 @@
 // The reader: a setting, a source, a lent output, and the whole answer of document 01.
 ghost use mathlib.Core.Path.{_≡_};
 ghost use mathlib.Core.Bool.{true};
+ghost use lib.ListN.{length};
 ghost use Rattle.grammar.specs.Numbers.{met-with};
+ghost use Rattle.reader.specs.Five.{five as five01};
 ghost use Rattle.reader.specs.Reader.{numbers as numbers01, refusal as refusal01, tree-of as tree01, written as written01, answered, Admitted, Parses, Finds, Reads};
 use grammar::numbers::Number;
 use grammar::settings;
@@ -177,4 +179,12 @@ pub fn numbers(r: Reading) -> Fields
         Reading::Room(n) => tree(Number::ROOM, n),
         Reading::Large(a, e) => refusal(Number::LARGE, a, e, 0),
     }
+}
+
+// The same as a list, as C and lists of answers have it.
+pub fn five(r: Reading) -> [u64; 5]
+    ensures { λ a. ⌜ (length a ≡ 5) × (five01 a ≡ numbers01 r) ⌝ }
+{
+    let f = numbers(r);
+    [f.number, f.start, f.end, f.detail, f.length]
 }

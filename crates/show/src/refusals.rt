@@ -246,8 +246,8 @@ fn small(n: u64) -> u8 {
     n as u8
 }
 
-// A refusal that has a place.
-fn tell_place(number: u8, f: Refusal, source: &[u8]) {
+// The sentence of a refusal that has a place.
+fn say_sentence(number: u8, f: Refusal, source: &[u8]) {
     let start = f.start as usize;
     let end = f.end as usize;
     say_place(source, start);
@@ -255,6 +255,12 @@ fn tell_place(number: u8, f: Refusal, source: &[u8]) {
     say_fault(number, small(f.detail));
     say_there(number, source, start, end);
     say(b".\n");
+}
+
+// The line that it is about.
+fn tell_place(number: u8, f: Refusal, source: &[u8]) {
+    let start = f.start as usize;
+    let end = f.end as usize;
     if number != Number::ENCODING {
         say_line(source, start, end);
         return;
@@ -265,19 +271,18 @@ fn tell_place(number: u8, f: Refusal, source: &[u8]) {
     }
 }
 
-// A bad escape, told and marked at its backslash.
-fn tell_escape(at: usize, source: &[u8]) {
+// The sentence of a bad escape, at its backslash.
+fn say_bad_escape(at: usize, source: &[u8]) {
     say_place(source, at);
     say(b": ");
     if at < source.len() {
         say_escape(&source[at..]);
     }
     say(b".\n");
-    say_line(source, at, one_more(at));
 }
 
-// A refusal of a file under its name.
-pub fn tell(name: &[u8], f: Refusal, source: &[u8]) {
+// A refusal of a file under its name, as one line; whether it has a place.
+pub fn tell_in_a_line(name: &[u8], f: Refusal, source: &[u8]) -> bool {
     say_characters(name);
     say(b":");
     let number = small(f.number);
@@ -289,7 +294,34 @@ pub fn tell(name: &[u8], f: Refusal, source: &[u8]) {
             say_number(f.length as usize);
             say(b" bytes, more than there is room for.\n");
         }
-        Number::ESCAPE => tell_escape(f.detail as usize, source),
-        _ => tell_place(number, f, source),
+        Number::ESCAPE => {
+            say_bad_escape(f.detail as usize, source);
+            return true;
+        }
+        _ => {
+            say_sentence(number, f, source);
+            return true;
+        }
     }
+    false
+}
+
+// A file that is read, under its name, as one line.
+pub fn tell_read(name: &[u8]) {
+    say_characters(name);
+    say(b": ok\n");
+}
+
+// A refusal with the line of the source that it is about; a bad escape is marked at its backslash.
+pub fn tell(name: &[u8], f: Refusal, source: &[u8]) {
+    if !tell_in_a_line(name, f, source) {
+        return;
+    }
+    let number = small(f.number);
+    if number == Number::ESCAPE {
+        let at = f.detail as usize;
+        say_line(source, at, one_more(at));
+        return;
+    }
+    tell_place(number, f, source);
 }

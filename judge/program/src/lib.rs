@@ -4,6 +4,7 @@ pub mod exhaustive;
 pub mod generate;
 pub mod hex;
 pub mod layers;
+pub mod night;
 pub mod reader;
 pub mod readings;
 pub mod stack;

@@ -7,10 +7,10 @@ use std::{
     process::ExitCode,
 };
 
-use judge::{exhaustive, generate, layers, reader, stack};
+use judge::{exhaustive, generate, layers, night, reader, stack};
 
-const USAGE: &str = "usage: judge [strings|blocks|lexemes|sources]
-       judge generate strings|blocks|lexemes|sources SEED COUNT
+const USAGE: &str = "usage: judge [strings|blocks|lexemes|sources|night]
+       judge generate strings|blocks|lexemes|sources|night SEED COUNT
        judge exhaustive";
 
 fn main() -> ExitCode {
@@ -31,6 +31,7 @@ fn run(arguments: &[String]) -> Result<(), String> {
         ["strings"] => answer_lines(layers::strings),
         ["blocks"] => answer_lines(layers::blocks),
         ["lexemes"] => answer_lines(layers::lexemes),
+        ["night"] => answer_lines(night::line),
         ["generate", what, seed, count] => {
             let seed = seed.parse().map_err(|e| format!("seed: {e}"))?;
             let count = count.parse().map_err(|e| format!("count: {e}"))?;

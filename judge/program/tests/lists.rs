@@ -3,7 +3,7 @@
 
 use std::{collections::BTreeSet, fs};
 
-use judge::{generate, layers, reader, stack};
+use judge::{generate, layers, night, reader, stack};
 
 /// Compares a list whose input is the first `words` words of each line.
 fn check(name: &str, words: usize, answer: fn(&str) -> Result<String, String>) {
@@ -35,6 +35,11 @@ fn lexemes() {
 #[test]
 fn sources() {
     stack::large(|| check("sources", 3, reader::line));
+}
+
+#[test]
+fn nights() {
+    stack::large(|| check("night", 7, night::line));
 }
 
 /// Only closers and the like are ever wanted, number 10 never comes, and neither do some kinds.

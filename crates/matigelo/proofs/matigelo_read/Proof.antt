@@ -12,8 +12,8 @@ use Rattle.matigelo.proofs.matigelo_read.Tie as tie
 read-requires : tie.Need-read-requires
 read-requires c κs = search needs
 
-numbers-requires : tie.Need-numbers-requires
-numbers-requires c κs = search needs
+five-requires : tie.Need-five-requires
+five-requires c κs = search needs
 
 same-length : tie.Need-same-length
 same-length c = search needs
@@ -22,7 +22,7 @@ returns : tie.Need-returns
 returns c =
     let args′ = c .before .before .before .before .before .before .before .args in
     let read′ = c .before .before .before .read in
-    subst⁻¹ (λ (a : Answer). Reads01 (args′ .setting) (now (args′ .source)) (length (now (args′ .output))) a (read′ .last .1 .1 .0)) (c .numbers .ensures) (read′ .ensures)
+    subst⁻¹ (λ (a : Answer). Reads01 (args′ .setting) (now (args′ .source)) (length (now (args′ .output))) a (read′ .last .1 .1 .0)) (c .five .ensures .1) (read′ .ensures)
 
 pub matigelo-read-spec : {M : Type 1} → statement M
-matigelo-read-spec = tie.close (tie.spec read-requires numbers-requires same-length returns)
+matigelo-read-spec = tie.close (tie.spec read-requires five-requires same-length returns)

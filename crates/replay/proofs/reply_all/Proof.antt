@@ -1,17 +1,17 @@
 -- `replay::reply_all` is safe and ends.
 -- Assumes nothing.
 use lib.ListN.{length}
-use borrow.Author.Needs.{needs}
 use Prim.Native.Nat.{_-_}
 use mathlib.Core.Path.{_≡_}
+use borrow.Author.Needs.{needs}
 use Rattle.replay.proofs.reply_all.Statement.{statement}
 use Rattle.replay.proofs.reply_all.Tie as tie
 
 abbrev Inv-loop : tie.InvT-loop
-Inv-loop bytes source₀ output₀ text₀ q₀ i₀ source output text q i = (length source ≡ length source₀) × (length output ≡ length output₀) × (length text ≡ length text₀)
+Inv-loop bytes source₀ lists₀ output₀ answers₀ text₀ q₀ i₀ source lists output answers text q i = (length source ≡ length source₀) × (length lists ≡ length lists₀) × (length output ≡ length output₀) × (length answers ≡ length answers₀) × (length text ≡ length text₀)
 
 abbrev μ-loop : tie.MeasureT-loop
-μ-loop bytes source₀ output₀ text₀ q₀ i₀ source output text q i = length bytes - i
+μ-loop bytes source₀ lists₀ output₀ answers₀ text₀ q₀ i₀ source lists output answers text q i = length bytes - i
 
 loop-holds : tie.Need-loop-holds Inv-loop μ-loop
 loop-holds c = search needs
@@ -52,6 +52,12 @@ same-length-2 c = search needs
 same-length-3 : tie.Need-same-length-3 Inv-loop μ-loop
 same-length-3 c = search needs
 
+same-length-4 : tie.Need-same-length-4 Inv-loop μ-loop
+same-length-4 c = search needs
+
+same-length-5 : tie.Need-same-length-5 Inv-loop μ-loop
+same-length-5 c = search needs
+
 returns : tie.Need-returns Inv-loop μ-loop
 returns c = search needs
 
@@ -74,4 +80,6 @@ reply-all-spec =
     same-length
     same-length-2
     same-length-3
+    same-length-4
+    same-length-5
     returns)

@@ -5,6 +5,7 @@ mod blocks;
 mod damage;
 mod grammar;
 mod lexemes;
+mod nights;
 mod numbers;
 mod rng;
 mod sources;
@@ -41,6 +42,7 @@ pub fn lines(what: &str, seed: u64, count: usize) -> Result<Vec<String>, String>
         "blocks" => (blocks::fixed, blocks::random),
         "lexemes" => (lexemes::fixed, lexemes::random),
         "sources" => (sources::fixed, sources::random),
+        "night" => (nights::fixed, nights::random),
         "numbers" => (numbers::fixed, numbers::random),
         _ => return Err(format!("nothing to generate for {what}")),
     };

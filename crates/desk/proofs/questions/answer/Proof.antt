@@ -9,11 +9,8 @@ use Rattle.desk.proofs.questions.answer.Tie as tie
 is-whole-requires : tie.Need-is-whole-requires
 is-whole-requires c κs = search needs
 
-slice-aggregate-put : tie.Need-slice-aggregate-put
-slice-aggregate-put c = search needs
-
-put-requires : tie.Need-put-requires
-put-requires c κs = search needs
+say-bad-requires : tie.Need-say-bad-requires
+say-bad-requires c κs = search needs
 
 same-length : tie.Need-same-length
 same-length c = search needs
@@ -21,11 +18,8 @@ same-length c = search needs
 returns : tie.Need-returns
 returns c = search needs
 
-slice-aggregate-put-2 : tie.Need-slice-aggregate-put-2
-slice-aggregate-put-2 c = search needs
-
-put-requires-2 : tie.Need-put-requires-2
-put-requires-2 c κs = search needs
+say-bad-requires-2 : tie.Need-say-bad-requires-2
+say-bad-requires-2 c κs = search needs
 
 same-length-2 : tie.Need-same-length-2
 same-length-2 c = search needs
@@ -33,17 +27,38 @@ same-length-2 c = search needs
 returns-2 : tie.Need-returns-2
 returns-2 c = search needs
 
-slice-aggregate-put-3 : tie.Need-slice-aggregate-put-3
-slice-aggregate-put-3 c = search needs
-
-put-requires-3 : tie.Need-put-requires-3
-put-requires-3 c κs = search needs
+say-bad-requires-3 : tie.Need-say-bad-requires-3
+say-bad-requires-3 c κs = search needs
 
 same-length-3 : tie.Need-same-length-3
 same-length-3 c = search needs
 
 returns-3 : tie.Need-returns-3
 returns-3 c = search needs
+
+slice-aggregate-answer-night : tie.Need-slice-aggregate-answer-night
+slice-aggregate-answer-night c = simp length-take (omega arith)
+
+slice-relend-prefix-answer-night : tie.Need-slice-relend-prefix-answer-night
+slice-relend-prefix-answer-night c = search needs
+
+slice-aggregate-answer-night-2 : tie.Need-slice-aggregate-answer-night-2
+slice-aggregate-answer-night-2 c = simp length-take (omega arith)
+
+answer-night-requires : tie.Need-answer-night-requires
+answer-night-requires c κs = search needs
+
+same-length-4 : tie.Need-same-length-4
+same-length-4 c = search needs
+
+same-length-5 : tie.Need-same-length-5
+same-length-5 c = search needs
+
+same-length-6 : tie.Need-same-length-6
+same-length-6 c = search needs
+
+returns-4 : tie.Need-returns-4
+returns-4 c = search needs
 
 slice-aggregate-answer-into : tie.Need-slice-aggregate-answer-into
 slice-aggregate-answer-into c = simp length-take (omega arith)
@@ -57,36 +72,41 @@ slice-aggregate-answer-into-2 c = simp length-take (omega arith)
 answer-into-requires : tie.Need-answer-into-requires
 answer-into-requires c κs = search needs
 
-same-length-4 : tie.Need-same-length-4
-same-length-4 c = search needs
+same-length-7 : tie.Need-same-length-7
+same-length-7 c = search needs
 
-same-length-5 : tie.Need-same-length-5
-same-length-5 c = search needs
+same-length-8 : tie.Need-same-length-8
+same-length-8 c = search needs
 
-returns-4 : tie.Need-returns-4
-returns-4 c = search needs
+returns-5 : tie.Need-returns-5
+returns-5 c = search needs
 
 pub answer-spec : {M : Type 1} → statement M
 answer-spec =
     tie.close
     (tie.spec
     is-whole-requires
-    slice-aggregate-put
-    put-requires
+    say-bad-requires
     same-length
     returns
-    slice-aggregate-put-2
-    put-requires-2
+    say-bad-requires-2
     same-length-2
     returns-2
-    slice-aggregate-put-3
-    put-requires-3
+    say-bad-requires-3
     same-length-3
     returns-3
+    slice-aggregate-answer-night
+    slice-relend-prefix-answer-night
+    slice-aggregate-answer-night-2
+    answer-night-requires
+    same-length-4
+    same-length-5
+    same-length-6
+    returns-4
     slice-aggregate-answer-into
     slice-relend-prefix-answer-into
     slice-aggregate-answer-into-2
     answer-into-requires
-    same-length-4
-    same-length-5
-    returns-4)
+    same-length-7
+    same-length-8
+    returns-5)

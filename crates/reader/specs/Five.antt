@@ -1,4 +1,4 @@
--- An answer as C gets it: five numbers in document 01's order, "number, start, end, detail, length".
+-- An answer as a list: five numbers in document 01's order, "number, start, end, detail, length".
 -- Assumes nothing.
 use mathlib.Core.List.{List}
 use Prim.Native.Nat.{ℕ}

@@ -1,0 +1,54 @@
+-- `desk::nights::smear_numbers` is safe and ends.
+-- Assumes nothing.
+use lib.ListN.{length-set, length}
+use native.Mathlib.Omega.{arith}
+use Prim.Native.Nat.{_-_}
+use mathlib.Core.Path.{_≡_}
+use borrow.Author.Needs.{needs}
+use Rattle.desk.proofs.nights.smear_numbers.Statement.{statement}
+use Rattle.desk.proofs.nights.smear_numbers.Tie as tie
+
+abbrev Inv-loop : tie.InvT-loop
+Inv-loop list₀ i₀ list i = length list ≡ length list₀
+
+abbrev μ-loop : tie.MeasureT-loop
+μ-loop list₀ i₀ list i = length list₀ - i
+
+loop-holds : tie.Need-loop-holds Inv-loop μ-loop
+loop-holds c = search needs
+
+mul-list : tie.Need-mul-list Inv-loop μ-loop
+mul-list c = search needs
+
+slice-write-list : tie.Need-slice-write-list Inv-loop μ-loop
+slice-write-list c = search needs
+
+add-i : tie.Need-add-i Inv-loop μ-loop
+add-i c = search needs
+
+loop-less : tie.Need-loop-less Inv-loop μ-loop
+loop-less c = search needs
+
+loop-again : tie.Need-loop-again Inv-loop μ-loop
+loop-again c = simp length-set (omega arith)
+
+same-length : tie.Need-same-length Inv-loop μ-loop
+same-length c = search needs
+
+returns : tie.Need-returns Inv-loop μ-loop
+returns c = search needs
+
+pub smear-numbers-spec : {M : Type 1} → statement M
+smear-numbers-spec =
+    tie.close
+    (tie.spec
+    Inv-loop
+    μ-loop
+    loop-holds
+    mul-list
+    slice-write-list
+    add-i
+    loop-less
+    loop-again
+    same-length
+    returns)

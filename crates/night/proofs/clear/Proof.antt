@@ -1,0 +1,48 @@
+-- `night::clear` meets its contract. The loop's invariant: zeros up to i, and from there on what came in.
+-- Assumes nothing.
+use mathlib.Core.Path.{_≡_, refl}
+use Prim.Native.Nat.{_≤_, _<_, _-_}
+use native.Mathlib.Omega.{arith}
+use lib.ListN.{length, length-set}
+use borrow.Author.Needs.{needs}
+use Rattle.strings.proofs.Stores.{Zeroed, zeroed-next, zeroed-all}
+use Rattle.night.proofs.clear.Statement.{statement}
+use Rattle.night.proofs.clear.Tie as tie
+
+abbrev Inv-loop : tie.InvT-loop
+Inv-loop answers₀ i₀ answers i = (i ≤ length answers₀) × (length answers ≡ length answers₀) × Zeroed answers₀ i answers
+
+abbrev μ-loop : tie.MeasureT-loop
+μ-loop answers₀ i₀ answers i = length answers₀ - i
+
+loop-holds : tie.Need-loop-holds Inv-loop μ-loop
+unfolding Zeroed
+loop-holds c = (search needs, refl, refl)
+
+mul-answers : tie.Need-mul-answers Inv-loop μ-loop
+mul-answers c = search needs
+
+slice-write-answers : tie.Need-slice-write-answers Inv-loop μ-loop
+slice-write-answers c = search needs
+
+add-i : tie.Need-add-i Inv-loop μ-loop
+add-i c = search needs
+
+loop-less : tie.Need-loop-less Inv-loop μ-loop
+loop-less c = omega arith
+
+loop-again : tie.Need-loop-again Inv-loop μ-loop
+loop-again c =
+    let h = c .before .loop .inv in
+    let below : c .before .loop .i < length (c .before .before .args .answers .now) = omega arith in
+    (omega arith, simp length-set (omega arith), zeroed-next _ _ _ below (h .2))
+
+same-length : tie.Need-same-length Inv-loop μ-loop
+same-length c = c .before .loop .inv .1
+
+returns : tie.Need-returns Inv-loop μ-loop
+returns c = zeroed-all _ _ _ (omega arith) (c .before .loop .inv .2)
+
+pub clear-spec : {M : Type 1} → statement M
+clear-spec =
+    tie.close (tie.spec Inv-loop μ-loop loop-holds mul-answers slice-write-answers add-i loop-less loop-again same-length returns)
