@@ -13,39 +13,39 @@ use Rattle.blocks.specs.declared.Block.the-variants.{Good, UnexpectedEnd
 abbrev pub LineFeed : ℕ → Type 0
 LineFeed b = b ≡ 0x0A
 
--- "blanks of space, tab, CR", of the header line alone
+-- R14. "blanks of space, tab, CR", of the header line alone
 abbrev pub HeaderBlank : ℕ → Type 0
 HeaderBlank b = (b ≡ 0x20) ⊎ ((b ≡ 0x09) ⊎ (b ≡ 0x0D))
 
--- "spaces and tabs"
+-- R14. "spaces and tabs"
 abbrev pub Blank : ℕ → Type 0
 Blank b = (b ≡ 0x20) ⊎ (b ≡ 0x09)
 
--- A byte of a line: any but LF. "CR stays".
+-- R14. A byte of a line: any but LF. "CR stays".
 abbrev pub InLine : ℕ → Type 0
 InLine b = b ≡ 0x0A → ⊥
 
--- The bytes begin with a run of such as are P, the second list: all that there are, up to the end or to the first that is none.
+-- R14. The bytes begin with a run of such as are P, the second list: all that there are, up to the end or to the first that is none.
 pub data Run (P : ℕ → Type 0) : List ℕ → List ℕ → List ℕ → Type 0 where
   end : Run P [] [] []
   stop : {b : ℕ} {s : List ℕ} → (P b → ⊥) → Run P (b ∷ s) [] (b ∷ s)
   more : {b : ℕ} {s run r : List ℕ} → P b → Run P s run r → Run P (b ∷ s) (b ∷ run) r
 
--- "optional `-`": whether it stands there.
+-- R14. "optional `-`": whether it stands there.
 pub data Dash : List ℕ → Bool → List ℕ → Type 0 where
   there : {s : List ℕ} → Dash (0x2D ∷ s) true s
   other : {b : ℕ} {s : List ℕ} → (b ≡ 0x2D → ⊥) → Dash (b ∷ s) false (b ∷ s)
   end : Dash [] false []
 
--- "`|||`, optional `-`, blanks of space, tab, CR, then LF": what follows the blanks, where the LF is wanted.
+-- R14. "`|||`, optional `-`, blanks of space, tab, CR, then LF": what follows the blanks, where the LF is wanted.
 pub data Header : List ℕ → Bool → List ℕ → Type 0 where
   header : {s t blanks r : List ℕ} {dash : Bool} → Dash s dash t → Run HeaderBlank t blanks r → Header s dash r
 
--- "Lines of LF alone are empty lines. The first other line's run of spaces and tabs is the indent": that line, and the indent.
+-- R14. "Lines of LF alone are empty lines. The first other line's run of spaces and tabs is the indent": that line, and the indent.
 pub data Indent : List ℕ → List ℕ → List ℕ → Type 0 where
   first : {s empty line indent r : List ℕ} → Run LineFeed s empty line → Run Blank line indent r → Indent s line indent
 
--- Lines, one after another: "Lines of LF alone are empty lines", "Each line starting with exactly that indent is content after it".
+-- R14. Lines, one after another: "Lines of LF alone are empty lines", "Each line starting with exactly that indent is content after it".
 -- `Last`, below, is what stands after them.
 pub data Lines (indent : List ℕ) : List ℕ → List (List ℕ) → List ℕ → Type 0 where
   none : {s : List ℕ} → Lines indent s [] s
@@ -54,22 +54,22 @@ pub data Lines (indent : List ℕ) : List ℕ → List (List ℕ) → List ℕ �
       {s t line u r : List ℕ} {lines : List (List ℕ)} → s ≡ indent ++ t → Run InLine t line (0x0A ∷ u) → Lines indent u lines r →
       Lines indent s (line ∷ lines) r
 
--- "Another line": neither empty nor one that starts with the indent.
+-- R14. "Another line": neither empty nor one that starts with the indent.
 pub record Other (indent s : List ℕ) : Type 0 where
   pub not-empty : (r : List ℕ) → s ≡ 0x0A ∷ r → ⊥
   pub not-content : (r : List ℕ) → s ≡ indent ++ r → ⊥
 
--- The bytes do not begin with `|||`.
+-- R15. The bytes do not begin with `|||`.
 abbrev pub NoBars : List ℕ → Type 0
 NoBars s = (r : List ℕ) → s ≡ 0x7C ∷ 0x7C ∷ 0x7C ∷ r → ⊥
 
--- "to the next `|||` included, or to the end"
+-- R15. "to the next `|||` included, or to the end"
 pub data Sought : List ℕ → List ℕ → Type 0 where
   here : {r : List ℕ} → Sought (0x7C ∷ 0x7C ∷ 0x7C ∷ r) r
   on : {b : ℕ} {s r : List ℕ} → NoBars (b ∷ s) → Sought s r → Sought (b ∷ s) r
   end : Sought [] []
 
--- What stands after `|||`: a good block with its lines, or a fault.
+-- R14, R15. What stands after `|||`: a good block with its lines, or a fault.
 pub data Found : Type 0 where
   good : List (List ℕ) → Found
   unexpected-end : Found
@@ -77,7 +77,7 @@ pub data Found : Type 0 where
   missing-indent : Found
   missing-termination : Found
 
--- The line after the lines, from behind its spaces and tabs on.
+-- R14, R15. The line after the lines, from behind its spaces and tabs on.
 pub data Closing (lines : List (List ℕ)) : List ℕ → Found → List ℕ → Type 0 where
   -- "Another line must be spaces or tabs, if any, then `|||`."
   closed : {r : List ℕ} → Closing lines (0x7C ∷ 0x7C ∷ 0x7C ∷ r) (good lines) r
@@ -86,13 +86,13 @@ pub data Closing (lines : List (List ℕ)) : List ℕ → Found → List ℕ →
   -- "any other failing later line is missing-termination", sought "after the failing line's blanks"
   failing : {b : ℕ} {s r : List ℕ} → NoBars (b ∷ s) → Sought (b ∷ s) r → Closing lines (b ∷ s) missing-termination r
 
--- The line after the lines.
+-- R14, R15. The line after the lines.
 pub data Last (indent : List ℕ) (lines : List (List ℕ)) : List ℕ → Found → List ℕ → Type 0 where
   another : {s blanks t r : List ℕ} {f : Found} → Other indent s → Run Blank s blanks t → Closing lines t f r → Last indent lines s f r
   -- "a content line without LF, is unexpected-end", and it "takes all to the end"
   cut : {s t line : List ℕ} → s ≡ indent ++ t → Run InLine t line [] → Last indent lines s unexpected-end []
 
--- What follows the header line.
+-- R14, R15. What follows the header line.
 pub data Body : List ℕ → Found → List ℕ → Type 0 where
   -- "none is missing-indent", sought "at the unindented line"
   no-indent : {s line r : List ℕ} → Indent s line [] → Sought line r → Body s missing-indent r
@@ -100,7 +100,7 @@ pub data Body : List ℕ → Found → List ℕ → Type 0 where
       {b : ℕ} {s line i t r : List ℕ} {lines : List (List ℕ)} {f : Found} → Indent s line (b ∷ i) → Lines (b ∷ i) s lines t → Last (b ∷ i) lines t f r →
       Body s f r
 
--- What stands after `|||`, and what follows the lexeme.
+-- R14, R15. What stands after `|||`, and what follows the lexeme.
 pub data Stands : List ℕ → Found → List ℕ → Type 0 where
   -- "the end unexpected-end", which "takes all to the end"
   no-line : {s : List ℕ} {dash : Bool} → Header s dash [] → Stands s unexpected-end []
@@ -109,26 +109,26 @@ pub data Stands : List ℕ → Found → List ℕ → Type 0 where
   no-new-line : {b : ℕ} {s t r : List ℕ} {dash : Bool} → Header s dash (b ∷ t) → (b ≡ 0x0A → ⊥) → Sought t r → Stands s missing-new-line r
   after-header : {s t r : List ℕ} {dash : Bool} {f : Found} → Header s dash (0x0A ∷ t) → Body t f r → Stands s f r
 
--- "lines joined by LF"
+-- R14. "lines joined by LF"
 unfoldable pub joined : List (List ℕ) → List ℕ
 joined [] = []
 joined (line ∷ []) = line
 joined (line ∷ next ∷ lines) = line ++ 0x0A ∷ joined (next ∷ lines)
 
--- "Text: lines joined by LF, a last LF unless `-`."
+-- R14. "Text: lines joined by LF, a last LF unless `-`."
 unfoldable pub text : Bool → List (List ℕ) → List ℕ
 text true lines = joined lines
 text false lines = joined lines ++ 0x0A ∷ []
 
--- The text of a good block.
+-- R14. The text of a good block.
 pub data BlockText : List ℕ → List ℕ → Type 0 where
   means : {s t r : List ℕ} {dash : Bool} {lines : List (List ℕ)} → Header s dash (0x0A ∷ t) → Body t (good lines) r → BlockText s (text dash lines)
 
--- What stands from the place `at` of the source on, and the offset at which the lexeme ends.
+-- R14, R15. What stands from the place `at` of the source on, and the offset at which the lexeme ends.
 pub data Ends (source : List ℕ) (at : ℕ) (f : Found) (end : ℕ) : Type 0 where
   ends : {r : List ℕ} → Stands (drop at source) f r → end + length r ≡ length source → Ends source at f end
 
--- The same as the code's answer.
+-- R14, R15. The same as the code's answer.
 pub data BlockAt (source : List ℕ) (at : ℕ) : Block → Type 0 where
   a-good : {lines : List (List ℕ)} {end : ℕ} → Ends source at (good lines) end → BlockAt source at (Good end)
   an-unexpected-end : {end : ℕ} → Ends source at unexpected-end end → BlockAt source at (UnexpectedEnd end)

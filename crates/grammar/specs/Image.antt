@@ -5,11 +5,11 @@ use Prim.Native.Nat.{ℕ, _/_, _%_}
 use lib.ListN.{length}
 use Rattle.grammar.specs.Trees.{Field, byte, number, span, text, Trees, none, node}
 
--- "Numbers are two bytes, high first"
+-- R41. "Numbers are two bytes, high first"
 abbrev pub two : ℕ → List ℕ
 two n = n / 256 ∷ n % 256 ∷ []
 
--- "a span is two of them; a flag is one byte; names and texts run to the payload's end"
+-- R41. "a span is two of them; a flag is one byte; names and texts run to the payload's end"
 unfoldable pub payload : List Field → List ℕ
 payload [] = []
 payload (byte b ∷ fields) = b ∷ payload fields
@@ -18,11 +18,11 @@ payload (span a b ∷ fields) = two a ++ two b ++ payload fields
 payload (text w ∷ []) = w
 payload (text w ∷ (field ∷ fields)) = w ++ payload (field ∷ fields)
 
--- "one-byte tag, two-byte length, payload"
+-- R40. "one-byte tag, two-byte length, payload"
 unfoldable pub entry : ℕ → List Field → List ℕ
 entry tag fields = tag ∷ (two (length (payload fields)) ++ payload fields)
 
--- "Records stand children first, in source order."
+-- R40. "Records stand children first, in source order."
 unfoldable pub image : Trees → List ℕ
 image none = []
 image (node tag fields children ts) = (image children ++ entry tag fields) ++ image ts

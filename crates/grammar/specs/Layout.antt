@@ -11,7 +11,7 @@ use Rattle.grammar.specs.Tags.{NAMED-ARGUMENT, INDEX-PART, FUNCTION, IF,
 use Rattle.grammar.specs.Trees.{Field, byte, number, span, text, Trees, count as size}
 use Rattle.grammar.specs.Trees as trees
 
--- A part of a payload, and the children that it tells of.
+-- R41. A part of a payload, and the children that it tells of.
 pub data Part : Type 0 where
   place : Part  -- a span
   words : Part  -- a name or a text, to the payload's end
@@ -20,7 +20,7 @@ pub data Part : Type 0 where
   bits : Part  -- a byte below 8: a child for each of 1, 2 and 4
   below : ℕ → Part  -- a byte below this: a flag, or a place in an enum
 
--- How many children every such record has, and the parts of its payload; or there is no such record.
+-- R40. How many children every such record has, and the parts of its payload; or there is no such record.
 pub data Layout : Type 0 where
   layout : ℕ → List Part → Layout
   unknown : Layout
@@ -71,18 +71,18 @@ unfoldable pub layout-in : ℕ → List Row → Layout
 layout-in tag [] = unknown
 layout-in tag (row t own ps ∷ rest) = cond (eqb tag t) (layout own ps) (layout-in tag rest)
 
--- The layout of a tag's records.
+-- R40. The layout of a tag's records.
 unfoldable pub layout-of : ℕ → Layout
 unfolding layout-in rows
 layout-of tag = layout-in tag rows
 
 -- ── Records that are laid out so ──────────────────────────────────────────────────────────────────
 
--- How many of its three parts a slice's byte has.
+-- R43. How many of its three parts a slice's byte has.
 abbrev pub bits-in : ℕ → ℕ
 bits-in b = b % 2 + (b / 2 % 2 + b / 4 % 2)
 
--- The fields have these parts, which tell of n children.
+-- R41. The fields have these parts, which tell of n children.
 pub data Laid : List Part → List Field → ℕ → Type 0 where
   over : Laid [] [] 0
   a-span : {a e n : ℕ} {ps : List Part} {fs : List Field} → Laid ps fs n → Laid (place ∷ ps) (span a e ∷ fs) n
@@ -92,11 +92,11 @@ pub data Laid : List Part → List Field → ℕ → Type 0 where
   a-slice : {b n : ℕ} {ps : List Part} {fs : List Field} → b < 8 → Laid ps fs n → Laid (bits ∷ ps) (byte b ∷ fs) (bits-in b + n)
   a-byte : {m b n : ℕ} {ps : List Part} {fs : List Field} → b < m → Laid ps fs n → Laid (below m ∷ ps) (byte b ∷ fs) n
 
--- A record of this layout with these fields has n children.
+-- R40. A record of this layout with these fields has n children.
 pub data Tells : Layout → List Field → ℕ → Type 0 where
   tells : {own n : ℕ} {ps : List Part} {fs : List Field} → Laid ps fs n → Tells (layout own ps) fs (own + n)
 
--- Trees of which every record is laid out so, and has the children that it tells of.
+-- R40. Trees of which every record is laid out so, and has the children that it tells of.
 pub data LaidOut : Trees → Type 0 where
   none : LaidOut trees.none
   node : {tag : ℕ} {fields : List Field} {children ts : Trees} → Tells (layout-of tag) fields (size children) → LaidOut children → LaidOut ts

@@ -10,7 +10,7 @@ use Rattle.grammar.specs.declared.operators.Prefix.the-variants.{Unary, 
 use Rattle.grammar.specs.declared.operators.Infix.{Infix}
 use Rattle.grammar.specs.declared.operators.Infix.the-variants.{Binary, NoInfix}
 
--- unary_op: the byte of the prefix operator of a kind.
+-- R19, R44. unary_op: the byte of the prefix operator of a kind.
 unfoldable pub sign-in : ℕ → List Sign → Prefix
 sign-in k [] = NoPrefix
 sign-in k (sign j o ∷ rest) = cond (eqb k j) (Unary o) (sign-in k rest)
@@ -18,7 +18,7 @@ sign-in k (sign j o ∷ rest) = cond (eqb k j) (Unary o) (sign-in k rest)
 unfoldable pub prefix-of : ℕ → Prefix
 prefix-of k = sign-in k signs
 
--- binary_op, infix_binding_power: the byte, the left and the right power of the binary operator of a kind, whatever the setting.
+-- R18, R44. binary_op, infix_binding_power: the byte, the left and the right power of the binary operator of a kind, whatever the setting.
 unfoldable pub operator-in : ℕ → List Operator → Infix
 operator-in k [] = NoInfix
 operator-in k (op j g left right o ∷ rest) = cond (eqb k j) (Binary o left right) (operator-in k rest)

@@ -11,7 +11,7 @@ use Rattle.grammar.specs.Tags.{ASSERT-EXPR, LOCAL, IMPORT, ERROR, CALL, 
 use Rattle.grammar.specs.Tags.{ARRAY-PATTERN, OBJECT-PATTERN, PATTERN-FIELD, PARAMETER, FIELD, ASSERT, FOR, IF-CLAUSE, OBJECT-ITERATION}
 use Rattle.grammar.specs.Words.{NameText, NumberText}
 
--- What a record is.
+-- R40. What a record is.
 pub data Sort : Type 0 where
   expression : Sort
   string run object : Sort  -- expressions: a string; an index part, on which a later one of its run may stand; what stands between braces
@@ -19,7 +19,7 @@ pub data Sort : Type 0 where
   iteration if-clause clause : Sort
   pattern name-pattern pattern-field : Sort
 
--- What counts as what.
+-- R40. What counts as what.
 pub data Is : Sort → Sort → Type 0 where
   itself : {σ : Sort} → Is σ σ
   a-string : Is string expression
@@ -32,17 +32,17 @@ pub data Is : Sort → Sort → Type 0 where
   an-if : Is if-clause clause
   a-name : Is name-pattern pattern
 
--- Children, each what is wanted there.
+-- R40. Children, each what is wanted there.
 pub data Fits : List Sort → List Sort → Type 0 where
   none : Fits [] []
   more : {σ τ : Sort} {σs τs : List Sort} → Is σ τ → Fits σs τs → Fits (σ ∷ σs) (τ ∷ τs)
 
--- So many of a sort.
+-- R40. So many of a sort.
 unfoldable pub times : ℕ → Sort → List Sort
 times zero σ = []
 times (suc n) σ = σ ∷ times n σ
 
--- What is asked of spans: `forward`, that one that is there does not run backward and an absent one is 0; or, for what holds "but for spans",
+-- R43. What is asked of spans: `forward`, that one that is there does not run backward and an absent one is 0; or, for what holds "but for spans",
 -- nothing.
 pub data Spans : Type 0 where
   forward free : Spans
@@ -58,28 +58,28 @@ Absent Spans.free a e = Unit
 abbrev pub Flag : ℕ → Type 0
 Flag f = f ≤ 1
 
--- A flag and the child that it tells of, if it is set.
+-- R41. A flag and the child that it tells of, if it is set.
 pub data Has (σ : Sort) : ℕ → List Sort → Type 0 where
   no : Has σ 0 []
   yes : Has σ 1 (σ ∷ [])
 
--- First-of-run: the first part of a run stands on anything, a later one on a part.
+-- R40. First-of-run: the first part of a run stands on anything, a later one on a part.
 pub data First : ℕ → Sort → Type 0 where
   first : First 1 expression
   later : First 0 run
 
--- A part of a slice: the weight in its byte, its span, its child; "absent ones 0".
+-- R43. A part of a slice: the weight in its byte, its span, its child; "absent ones 0".
 pub data Part (q : Spans) (weight : ℕ) : ℕ → ℕ → ℕ → List Sort → Type 0 where
   absent : {a e : ℕ} → Absent q a e → Part q weight 0 a e []
   present : {a e : ℕ} → Present q a e → Part q weight weight a e (expression ∷ [])
 
--- A pattern's rest: its byte (none 0, drop 1, keep 2), how many patterns stand after it, its name.
+-- R26. A pattern's rest: its byte (none 0, drop 1, keep 2), how many patterns stand after it, its name.
 pub data Rest : ℕ → ℕ → List ℕ → Type 0 where
   whole : Rest 0 0 []
   dropped : {m : ℕ} → Rest 1 m []
   kept : {m : ℕ} {w : List ℕ} → NameText w → Rest 2 m w
 
--- A field's name: computed or not; and its plus, method and parameter count.
+-- R43. A field's name: computed or not; and its plus, method and parameter count.
 pub data Name : ℕ → Sort → Type 0 where
   fixed : Name 0 string
   computed : Name 1 expression
@@ -88,7 +88,7 @@ pub data Method : ℕ → ℕ → ℕ → Type 0 where
   value : {plus : ℕ} → Flag plus → Method plus 0 0
   method : {n : ℕ} → Method 0 1 n
 
--- `Form q σ tag fields children`: a record of this tag may have these fields, is a σ, and wants these children.
+-- R40. `Form q σ tag fields children`: a record of this tag may have these fields, is a σ, and wants these children.
 pub data Form (q : Spans) : Sort → ℕ → List Field → List Sort → Type 0 where
   -- "1 identity: which (self 0, super 1, $ 2), span. 2 null. 3 bool: flag. 4 number: text. 5 string: text. 6 variable: span, name."
   r1 : {o a e : ℕ} → o ≤ 2 → Present q a e → Form q expression IDENTITY (byte o ∷ span a e ∷ []) []
@@ -149,7 +149,7 @@ pub data Form (q : Spans) : Sort → ℕ → List Field → List Sort → Type 0
   r34 : {a e : ℕ} → Present q a e → Form q if-clause IF-CLAUSE (span a e ∷ []) (expression ∷ [])
   r35 : {v : ℕ} {w : List ℕ} → v ≤ 2 → NameText w → Form q iteration OBJECT-ITERATION (byte v ∷ text w ∷ []) (pattern ∷ expression ∷ [])
 
--- Trees obey the table: in this order they are of these sorts, and so on down.
+-- R40. Trees obey the table: in this order they are of these sorts, and so on down.
 pub data Obeys (q : Spans) : List Sort → Trees → Type 0 where
   none : Obeys q [] trees.none
   node : {σ : Sort} {tag : ℕ} {fields : List Field} {wanted actual σs : List Sort} {children ts : Trees}

@@ -12,7 +12,7 @@ use Rattle.lexemes.specs.Kinds.{FLOAT, IDENT, STRING-DOUBLE, STRING-SINGLE, STR
 use Rattle.lexemes.specs.Texts.{plain}
 use Rattle.grammar.specs.Lexemes.{Said, says, spoiled, nothing, Lexeme}
 
--- ident, parse_number, parse_string_content: of the source s, the lexeme of this kind from a to e has this text.
+-- R42. ident, parse_number, parse_string_content: of the source s, the lexeme of this kind from a to e has this text.
 pub data Means (s : List ℕ) : ℕ → ℕ → ℕ → List ℕ → Type 0 where
   name : {a e : ℕ} → Means s IDENT a e (slice a e s)
   number : {a e : ℕ} → (TooLarge (plain (slice a e s)) → ⊥) → Means s FLOAT a e (plain (slice a e s))  -- 02, Item 2
@@ -27,13 +27,13 @@ pub data Spoils (s : List ℕ) : ℕ → ℕ → ℕ → ℕ → Type 0 where
   in-double : {a e n : ℕ} → BadEscape (slice (a + 1) (e - 1) s) n → Spoils s STRING-DOUBLE a e n
   in-single : {a e n : ℕ} → BadEscape (slice (a + 1) (e - 1) s) n → Spoils s STRING-SINGLE a e n
 
--- What it says: its text, or where that is spoiled; with neither, nothing.
+-- R39, R42. What it says: its text, or where that is spoiled; with neither, nothing.
 pub data Says (s : List ℕ) (k a e : ℕ) : Said → Type 0 where
   its-text : {w : List ℕ} → Means s k a e w → Says s k a e (says w)
   its-escape : {n : ℕ} → Spoils s k a e n → Says s k a e (spoiled n)
   no-text : ((w : List ℕ) → Means s k a e w → ⊥) → ((n : ℕ) → Spoils s k a e n → ⊥) → Says s k a e nothing
 
--- Lexemes of a source, and the same with what they say.
+-- R42. Lexemes of a source, and the same with what they say.
 pub data Told (s : List ℕ) : List Range → List Lexeme → Type 0 where
   none : Told s [] []
   more : {k a e : ℕ} {w : Said} {xs : List Range} {ys : List Lexeme} → Says s k a e w → Told s xs ys

@@ -14,21 +14,21 @@ use Rattle.grammar.specs.Answer.{Limits, Verdict, Judged, bad-setting, t
 use Rattle.grammar.specs.Spells.{Unary}
 
 infix 25 _⊑_
--- Every switch of s is on in s′; and "Demand 3 compares settings equal in bit 8".
+-- R29. Every switch of s is on in s′; and "Demand 3 compares settings equal in bit 8".
 pub record _⊑_ (s s′ : ℕ) : Type 0 where
   pub switches : (g : Switch) → has s g ≡ true → has s′ g ≡ true
   pub signs : published s ≡ published s′
 
--- The switch of the production that is chosen.
+-- R29. The switch of the production that is chosen.
 unfoldable pub switch-of : ℕ → Table → Switch
 switch-of s (otherwise b) = always
 switch-of s (row g t b ∣ rest) = elim (t && has s g) [ true ↦ g | false ↦ switch-of s rest ]
 
--- A place in the lexemes: where the last one ended, and what is left.
+-- R29. A place in the lexemes: where the last one ended, and what is left.
 pub data Place : Type 0 where
   at : ℕ → List Lexeme → Place
 
--- The place of a phrase that needs a switch which s lacks: "the first `?`, `??`, or opening lexeme of a pattern or `[k]:` header", so where
+-- R29. The place of a phrase that needs a switch which s lacks: "the first `?`, `??`, or opening lexeme of a pattern or `[k]:` header", so where
 -- the phrase begins. "One exception: for a `[k]:` header where the smaller has 1 and not 2, it is the first `:` after `]`."
 unfoldable pub place : ℕ → Switch → ℕ → List Lexeme → Place
 place s always p xs = at p xs
@@ -42,11 +42,11 @@ or-else (some k) o = some k
 or-else nowhere o = o
 
 module _ (prefix s s′ : ℕ) where
-  -- In a phrase: here, if s lacks the switch of what s′ chooses; else the first place in what is chosen.
+  -- R29. In a phrase: here, if s lacks the switch of what s′ chooses; else the first place in what is chosen.
   unfoldable pub first-in : Phrase → ℕ → List Lexeme → ℕ → Option Place → Option Place
   first-in q p xs n o = let g = switch-of s′ (rule prefix q (view p xs n)) in elim (has s g) [ true ↦ o | false ↦ some (place s g p xs) ]
 
-  -- "the first .. that the larger setting reads by a switch the smaller lacks", in a reading under s′.
+  -- R29. "the first .. that the larger setting reads by a switch the smaller lacks", in a reading under s′.
   unfoldable pub first : {b : Body} {ts : Trees} {d p : ℕ} {xs : List Lexeme} {o : Outcome} → Reading prefix s′ b ts d p xs o → Option Place
   first ended = nowhere
   first failed = nowhere
@@ -63,12 +63,12 @@ module _ (prefix s s′ : ℕ) where
 
 -- ── Prefix signs ──────────────────────────────────────────────────────────────────────────────────
 
--- A phrase begins with a prefix sign: an expression, where `+`, `-`, `~` or `!` stands next.
+-- R19. A phrase begins with a prefix sign: an expression, where `+`, `-`, `~` or `!` stands next.
 pub data Signed : Phrase → List Lexeme → Type 0 where
   signed : {least o : ℕ} {xs : List Lexeme} → Unary (kind-of xs) o → Signed (expr least) xs
 
 module _ {prefix s : ℕ} where
-  -- No phrase of a reading begins with one.
+  -- R19. No phrase of a reading begins with one.
   unfoldable pub Unsigned : {b : Body} {ts : Trees} {d p : ℕ} {xs : List Lexeme} {o : Outcome} → Reading prefix s b ts d p xs o → Type 0
   Unsigned ended = Unit
   Unsigned failed = Unit

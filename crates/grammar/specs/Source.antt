@@ -13,14 +13,14 @@ use Rattle.grammar.specs.Lexemes.{Lexeme}
 use Rattle.grammar.specs.Says.{Told}
 use Rattle.grammar.specs.Answer.{Answer, Answers, document-01}
 
--- Number 4's "first one": it has kind k and stands from a to e.
+-- R35. Number 4's "first one": it has kind k and stands from a to e.
 pub data Bad (source : List ℕ) (k a e : ℕ) : Type 0 where
   bad : (k ≡ EOF → ⊥) → FirstBad source (lexeme k a e) → Bad source k a e
 
--- The source has no bad lexeme, and xs are its kept lexemes with what they say.
+-- R7. The source has no bad lexeme, and xs are its kept lexemes with what they say.
 pub data Kept (source : List ℕ) (xs : List Lexeme) : Type 0 where
   kept : {ranges : List Range} → FirstBad source (lexeme EOF (length source) (length source)) → lexemes.Kept source 0 ranges → Told source ranges xs → Kept source xs
 
--- Document 01: the answer and the output for a setting, a source and an output of so many bytes. The reader's contract.
+-- R1. Document 01: the answer and the output for a setting, a source and an output of so many bytes. The reader's contract.
 abbrev pub Reads01 : ℕ → List ℕ → ℕ → Answer → List ℕ → Type 0
 Reads01 setting source room answer out = Answers Bad Kept document-01 setting source room answer out

@@ -36,17 +36,17 @@ use Rattle.grammar.specs.Source.{Kept}
 abbrev pub Lexemes : Type 0
 Lexemes = List Lexeme
 
--- The lexemes xs are one of kind k, which says v, and then ys.
+-- R42. The lexemes xs are one of kind k, which says v, and then ys.
 infix 30 _is_saying_then_
 pub data _is_saying_then_ : Lexemes → ℕ → Said → Lexemes → Type 0 where
   worded : {k a e : ℕ} {v : Said} {ys : Lexemes} → (record { kind = k; start = a; stop = e; word = v } ∷ ys) is k saying v then ys
 
--- Whatever it says.
+-- R16. Whatever it says.
 infix 30 _is_then_
 pub data _is_then_ : Lexemes → ℕ → Lexemes → Type 0 where
   lexeme : {k a e : ℕ} {v : Said} {ys : Lexemes} → (record { kind = k; start = a; stop = e; word = v } ∷ ys) is k then ys
 
--- The kinds of literals with a text; of identities, prefix operators and imports, each with the byte of its record.
+-- R12, R44. The kinds of literals with a text; of identities, prefix operators and imports, each with the byte of its record.
 pub data Quoted : ℕ → Type 0 where
   double : Quoted STRING-DOUBLE
   single : Quoted STRING-SINGLE
@@ -70,7 +70,7 @@ pub data Import : ℕ → ℕ → Type 0 where
   importstr : Import IMPORTSTR-KW 1
   importbin : Import IMPORTBIN-KW 2
 
--- "Binding, left/right": a binary operator's kind; its level, which is its left power (the right power is one more); the byte of its record.
+-- R18, R44. "Binding, left/right": a binary operator's kind; its level, which is its left power (the right power is one more); the byte of its record.
 pub data Binary (s : ℕ) : ℕ → ℕ → ℕ → Type 0 where
   or : Binary s OR 2 17
   coalesce : T (has s exp-null-coaelse) → Binary s NULL-COAELSE 2 18
@@ -95,13 +95,13 @@ pub data Binary (s : ℕ) : ℕ → ℕ → ℕ → Type 0 where
 
 -- ── The greedy rule ───────────────────────────────────────────────────────────────────────────────
 
--- The open phrases: operations of a level; suffixes; what a lexeme of kind k may continue.
+-- R17. The open phrases: operations of a level; suffixes; what a lexeme of kind k may continue.
 pub data Open : Type 0 where
   operations : ℕ → Open
   suffixes : Open
   optional : ℕ → Open
 
--- The kinds that continue them.
+-- R17. The kinds that continue them.
 pub data Continues (s : ℕ) : Open → ℕ → Type 0 where
   operator : {k l o m : ℕ} → Binary s k l o → m ≤ l → Continues s (operations m) k
   dot : Continues s suffixes DOT
@@ -111,7 +111,7 @@ pub data Continues (s : ℕ) : Open → ℕ → Type 0 where
   question : T (has s exp-null-coaelse) → Continues s suffixes QUESTION-MARK
   option : {k : ℕ} → Continues s (optional k) k
 
--- Where a phrase may be over.
+-- R17. Where a phrase may be over.
 abbrev pub anywhere : Open → ℕ → Type 0
 anywhere q k = Unit
 
@@ -155,7 +155,7 @@ pub data Category : Type 0 where
   more : Category → Category  -- perhaps a comma and a row
 
 module _ (prefix s : ℕ) (Ends : Open → ℕ → Type 0) where
-  -- `Spells d C xs ts ys`: within d levels the lexemes of xs up to ys spell the trees ts, which are a C.
+  -- R16. `Spells d C xs ts ys`: within d levels the lexemes of xs up to ys spell the trees ts, which are a C.
   pub data Spells : ℕ → Category → Lexemes → Trees → Lexemes → Type 0 where
     -- Rows: `a, b, c` and `a, b, c,`
     each-none : {d : ℕ} {C : Category} {xs : Lexemes} → Spells d (each C) xs none xs
@@ -329,11 +329,11 @@ module _ (prefix s : ℕ) (Ends : Open → ℕ → Type 0) where
 
 -- ── Sources ───────────────────────────────────────────────────────────────────────────────────────
 
--- The kept lexemes xs of a source spell a tree within so many levels: one expression, and then nothing.
+-- R5, R16. The kept lexemes xs of a source spell a tree within so many levels: one expression, and then nothing.
 abbrev pub SpelledWithin : ℕ → ℕ → (Open → ℕ → Type 0) → ℕ → Lexemes → Trees → Type 0
 SpelledWithin prefix s Ends levels xs t = Spells prefix s Ends levels (expr 0) xs t []
 
--- A source past numbers 1 to 4 spells a tree, greedily and within the limits.
+-- R16. A source past numbers 1 to 4 spells a tree, greedily and within the limits.
 pub record Spelled (limits : Limits) (setting : ℕ) (source : List ℕ) (t : Trees) : Type 0 where
   pub known : limits .valid setting ≡ so
   pub short : length source ≤ limits .size

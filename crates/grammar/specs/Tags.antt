@@ -1,4 +1,4 @@
--- The tags of records: 01's numbers of "The image", by the names that the code has (src/tags.rt), `-` for `_`.
+-- R40. The tags of records: 01's numbers of "The image", by the names that the code has (src/tags.rt), `-` for `_`.
 -- Assumes nothing.
 use Prim.Native.Nat.{ℕ}
 

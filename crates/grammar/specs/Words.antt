@@ -10,7 +10,7 @@ use Rattle.lexemes.specs.Texts.{Identifier, keywords, Among, Numeral}
 use Rattle.grammar.specs.Lexemes.{Said, says, nothing, Lexeme}
 use Rattle.grammar.specs.Spells.{Quoted}
 
--- A name: an identifier and no keyword.
+-- R42. A name: an identifier and no keyword.
 pub record NameText (w : List ℕ) : Type 0 where
   pub identifier : Identifier w
   pub no-keyword : Among w keywords → ⊥
@@ -20,7 +20,7 @@ pub record NumberText (w : List ℕ) : Type 0 where
   pub numeral : Numeral w
   pub in-range : TooLarge w → ⊥
 
--- A lexeme of kind k may say v: an identifier its name, a number its numeral, a string literal a text of UTF-8, or where its bad escape is; all
+-- R42. A lexeme of kind k may say v: an identifier its name, a number its numeral, a string literal a text of UTF-8, or where its bad escape is; all
 -- but identifiers nothing.
 pub data Possible : ℕ → Said → Type 0 where
   name : {w : List ℕ} → NameText w → Possible IDENT (says w)
@@ -29,7 +29,7 @@ pub data Possible : ℕ → Said → Type 0 where
   spoiled : {k n : ℕ} → Quoted k → Possible k (Said.spoiled n)
   silent : {k : ℕ} → (k ≡ IDENT → ⊥) → Possible k nothing
 
--- Each of these lexemes says what it may.
+-- R42. Each of these lexemes says what it may.
 pub data Worded : List Lexeme → Type 0 where
   none : Worded []
   more : {x : Lexeme} {xs : List Lexeme} → Possible (x .kind) (x .word) → Worded xs → Worded (x ∷ xs)

@@ -12,7 +12,7 @@ use Rattle.lexemes.specs.declared.kept.Cursor.{Cursor}
 use Rattle.lexemes.specs.Kinds.{EOF, WHITESPACE, SINGLE-LINE-SLASH-COMMENT, SINGLE-LINE-HASH-COMMENT, MULTI-LINE-COMMENT, ERROR-FLOAT-JUNK-AFTER-POINT, ERROR-FLOAT-JUNK-AFTER-EXPONENT, ERROR-FLOAT-JUNK-AFTER-EXPONENT-SIGN, ERROR-STRING-DOUBLE-UNTERMINATED, ERROR-STRING-SINGLE-UNTERMINATED, ERROR-STRING-DOUBLE-VERBATIM-UNTERMINATED, ERROR-STRING-SINGLE-VERBATIM-UNTERMINATED, ERROR-STRING-VERBATIM-MISSING-QUOTES, ERROR-STRING-BLOCK-UNEXPECTED-END, ERROR-STRING-BLOCK-MISSING-NEW-LINE, ERROR-STRING-BLOCK-MISSING-TERMINATION, ERROR-STRING-BLOCK-MISSING-INDENT, ERROR-COMMENT-TOO-SHORT, ERROR-COMMENT-UNTERMINATED, ERROR-NO-OPERATOR, ERROR-MISSING-TOKEN, ERROR-UNEXPECTED-TOKEN, ERROR-CUSTOM, LEXING-ERROR}
 use Rattle.lexemes.specs.Lexeme.{LexemeAt, lexeme}
 
--- All lexemes from a place to the end of the source, one after the other.
+-- R6. All lexemes from a place to the end of the source, one after the other.
 pub data Lexemes (s : List ℕ) : ℕ → List Lexeme → Type 0 where
   none : {at : ℕ} → length s ≤ at → Lexemes s at []
   some : {at : ℕ} {l : Lexeme} {ls : List Lexeme} → at < length s → LexemeAt s at l → Lexemes s (l .end) ls → Lexemes s at (l ∷ ls)
@@ -43,13 +43,13 @@ unfoldable pub keep : List Lexeme → List Lexeme
 keep [] = []
 keep (l ∷ ls) = cond (dropped (l .kind)) (keep ls) (l ∷ keep ls)
 
--- The kept lexemes from a place to the end of the source.
+-- R7. The kept lexemes from a place to the end of the source.
 pub record Kept (s : List ℕ) (at : ℕ) (ks : List Lexeme) : Type 0 where
   pub lexemes : List Lexeme
   pub all : Lexemes s at lexemes
   pub kept : ks ≡ keep lexemes
 
--- The first of them; with none left EOF, at the place twice.
+-- R7, R31. The first of them; with none left EOF, at the place twice.
 abbrev pub first : ℕ → List Lexeme → Lexeme
 first at [] = lexeme EOF at at
 first at (l ∷ ls) = l
@@ -59,7 +59,7 @@ pub record NextKept (s : List ℕ) (at : ℕ) (l : Lexeme) : Type 0 where
   pub is-left : Kept s at left
   pub is-first : l ≡ first at left
 
--- The first bad lexeme of all; EOF at the end of the source where none is bad.
+-- R35. The first bad lexeme of all; EOF at the end of the source where none is bad.
 unfoldable pub firstBad : ℕ → List Lexeme → Lexeme
 firstBad n [] = lexeme EOF n n
 firstBad n (l ∷ ls) = cond (bad (l .kind)) l (firstBad n ls)
@@ -69,7 +69,7 @@ pub record FirstBad (s : List ℕ) (l : Lexeme) : Type 0 where
   pub all : Lexemes s 0 lexemes
   pub is-first : l ≡ firstBad (length s) lexemes
 
--- A cursor stands at a place: where the last lexeme taken ended, and the next kept one from there.
+-- R31. A cursor stands at a place: where the last lexeme taken ended, and the next kept one from there.
 pub record Stands (s : List ℕ) (at : ℕ) (c : Cursor) : Type 0 where
   pub last : c .last ≡ at
   pub current : NextKept s at (c .current)

@@ -1,4 +1,4 @@
--- The kinds of lexemes: positions in `SyntaxKind` of syntax_kinds.rs from 0, by the names that they have there, `-` for `_`.
+-- R6. The kinds of lexemes: positions in `SyntaxKind` of syntax_kinds.rs from 0, by the names that they have there, `-` for `_`.
 -- Assumes nothing.
 use Prim.Native.Nat.{ℕ}
 

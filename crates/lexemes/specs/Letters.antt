@@ -16,16 +16,16 @@ WHITE = 128
 abbrev pub OTHER : ℕ
 OTHER = 129
 
--- "Unicode White_Space (25 code points)": the 19 beyond ASCII.
+-- R11. "Unicode White_Space (25 code points)": the 19 beyond ASCII.
 unfoldable pub whiteSpace : List Range
 whiteSpace =
     0x85 to 0x85 ∷ 0xA0 to 0xA0 ∷ 0x1680 to 0x1680 ∷ 0x2000 to 0x200A ∷ 0x2028 to 0x2029 ∷ 0x202F to 0x202F ∷ 0x205F to 0x205F ∷ 0x3000 to 0x3000 ∷ []
 
--- A character has as many bytes as its first byte says: Unicode's table 3-7, first column.
+-- R11. A character has as many bytes as its first byte says: Unicode's table 3-7, first column.
 abbrev pub width : ℕ → ℕ
 width b = cond (ltb b 0x80) 1 (cond (ltb b 0xE0) 2 (cond (ltb b 0xF0) 3 4))
 
--- The code point whose bytes are a, b, c, d, as many of them as a says: table 3-6.
+-- R11. The code point whose bytes are a, b, c, d, as many of them as a says: table 3-6.
 unfoldable pub codePoint : ℕ → ℕ → ℕ → ℕ → ℕ
 codePoint a b c d =
     cond (ltb a 0x80) a
@@ -35,7 +35,7 @@ codePoint a b c d =
 unfoldable pub beyond : List ℕ → ℕ → ℕ
 beyond s i = cond (within whiteSpace (codePoint (getD s i 0) (getD s (i + 1) 0) (getD s (i + 2) 0) (getD s (i + 3) 0))) WHITE OTHER
 
--- The letter at a place, and the place after it.
+-- R6, R11. The letter at a place, and the place after it.
 unfoldable pub letter : List ℕ → ℕ → ℕ
 letter s i = cond (ltb i (length s)) (cond (ltb (getD s i 0) 0x80) (getD s i 0) (beyond s i)) END
 
@@ -45,7 +45,7 @@ next s i = cond (ltb i (length s)) (min (i + width (getD s i 0)) (length s)) (i 
 abbrev pub text : List ℕ → Text
 text s = record { letter = letter s; next = next s }
 
--- The bytes of an ASCII text.
+-- R6. The bytes of an ASCII text.
 abbrev pub ascii : String → List ℕ
 ascii nil = []
 ascii (c then s) = code c ∷ ascii s

@@ -13,20 +13,20 @@ use Rattle.lexemes.specs.Kinds.{EOF, IDENT, STRING-BLOCK, ERROR-STRING-B
 use Rattle.lexemes.specs.Letters.{text, next}
 use Rattle.lexemes.specs.Rules.{rules}
 
--- The keywords stand together in `SyntaxKind`.
+-- R6. The keywords stand together in `SyntaxKind`.
 abbrev pub Keyword : ℕ → Type 0
 Keyword k = (TAILSTRICT-KW ≤ k) × (k ≤ ASSERT-KW)
 
--- "a keyword beats `IDENT`"
+-- R6. "a keyword beats `IDENT`"
 abbrev pub Beats : ℕ → ℕ → Type 0
 Beats k k′ = Keyword k × (k′ ≡ IDENT)
 
--- What the rules make of the place: the longest match, or, "a character no rule takes is one `LEXING_ERROR`".
+-- R6, R8. What the rules make of the place: the longest match, or, "a character no rule takes is one `LEXING_ERROR`".
 pub data Ruled (s : List ℕ) (at k e : ℕ) : Type 0 where
   longest : Longest Beats (text s) rules at k e → Ruled s at k e
   error : Nothing (text s) rules at → k ≡ LEXING-ERROR → e ≡ next s at → Ruled s at k e
 
--- lex.rs: the kind of a block by its fault, and its end.
+-- R15. lex.rs: the kind of a block by its fault, and its end.
 abbrev pub blockKind : Block → ℕ
 blockKind (Good e) = STRING-BLOCK
 blockKind (UnexpectedEnd e) = ERROR-STRING-BLOCK-UNEXPECTED-END
@@ -44,7 +44,7 @@ blockEnd (MissingIndent e) = e
 abbrev pub lexeme : ℕ → ℕ → ℕ → Lexeme
 lexeme k a e = record { kind = k; start = a; end = e }
 
--- The lexeme at a place. Past the end of the source that is EOF; a `|||` goes on as a block.
+-- R6, R14. The lexeme at a place. Past the end of the source that is EOF; a `|||` goes on as a block.
 pub data LexemeAt (s : List ℕ) (at : ℕ) (l : Lexeme) : Type 0 where
   end : length s ≤ at → l ≡ lexeme EOF at at → LexemeAt s at l
   rule : {k e : ℕ} → at < length s → Ruled s at k e → (k ≡ STRING-BLOCK → ⊥) → l ≡ lexeme k at e → LexemeAt s at l

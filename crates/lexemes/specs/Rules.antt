@@ -1,4 +1,4 @@
--- The rules of syntax_kinds.rs: each `#[token]` and `#[regex]` as a value, in the order of the kinds, with the attribute above it.
+-- R6, R9, R10, R11. The rules of syntax_kinds.rs: each `#[token]` and `#[regex]` as a value, in the order of the kinds, with the attribute above it.
 -- A row `KIND ⇒ token "..."` is the attribute `#[token("...")]` of that kind.
 -- Assumes nothing.
 use mathlib.Core.List.{List, [], _∷_}

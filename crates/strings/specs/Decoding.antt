@@ -7,7 +7,7 @@ use lib.Seq.{sets}
 use Rattle.strings.specs.declared.Decoded.{Decoded}
 use Rattle.strings.specs.declared.Decoded.the-variants.{Text, Refused}
 
--- `Means t` says that t is the text meant, `Fault n` that there is none, and what is told of that. If there is a text, its whole length is
+-- R3, R42. `Means t` says that t is the text meant, `Fault n` that there is none, and what is told of that. If there is a text, its whole length is
 -- the answer and as much of it as has room stands from the part's start on (`sets` stores nothing past the end), the rest as it was. If
 -- there is none, n is the answer and the part is all zero.
 pub data Decoding (Means : List ℕ → Type 0) (Fault : ℕ → Type 0) (out : List ℕ) : Decoded → List ℕ → Type 0 where

@@ -6,19 +6,19 @@ use Prim.Native.Nat.{ℕ, suc, _+_, _-_, _*_}
 use lib.ListN.{length}
 use Rattle.strings.specs.Utf8.{In, Scalar, utf8}
 
--- A hex digit and its value.
+-- R12. A hex digit and its value.
 pub data Hex : ℕ → ℕ → Type 0 where
   digit : {b : ℕ} → In 0x30 0x39 b → Hex b (b - 0x30)
   upper : {b : ℕ} → In 0x41 0x46 b → Hex b (b - 0x37)
   lower : {b : ℕ} → In 0x61 0x66 b → Hex b (b - 0x57)
 
--- The bytes begin with four hex digits that spell the number, and the last list is what follows them.
+-- R12. The bytes begin with four hex digits that spell the number, and the last list is what follows them.
 pub data Four : List ℕ → ℕ → List ℕ → Type 0 where
   four :
       {a b c d v w x y : ℕ} {r : List ℕ} → Hex a v → Hex b w → Hex c x → Hex d y →
       Four (a ∷ b ∷ c ∷ d ∷ r) (v * 0x1000 + w * 0x100 + x * 0x10 + y) r
 
--- `\\ \" \' \b \f \n \r \t`: the letter after the backslash and the character that it stands for.
+-- R12. `\\ \" \' \b \f \n \r \t`: the letter after the backslash and the character that it stands for.
 pub data Letter : ℕ → ℕ → Type 0 where
   backslash : Letter 0x5C 0x5C
   double : Letter 0x22 0x22
@@ -29,11 +29,11 @@ pub data Letter : ℕ → ℕ → Type 0 where
   return : Letter 0x72 0x0D
   tab : Letter 0x74 0x09
 
--- The bytes begin with `\u` and a low half.
+-- R12. The bytes begin with `\u` and a low half.
 pub data Low : List ℕ → ℕ → List ℕ → Type 0 where
   low : {lo : ℕ} {s r : List ℕ} → Four s lo r → In 0xDC00 0xDFFF lo → Low (0x5C ∷ 0x75 ∷ s) lo r
 
--- After a backslash the bytes begin with an escape for the code point, and the last list is what follows it.
+-- R12. After a backslash the bytes begin with an escape for the code point, and the last list is what follows it.
 pub data Escape : List ℕ → ℕ → List ℕ → Type 0 where
   letter : {l c : ℕ} {r : List ℕ} → Letter l c → Escape (l ∷ r) c r
   -- "`\u` with four hex digits"; "a low half alone is bad", and so is a high half
@@ -45,7 +45,7 @@ pub data Escape : List ℕ → ℕ → List ℕ → Type 0 where
   -- "`\x` with digits d, e is code point 256d+e"
   two : {d e v w : ℕ} {r : List ℕ} → Hex d v → Hex e w → Escape (0x78 ∷ d ∷ e ∷ r) (v * 0x100 + w) r
 
--- The inside of a quoted literal means the text. What has no text here is refused, RFC 8259's `\/` among it.
+-- R12. The inside of a quoted literal means the text. What has no text here is refused, RFC 8259's `\/` among it.
 pub data Quoted : List ℕ → List ℕ → Type 0 where
   end : Quoted [] []
   plain : {b : ℕ} {s t : List ℕ} → (b ≡ 0x5C → ⊥) → Quoted s t → Quoted (b ∷ s) (b ∷ t)
@@ -64,7 +64,7 @@ abbrev pub Begins : ℕ → List ℕ → Type 0
 Begins q [] = ⊥
 Begins q (b ∷ s) = b ≡ q
 
--- The inside of a verbatim literal between quotes q: "a doubled quote is one". A quote that stands alone, which no literal has,
+-- R13. The inside of a verbatim literal between quotes q: "a doubled quote is one". A quote that stands alone, which no literal has,
 -- is kept, as the Rust's `replace` keeps it: every inside has a text.
 pub data Verbatim (q : ℕ) : List ℕ → List ℕ → Type 0 where
   end : Verbatim q [] []
