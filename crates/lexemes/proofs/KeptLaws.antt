@@ -113,7 +113,7 @@ every-at (x ∷ ks) f h k m = by (or-cases (eqb k x) (oneOf ks k) m) (every-at k
     by (inr m) later = later m
 
 -- What is dropped is not bad.
-dropped-good : (k : ℕ) → dropped k ≡ true → bad k ≡ false
+pub dropped-good : (k : ℕ) → dropped k ≡ true → bad k ≡ false
 unfolding dropped bad every
 dropped-good k h = sym (false-is (bad k) (every-at droppedKinds (λ (k : ℕ). not (bad k)) tt k (subst T (sym h) tt)))
 

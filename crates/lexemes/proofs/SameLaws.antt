@@ -1,42 +1,24 @@
 -- Sources whose kept lexemes are the same: their first bad lexemes stand at the same one, and the inner parts of their lexemes are the same too.
 -- Assumes nothing.
 use mathlib.Core.Path.{_≡_, refl, sym, ap, subst, _∙_}
-use mathlib.Core.Bool.{Bool, true, false, cond, _||_}
+use mathlib.Core.Bool.{Bool, true, false, cond}
 use mathlib.Core.List.{List, [], _∷_}
 use mathlib.Core.Logic.{_⊎_, inl, inr}
 use Prim.Native.Nat.{ℕ, zero, suc, _+_, _-_, _≤_, _<_}
 use native.Mathlib.Omega.{arith}
-use lib.Dec.{eqb}
 use lib.ListN.{length, take, drop, length-drop}
 use lib.Seq.{take-nil, take-take, drop-drop, length-take-le}
-use borrow.Author.Tests.{eqb-true}
 use Rattle.lexemes.specs.declared.Lexeme.{Lexeme}
-use Rattle.lexemes.specs.Kinds.{EOF, WHITESPACE, SINGLE-LINE-SLASH-COMMENT, SINGLE-LINE-HASH-COMMENT, MULTI-LINE-COMMENT}
+use Rattle.lexemes.specs.Kinds.{EOF}
 use Rattle.lexemes.specs.Lexeme.{lexeme}
 use Rattle.lexemes.specs.Kept.{dropped, bad, keep, Kept, firstBad, FirstBad}
 use Rattle.lexemes.specs.Texts.{part}
 use Rattle.lexemes.specs.Same.{SameLexeme, SameList, none, more, SameLexemes, Place, here, behind, later}
-use Rattle.lexemes.proofs.KeptLaws.{lexemes-once}
+use Rattle.lexemes.proofs.KeptLaws.{dropped-good, lexemes-once}
 
 -- ── The first bad lexeme ──────────────────────────────────────────────────────────────────────────
 
--- What is dropped is not bad.
-dropped-good : (k : ℕ) → dropped k ≡ true → bad k ≡ false
-unfolding dropped bad
-dropped-good k d = by (eqb k WHITESPACE) (eqb k SINGLE-LINE-SLASH-COMMENT) (eqb k SINGLE-LINE-HASH-COMMENT) (eqb k MULTI-LINE-COMMENT) refl refl refl refl d
-  where
-    is : (j : ℕ) → eqb k j ≡ true → bad j ≡ false → bad k ≡ false
-    is j e b = ap bad (eqb-true k j e) ∙ b
-
-    by : (w x y z : Bool) → eqb k WHITESPACE ≡ w → eqb k SINGLE-LINE-SLASH-COMMENT ≡ x → eqb k SINGLE-LINE-HASH-COMMENT ≡ y → eqb k MULTI-LINE-COMMENT ≡ z
-        → w || (x || (y || (z || false))) ≡ true → bad k ≡ false
-    by true x y z e f g h d = is WHITESPACE e refl
-    by false true y z e f g h d = is SINGLE-LINE-SLASH-COMMENT f refl
-    by false false true z e f g h d = is SINGLE-LINE-HASH-COMMENT g refl
-    by false false false true e f g h d = is MULTI-LINE-COMMENT h refl
-    by false false false false e f g h d = absurd (let z : _≡_ {A = ℕ} 0 1 = cc in omega arith)
-
--- So the first bad lexeme of all is that of the kept ones.
+-- What is dropped is not bad. So the first bad lexeme of all is that of the kept ones.
 pub bad-kept : (n : ℕ) (ls : List Lexeme) → firstBad n ls ≡ firstBad n (keep ls)
 unfolding firstBad keep
 bad-kept n [] = refl
