@@ -120,3 +120,23 @@ behind-short x y (b ∷ t) = by (eqb b x || eqb b y) (behind-short x y t)
     by : (p : Bool) → length (behind x y t) ≤ length t → length (cond p t (behind x y t)) ≤ suc (length t)
     by true h = omega arith
     by false h = omega arith
+
+pub before-short : (x y : ℕ) (t : List ℕ) → length (before x y t) ≤ length t
+unfolding before
+before-short x y [] = omega arith
+before-short x y (b ∷ t) = by (eqb b x || eqb b y) (before-short x y t)
+  where
+    by : (p : Bool) → length (before x y t) ≤ length t → length (cond p [] (b ∷ before x y t)) ≤ suc (length t)
+    by true h = omega arith
+    by false h = omega arith
+
+-- What was found stands between the two.
+pub found-between : (x y : ℕ) (t : List ℕ) → 1 ≤ length (behind x y t) → length (before x y t) + length (behind x y t) < length t
+unfolding before behind
+found-between x y [] = λ h. absurd (omega (arith, h))
+found-between x y (b ∷ t) = by (eqb b x || eqb b y) (found-between x y t)
+  where
+    by : (p : Bool) → (1 ≤ length (behind x y t) → length (before x y t) + length (behind x y t) < length t)
+        → 1 ≤ length (cond p t (behind x y t)) → length (cond p [] (b ∷ before x y t)) + length (cond p t (behind x y t)) < suc (length t)
+    by true h k = omega arith
+    by false h k = omega (arith, h k)

@@ -236,7 +236,17 @@ fn parts_reach(mantissa: &[u8], exponent: &[u8]) -> bool
 pub fn too_large(text: &[u8]) -> bool
     ensures { λ r. ⌜ Verdict (now (text .entry)) r ⌝ }
 {
+    // 1e99 is the largest of four bytes.
+    if text.len() < 5 {
+        return false;
+    }
     let e = find(text, b'e', b'E');
     let from = past(e, text.len());
+    // So few digits with an exponent of at most two bytes stay below the limit; nearly every literal is such.
+    if e < 210 {
+        if text.len() - from < 3 {
+            return false;
+        }
+    }
     parts_reach(&text[0..e], &text[from..])
 }
