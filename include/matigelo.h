@@ -60,6 +60,38 @@ void matigelo_read(uint64_t setting, const uint8_t *source, size_t source_length
 uint64_t matigelo_night(uint64_t setting, const uint8_t *sources, size_t sources_length, const size_t *ends, size_t ends_count,
                         uint8_t *output, size_t output_length, const size_t *parts, size_t parts_count, uint64_t *answers, size_t answers_count);
 
+/* What is said of an image that is read back; fields that a number does not use are 0.
+
+   the number                                      offset; count
+    0  one tree                                    count of its records
+   13  a tag that no record has                    the record's offset
+   14  a length, a flag or an enum byte is wrong,
+       or infix records with and without a place
+       are mixed                                   the record's offset
+   15  children are missing, or trees are left
+       over at the end                             the record's offset; the image's length at the end
+   16  a text, name, shape, root or span that no
+       source gives                                the record's offset
+   24  too few links                               count of the numbers that are needed
+
+   The first bad record decides, and of one record the least number; 24 comes before all others. */
+typedef struct {
+    uint64_t number;
+    uint64_t offset;
+    uint64_t count;
+} matigelo_back_answer;
+
+/* How many links an image of so many bytes needs: two for every three bytes. */
+#define MATIGELO_LINKS(length) ((length) / 3 * 2)
+
+/* Reads an image back: whether image_length bytes are the records of one tree, as matigelo_read writes them (infix records from before they had
+   a place are taken too). For each record i, in the order of the image, links[2 * i] is then its offset and links[2 * i + 1] the number of the
+   first record of its own tree. So its children, the last first, are record i - 1, then the record before the first of that child's tree, and so
+   on down to links[2 * i + 1]. The links behind are cleared, and all are where the number is not 0.
+   A pointer may be NULL where its length is 0; links and answer must overlap neither each other nor the image; links_length is at most
+   PTRDIFF_MAX / 8. Nothing else is asked: all bytes have an answer, at any length, and nothing recurses. */
+void matigelo_back(const uint8_t *image, size_t image_length, size_t *links, size_t links_length, matigelo_back_answer *answer);
+
 #ifdef __cplusplus
 }
 #endif

@@ -10,12 +10,19 @@
     >>> print(matigelo.read(b"1 2"))
     5: another kind of lexeme is wanted, at bytes 2 to 3
 
+An image that comes from elsewhere is read back; no byte of it is trusted.
+
+    >>> matigelo.back(matigelo.image(b"-a*b")) == tree
+    True
+    >>> print(matigelo.back(b"\\x02\\x00\\x00\\xff"))
+    13: no record has this tag, at byte 3
+
 Every answer is the proved reader's (crates/matigelo). The shared library is made by `bindings/test`, or by hand:
 
     rt staticlib matigelo
     cc -shared -o target/bindings/libmatigelo.so -Wl,--whole-archive target/staticlib/libmatigelo.a -Wl,--no-whole-archive
 
-MATIGELO_LIB names another file. Reading recurses: a thread of your own needs 1 MiB of stack (threading.stack_size).
+MATIGELO_LIB names another file. Reading a source recurses: a thread of your own needs 1 MiB of stack (threading.stack_size).
 """
 from __future__ import annotations
 
@@ -48,45 +55,56 @@ NUMBERS = {
     17: "a number is more than a double holds",
 }
 
-# The records, as README.md's table has them: tag, name, the parts of the payload, and how many children these tell of. A part is NAME:SORT; sorts are
-# b (a byte), f (a flag), n (a number of two bytes), s (a span), t (a text up to the payload's end). `slots` is the sum of start 1, end 2, step 4.
-RECORDS = {
-    1: ("identity", "which:b span:s", lambda p: 0),
-    2: ("null", "", lambda p: 0),
-    3: ("bool", "value:f", lambda p: 0),
-    4: ("number", "text:t", lambda p: 0),
-    5: ("string", "text:t", lambda p: 0),
-    6: ("variable", "span:s name:t", lambda p: 0),
-    7: ("array", "count:n", lambda p: p["count"]),
-    8: ("array comprehension", "clauses:n", lambda p: 1 + p["clauses"]),
-    9: ("object", "count:n", lambda p: p["count"]),
-    10: ("object comprehension", "members:n clauses:n", lambda p: p["members"] + p["clauses"]),
-    11: ("extension", "", lambda p: 2),
-    12: ("prefix", "operator:b", lambda p: 1),
-    13: ("infix", "operator:b span:s", lambda p: 2),
-    14: ("assert expression", "", lambda p: 2),
-    15: ("local", "binds:n", lambda p: p["binds"] + 1),
-    16: ("import", "which:b span:s", lambda p: 1),
-    17: ("error", "span:s", lambda p: 1),
-    18: ("call", "span:s tailstrict:f positional:n named:n", lambda p: 1 + p["positional"] + p["named"]),
-    19: ("named argument", "name:t", lambda p: 1),
-    20: ("index", "span:s first:f null_safe:f", lambda p: 2),
-    21: ("function", "span:s parameters:n", lambda p: p["parameters"] + 1),
-    22: ("if", "span:s has_else:f", lambda p: 2 + p["has_else"]),
-    23: ("slice", "slots:b start:s end:s step:s", lambda p: 1 + bin(p["slots"]).count("1")),
-    24: ("bind", "is_function:f parameters:n", lambda p: 2 + p["parameters"]),
-    25: ("name pattern", "span:s name:t", lambda p: 0),
-    26: ("skip", "", lambda p: 0),
-    27: ("array pattern", "leading:n rest:b trailing:n name:t", lambda p: p["leading"] + p["trailing"]),
-    28: ("object pattern", "fields:n rest:b name:t", lambda p: p["fields"]),
-    29: ("pattern field", "has_pattern:f has_default:f default:s name:t", lambda p: p["has_pattern"] + p["has_default"]),
-    30: ("parameter", "has_default:f", lambda p: 1 + p["has_default"]),
-    31: ("field", "span:s computed:f plus:f method:f parameters:n visibility:b", lambda p: 2 + p["parameters"]),
-    32: ("assert", "span:s has_message:f", lambda p: 1 + p["has_message"]),
-    33: ("for", "", lambda p: 2),
-    34: ("if clause", "span:s", lambda p: 1),
-    35: ("object iteration", "visibility:b key:t", lambda p: 2),
+# Why an image is refused: a line for each number, as in crates/images/specs/Numbers.antt.
+BACK_NUMBERS = {
+    13: "no record has this tag",
+    14: "a length, a flag or an enum byte is wrong",
+    15: "children are missing, or trees are left over",
+    16: "no source gives this text, name, shape, root or span",
+    24: "the array for the links is too short",
 }
+
+# The records, as README.md's table has them: tag, name, the parts of the payload. A part is NAME:SORT; sorts are b (a byte), f (a flag), n (a number of
+# two bytes), s (a span), t (a text up to the payload's end). `slots` is the sum of start 1, end 2, step 4. Which records are a record's children,
+# `matigelo_back` finds.
+RECORDS = {
+    1: ("identity", "which:b span:s"),
+    2: ("null", ""),
+    3: ("bool", "value:f"),
+    4: ("number", "text:t"),
+    5: ("string", "text:t"),
+    6: ("variable", "span:s name:t"),
+    7: ("array", "count:n"),
+    8: ("array comprehension", "clauses:n"),
+    9: ("object", "count:n"),
+    10: ("object comprehension", "members:n clauses:n"),
+    11: ("extension", ""),
+    12: ("prefix", "operator:b"),
+    13: ("infix", "operator:b span:s"),
+    14: ("assert expression", ""),
+    15: ("local", "binds:n"),
+    16: ("import", "which:b span:s"),
+    17: ("error", "span:s"),
+    18: ("call", "span:s tailstrict:f positional:n named:n"),
+    19: ("named argument", "name:t"),
+    20: ("index", "span:s first:f null_safe:f"),
+    21: ("function", "span:s parameters:n"),
+    22: ("if", "span:s has_else:f"),
+    23: ("slice", "slots:b start:s end:s step:s"),
+    24: ("bind", "is_function:f parameters:n"),
+    25: ("name pattern", "span:s name:t"),
+    26: ("skip", ""),
+    27: ("array pattern", "leading:n rest:b trailing:n name:t"),
+    28: ("object pattern", "fields:n rest:b name:t"),
+    29: ("pattern field", "has_pattern:f has_default:f default:s name:t"),
+    30: ("parameter", "has_default:f"),
+    31: ("field", "span:s computed:f plus:f method:f parameters:n visibility:b"),
+    32: ("assert", "span:s has_message:f"),
+    33: ("for", ""),
+    34: ("if clause", "span:s"),
+    35: ("object iteration", "visibility:b key:t"),
+}
+INFIX = 13
 
 
 @dataclass(frozen=True)
@@ -103,9 +121,21 @@ class Refusal:
         return words if self.number in (1, 2, 12) else f"{words}, at bytes {self.start} to {self.end}"
 
 
+@dataclass(frozen=True)
+class BadImage:
+    """An image that is no tree's. `offset` is that of its first bad record, or its length where the fault is seen at its end."""
+
+    number: int
+    offset: int
+
+    def __str__(self) -> str:
+        return f"{self.number}: {BACK_NUMBERS[self.number]}, at byte {self.offset}"
+
+
 @dataclass
 class Tree:
-    """A record with its children. `parts` has what its payload says, by the names of RECORDS: numbers, flags, spans as pairs, texts."""
+    """A record with its children. `parts` has what its payload says, by the names of RECORDS: numbers, flags, spans as pairs, texts. An infix record of
+    an image from before such records had a span has none in it."""
 
     tag: int
     name: str
@@ -133,6 +163,8 @@ def _library() -> ctypes.CDLL:
     library = ctypes.CDLL(name)
     library.matigelo_read.restype = None
     library.matigelo_read.argtypes = [ctypes.c_uint64, ctypes.c_char_p, ctypes.c_size_t, ctypes.c_void_p, ctypes.c_size_t, ctypes.POINTER(ctypes.c_uint64 * 5)]
+    library.matigelo_back.restype = None
+    library.matigelo_back.argtypes = [ctypes.c_char_p, ctypes.c_size_t, ctypes.c_void_p, ctypes.c_size_t, ctypes.POINTER(ctypes.c_uint64 * 3)]
     return library
 
 
@@ -156,7 +188,7 @@ def image(source: bytes, setting: int = 0) -> Union[bytes, Refusal]:
 def read(source: bytes, setting: int = 0) -> Union[Tree, Refusal]:
     """The tree of a source under a setting, or why it has none."""
     read_image = image(source, setting)
-    return read_image if isinstance(read_image, Refusal) else tree_of(read_image)
+    return read_image if isinstance(read_image, Refusal) else back(read_image)
 
 
 def _parts(payload: bytes, layout: str) -> dict[str, Any]:
@@ -185,22 +217,36 @@ def _parts(payload: bytes, layout: str) -> dict[str, Any]:
     return parts
 
 
-def tree_of(read_image: bytes) -> Tree:
-    """An image as nested objects: each record takes its children off a stack and puts itself there."""
-    stack: list[Tree] = []
-    at = 0
-    while at < len(read_image):
-        tag = read_image[at]
-        end = at + 3 + int.from_bytes(read_image[at + 1 : at + 3], "big")
-        name, layout, children_of = RECORDS[tag]
-        parts = _parts(read_image[at + 3 : end], layout)
-        count = children_of(parts)
-        if count > len(stack):
-            raise ValueError("a record has more children than stand before it")
-        children = stack[len(stack) - count :]
-        del stack[len(stack) - count :]
-        stack.append(Tree(tag, name, parts, children))
-        at = end
-    if len(stack) != 1:
-        raise ValueError("an image has one root")
-    return stack[0]
+def links(read_image: bytes, room: int) -> tuple[tuple[int, int, int], list[int]]:
+    """The three numbers, and an array of so many numbers as it is left: for each record its offset and the first record of its own tree."""
+    array = (ctypes.c_size_t * room)()
+    ctypes.memset(array, 0xAA, ctypes.sizeof(array))
+    numbers = (ctypes.c_uint64 * 3)()
+    _LIBRARY.matigelo_back(read_image, len(read_image), array, room, ctypes.byref(numbers))
+    return tuple(numbers), list(array)
+
+
+def back(read_image: bytes) -> Union[Tree, BadImage]:
+    """An image as nested objects, or what is wrong with it."""
+    read_image = bytes(read_image)
+    (number, offset, count), found = links(read_image, len(read_image) // 3 * 2)
+    if number != 0:
+        return BadImage(number, offset)
+    trees: list[Tree] = []
+    for i in range(count):
+        children = []
+        end = i
+        while end > found[2 * i + 1]:
+            children.append(trees[end - 1])
+            end = found[2 * (end - 1) + 1]
+        trees.append(_record(read_image, found[2 * i], children[::-1]))
+    return trees[-1]
+
+
+def _record(read_image: bytes, at: int, children: list[Tree]) -> Tree:
+    tag = read_image[at]
+    end = at + 3 + int.from_bytes(read_image[at + 1 : at + 3], "big")
+    name, layout = RECORDS[tag]
+    if tag == INFIX and end == at + 4:  # from before it had a span
+        layout = "operator:b"
+    return Tree(tag, name, _parts(read_image[at + 3 : end], layout), children)

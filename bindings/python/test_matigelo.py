@@ -1,4 +1,4 @@
-"""Part of the judge's list of answers (vectors/sources.txt), the example of matigelo.py, and trees."""
+"""Parts of the judge's lists of answers (vectors/sources.txt, vectors/back.txt), the example of matigelo.py, and trees."""
 import ctypes
 import doctest
 import os
@@ -6,7 +6,7 @@ import unittest
 
 import matigelo
 
-LIST = os.path.join(os.path.dirname(os.path.abspath(__file__)), "..", "..", "vectors", "sources.txt")
+VECTORS = os.path.join(os.path.dirname(os.path.abspath(__file__)), "..", "..", "vectors")
 
 
 def unhex(word: str) -> bytes:
@@ -16,7 +16,7 @@ def unhex(word: str) -> bytes:
 class Answers(unittest.TestCase):
     def test_list(self) -> None:
         seen = trees = 0
-        with open(LIST) as lines:
+        with open(os.path.join(VECTORS, "sources.txt")) as lines:
             # every fourth line, so that this stays quick; the gate replays all of them
             for line in list(lines)[::4]:
                 words = line.split()
@@ -25,12 +25,35 @@ class Answers(unittest.TestCase):
                 image = unhex(words[8])
                 self.assertEqual(output, image + bytes(int(words[1]) - len(image)), line[:200])
                 if numbers[0] == 0:
-                    # every record has its layout, and the tree has one root
-                    self.assertEqual(sum(1 for _ in matigelo.tree_of(image).walk()) > 0, True)
+                    # it is read back, and every record has its layout
+                    self.assertGreater(sum(1 for _ in matigelo.back(image).walk()), 0)
                     trees += 1
                 seen += 1
         self.assertGreater(seen, 1_500)
         self.assertGreater(trees, 400)
+
+    def test_images(self) -> None:
+        seen = 0
+        with open(os.path.join(VECTORS, "back.txt")) as lines:
+            for line in lines:
+                words = line.split()
+                image = unhex(words[1])
+                numbers, links = matigelo.links(image, len(image) // 3 * 2 + 3)
+                self.assertEqual(list(numbers), [int(w) for w in words[2:5]], line[:200])
+                self.assertEqual(set(links[2 * numbers[2] :]), {0}, line[:200])
+                tree = matigelo.back(image)
+                if numbers[0] == 0:
+                    self.assertEqual(sum(1 for _ in tree.walk()), numbers[2], line[:200])
+                else:
+                    self.assertEqual(tree, matigelo.BadImage(*numbers[:2]), line[:200])
+                seen += 1
+        self.assertGreater(seen, 1_000)
+
+    def test_an_old_image(self) -> None:
+        old = unhex("060005000100026106000500030004620d0001000c000101")
+        self.assertEqual(matigelo.back(old).children[0].parts, {"operator": 0})
+        self.assertEqual(matigelo.links(old, 15), ((24, 0, 16), [0] * 15))
+        self.assertEqual(str(matigelo.back(b"")), "15: children are missing, or trees are left over, at byte 0")
 
     def test_null_with_length_0(self) -> None:
         numbers = (ctypes.c_uint64 * 5)()

@@ -13,7 +13,18 @@
 //! assert_eq!(refusal.place, 2..3);
 //! ```
 //!
-//! Reading recurses, at most 200 levels deep: a thread of your own needs 1 MiB of stack.
+//! An image that comes from elsewhere is read back by [`back`], which trusts no byte of it: it is one tree's, and each record's children are found, or
+//! it is refused at its first bad record.
+//!
+//! ```
+//! # let mut output = [0u8; 64];
+//! let image = matigelo::read(0, b"-a*b", &mut output).unwrap();
+//! let mut links = vec![0; matigelo::links_for(image.len())];
+//! let records = matigelo::back(image, &mut links).unwrap();
+//! assert_eq!(records.children(records.root()).map(|r| image[records.offset(r)]).collect::<Vec<_>>(), [13]);
+//! ```
+//!
+//! Reading a source recurses, at most 200 levels deep: a thread of your own needs 1 MiB of stack. Reading an image back does not.
 
 use std::error::Error;
 use std::fmt;
@@ -28,6 +39,13 @@ mod entry {
             output: *mut u8,
             output_length: usize,
             answer: *mut [u64; 5],
+        );
+        pub fn matigelo_back(
+            image: *const u8,
+            image_length: usize,
+            links: *mut usize,
+            links_length: usize,
+            answer: *mut [u64; 3],
         );
     }
 }
@@ -161,4 +179,136 @@ pub fn read_to_vec(setting: u64, source: &[u8]) -> Result<Vec<u8>, Refusal> {
     let length = read(setting, source, &mut output)?.len();
     output.truncate(length);
     Ok(output)
+}
+
+macro_rules! back_numbers {
+    ($($number:literal $name:ident $words:literal)*) => {
+        /// Why an image is refused: the header's table of what is said of an image that is read back.
+        #[derive(Clone, Copy, Debug, PartialEq, Eq, Hash)]
+        #[non_exhaustive]
+        pub enum Fault {
+            $(#[doc = $words] $name,)*
+        }
+
+        impl Fault {
+            /// The number that the reader of images hands back for it.
+            pub fn number(self) -> u64 {
+                match self {
+                    $(Fault::$name => $number,)*
+                }
+            }
+
+            fn of(number: u64) -> Option<Fault> {
+                match number {
+                    $($number => Some(Fault::$name),)*
+                    _ => None,
+                }
+            }
+
+            fn words(self) -> &'static str {
+                match self {
+                    $(Fault::$name => $words,)*
+                }
+            }
+        }
+    };
+}
+
+// a line for each number, as in crates/images/specs/Numbers.antt
+back_numbers! {
+    13 Unknown "no record has this tag"
+    14 Malformed "a length, a flag or an enum byte is wrong"
+    15 Children "children are missing, or trees are left over"
+    16 Underived "no source gives this text, name, shape, root or span"
+    24 Short "the array for the links is too short"
+}
+
+/// An image that is no tree's, or an array that is too short for its links.
+#[derive(Clone, Debug, PartialEq, Eq, Hash)]
+pub struct BadImage {
+    pub fault: Fault,
+    /// The offset of the first bad record; the image's length where the fault is seen at its end; 0 for `Fault::Short`.
+    pub offset: usize,
+    /// For `Fault::Short` how many numbers are needed, else 0.
+    pub needed: usize,
+}
+
+impl fmt::Display for BadImage {
+    fn fmt(&self, f: &mut fmt::Formatter<'_>) -> fmt::Result {
+        match self.fault {
+            Fault::Short => write!(f, "{}: {} numbers are needed", self.fault.words(), self.needed),
+            _ => write!(f, "{}, at byte {}", self.fault.words(), self.offset),
+        }
+    }
+}
+
+impl Error for BadImage {}
+
+/// How many links an image of so many bytes needs: two for every three bytes.
+pub const fn links_for(image_length: usize) -> usize {
+    image_length / 3 * 2
+}
+
+/// The records of an image in its order, the root last: where each stands, and which are its children.
+#[derive(Clone, Copy, Debug)]
+pub struct Records<'l> {
+    links: &'l [usize],
+}
+
+impl<'l> Records<'l> {
+    /// How many there are: one or more.
+    #[allow(clippy::len_without_is_empty)]
+    pub fn len(&self) -> usize {
+        self.links.len() / 2
+    }
+
+    /// The number of the root.
+    pub fn root(&self) -> usize {
+        self.len() - 1
+    }
+
+    /// Where a record's tag stands in the image.
+    pub fn offset(&self, record: usize) -> usize {
+        self.links[2 * record]
+    }
+
+    /// The numbers of a record's children, the last first.
+    pub fn children(&self, record: usize) -> impl Iterator<Item = usize> + 'l {
+        let links = self.links;
+        let first = links[2 * record + 1];
+        let mut end = record;
+        std::iter::from_fn(move || {
+            if end == first {
+                return None;
+            }
+            let child = end - 1;
+            end = links[2 * child + 1];
+            Some(child)
+        })
+    }
+}
+
+/// Reads an image back: whether it is one tree's, with its links in a lent array of at least [`links_for`] numbers. After a refusal all of the array
+/// is zero. All bytes have an answer, at any length, and nothing recurses.
+pub fn back<'l>(image: &[u8], links: &'l mut [usize]) -> Result<Records<'l>, BadImage> {
+    let mut answer = [0u64; 3];
+    // SAFETY: the pointers and lengths are those of slices that live through the call; `links` and `answer` are borrowed mutably, so they overlap
+    // neither each other nor the image, and nothing else changes the image.
+    unsafe {
+        entry::matigelo_back(
+            image.as_ptr(),
+            image.len(),
+            links.as_mut_ptr(),
+            links.len(),
+            &mut answer,
+        );
+    }
+    let [number, offset, count] = answer;
+    if number == 0 {
+        return Ok(Records { links: &links[..2 * count as usize] });
+    }
+    let fault = Fault::of(number).unwrap_or_else(|| {
+        panic!("the linked library gives number {number}, which this crate does not know")
+    });
+    Err(BadImage { fault, offset: offset as usize, needed: count as usize })
 }

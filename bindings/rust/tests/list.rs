@@ -1,5 +1,5 @@
-//! Part of the judge's list of answers (vectors/sources.txt), and what the types promise beside it.
-use matigelo::{read, read_to_vec, Why};
+//! Parts of the judge's lists of answers (vectors/sources.txt, vectors/back.txt), and what the types promise beside them.
+use matigelo::{back, links_for, read, read_to_vec, BadImage, Fault, Why};
 use std::error::Error;
 
 fn bytes(hex: &str) -> Vec<u8> {
@@ -9,14 +9,14 @@ fn bytes(hex: &str) -> Vec<u8> {
     (0..hex.len() / 2).map(|i| u8::from_str_radix(&hex[2 * i..2 * i + 2], 16).unwrap()).collect()
 }
 
-fn list() -> String {
-    let name = concat!(env!("CARGO_MANIFEST_DIR"), "/../../vectors/sources.txt");
-    std::fs::read_to_string(name).unwrap_or_else(|e| panic!("{name}: {e}"))
+fn list(name: &str) -> String {
+    let name = format!("{}/../../vectors/{name}", env!("CARGO_MANIFEST_DIR"));
+    std::fs::read_to_string(&name).unwrap_or_else(|e| panic!("{name}: {e}"))
 }
 
 #[test]
 fn answers_are_the_judges() {
-    let list = list();
+    let list = list("sources.txt");
     let mut seen = 0;
     // every third line, so that this stays quick; the gate replays all of them
     for line in list.lines().step_by(3) {
@@ -76,4 +76,49 @@ fn several_threads_at_once() {
         })
         .collect();
     assert!(readers.into_iter().all(|r| r.join().unwrap()));
+}
+
+#[test]
+fn images_are_the_judges() {
+    let list = list("back.txt");
+    let mut seen = 0;
+    for line in list.lines() {
+        let words: Vec<&str> = line.split(' ').collect();
+        let image = bytes(words[1]);
+        let numbers: Vec<u64> = words[2..5].iter().map(|w| w.parse().unwrap()).collect();
+        let mut links = vec![usize::MAX; links_for(image.len()) + 3];
+        let told = match back(&image, &mut links) {
+            Ok(records) => [0, 0, records.len() as u64],
+            Err(bad) => [bad.fault.number(), bad.offset as u64, 0],
+        };
+        assert_eq!(told[..], numbers[..], "{line}");
+        let used = 2 * told[2] as usize;
+        assert!(links[used..].iter().all(|n| *n == 0), "zeros behind the links: {line}");
+        seen += 1;
+    }
+    assert!(seen > 1_000, "only {seen} lines");
+}
+
+#[test]
+fn children_by_the_links() {
+    let image = read_to_vec(0, b"[a.b, -c]").unwrap();
+    let mut links = vec![0; links_for(image.len())];
+    let records = back(&image, &mut links).unwrap();
+    let tags =
+        |r: usize| -> Vec<u8> { records.children(r).map(|c| image[records.offset(c)]).collect() };
+    // the last child first
+    assert_eq!(tags(records.root()), [12, 20]);
+    assert_eq!(tags(records.children(records.root()).nth(1).unwrap()), [5, 6]);
+    assert!(tags(0).is_empty());
+}
+
+#[test]
+fn a_bad_image_is_an_error() {
+    let mut links = [7; 4];
+    let bad: Box<dyn Error> = Box::new(back(&[2, 0, 0, 255], &mut links).unwrap_err());
+    assert_eq!(bad.to_string(), "no record has this tag, at byte 3");
+    assert_eq!(links, [0; 4]);
+    let short = back(&[2, 0, 0], &mut [1]).unwrap_err();
+    assert_eq!(short, BadImage { fault: Fault::Short, offset: 0, needed: 2 });
+    assert_eq!(back(&[], &mut []).unwrap_err().fault, Fault::Children);
 }

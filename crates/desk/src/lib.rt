@@ -1,4 +1,5 @@
 // What the desk's programs share.
+mod backs; // an image read back, as the judge asks for it
 pub mod input; // a file taken whole
 mod nights; // a night's files, as the judge asks for them
 pub mod options; // the words that a program is started with

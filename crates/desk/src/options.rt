@@ -1,5 +1,5 @@
-// The words that a program is started with. `-s 4` or `-s4` gives a setting and `-o NAME` a file to write; behind `--` every word is a file, and
-// `-` is standard input. Words are taken one by one, so that an option holds for the files after it.
+// The words that a program is started with. `-s 4` or `-s4` gives a setting, `-o NAME` a file to write and `--image NAME` a file that is an image;
+// behind `--` every word is a file, and `-` is standard input. Words are taken one by one, so that an option holds for the files after it.
 use libc::STDERR_FILENO;
 
 // What can be wrong with a word.
@@ -11,16 +11,20 @@ const OUTPUT: u8 = 2; // no name stands behind `-o`
 
 const UNKNOWN: u8 = 3; // the option does not exist
 
+const IMAGE: u8 = 4; // no name stands behind `--image`
+
 const NO_SETTING: u64 = u64::MAX;
 
 pub struct Options {
     pub setting: u64,
     pub file: usize, // which word names the last file so far, 0 where none does
     pub more: bool, // whether another file was named before it
+    pub image: bool, // whether that file is an image
     pub output: usize, // which word names the file to write, 0 where none does
     pub output_from: usize, // where in that word its name begins
     pub fault: u8, // what is wrong
     writes: bool, // whether the program takes `-o`
+    shows: bool, // whether it takes `--image`
     awaited: u8, // the letter of the option that the next word belongs to, or 0
     plain: bool, // whether `--` has stood
 }
@@ -57,13 +61,22 @@ impl Options {
             setting: 0,
             file: 0,
             more: false,
+            image: false,
             output: 0,
             output_from: 0,
             fault: NOTHING,
             writes: writes,
+            shows: false,
             awaited: 0,
             plain: false,
         }
+    }
+
+    // Those of a program that takes images and writes no file.
+    pub fn for_images() -> Self {
+        let mut options = Self::new(false);
+        options.shows = true;
+        options
     }
 
     fn with_fault(mut self, fault: u8) -> Self {
@@ -83,7 +96,14 @@ impl Options {
     fn with_file(mut self, i: usize) -> Self {
         self.more = self.file != 0;
         self.file = i;
+        self.image = false;
         self
+    }
+
+    fn with_image(self, i: usize) -> Self {
+        let mut options = self.with_file(i);
+        options.image = true;
+        options
     }
 
     fn with_output(mut self, i: usize, from: usize) -> Self {
@@ -114,6 +134,9 @@ impl Options {
         if letter == b's' {
             return self.with_setting(word);
         }
+        if letter == b'i' {
+            return self.with_image(i);
+        }
         self.with_output(i, 0)
     }
 
@@ -135,6 +158,10 @@ impl Options {
             self.plain = true;
             return self;
         }
+        if self.shows && check::same(word, b"--image") {
+            self.awaited = b'i';
+            return self;
+        }
         self.with_letter(i, word[1], &word[2..])
     }
 
@@ -145,6 +172,9 @@ impl Options {
         }
         if self.awaited == b'o' {
             return self.with_fault(OUTPUT);
+        }
+        if self.awaited == b'i' {
+            return self.with_fault(IMAGE);
         }
         self
     }
@@ -159,6 +189,9 @@ impl Options {
             }
             OUTPUT => {
                 io::write_all(STDERR_FILENO, b": -o takes the name of a file\n");
+            }
+            IMAGE => {
+                io::write_all(STDERR_FILENO, b": --image takes the name of a file\n");
             }
             _ => {
                 io::write_all(

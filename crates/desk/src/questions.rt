@@ -1,9 +1,11 @@
 // The judge's lines. A question is taken in byte by byte, so that a line may be of any length. Its forms:
 //     SETTING OUTLEN HEXSOURCE
 //     night SETTING ENDS OUTENDS OUTLEN ANSWERLEN HEXSOURCES
+//     back HEXIMAGE
 ghost use Prim.Native.Nat.{_≤_};
 ghost use Rattle.io.specs.Counts.{Counts};
 use crate::Fields;
+use crate::backs;
 use crate::nights;
 use crate::text::put;
 use crate::text::put_field;
@@ -13,7 +15,8 @@ use crate::text::put_number;
 // The longest output that a question may ask for.
 pub const OUTPUT: usize = 1_048_576;
 
-// How many bytes of sources are kept. Of one source that is enough for the reader to see that it is too long; a night's are not cut.
+// How many bytes of sources or of an image are kept. Of one source that is enough for the reader to see that it is too long; a night's and an
+// image are not cut.
 pub const SOURCE: usize = 1_048_576;
 
 // How many numbers a list of a question may have, and room for a question's two.
@@ -24,6 +27,9 @@ pub const LISTS: usize = 8_192;
 // The most numbers that a question may ask for as a list of answers: five for each of a list.
 pub const ANSWERS: usize = 20_480;
 
+// The most numbers that can be lent as the links of an image: an image of 400,000 bytes needs as many.
+pub const LINKS: usize = 266_666;
+
 // Room for the longest answer: two digits for each byte of the output, twenty and a comma for each number, and five numbers before them.
 pub const TEXT: usize = 2_527_360;
 
@@ -31,6 +37,8 @@ pub const TEXT: usize = 2_527_360;
 const SOURCE_FORM: u64 = 0;
 
 const NIGHT_FORM: u64 = 0x6E_6967_6874;
+
+const BACK_FORM: u64 = 0x6261_636B;
 
 // The field that a question has come to.
 const WORD: u8 = 0; // in the form's word
@@ -45,7 +53,7 @@ const ROOM: u8 = 4; // in the output's length
 
 const COUNT: u8 = 5; // in the length of the list for the answers
 
-const BYTES: u8 = 6; // in the sources' hex
+const BYTES: u8 = 6; // in the hex of the sources or the image
 
 const BAD: u8 = 7; // behind what no question has
 
@@ -73,7 +81,7 @@ pub struct Question {
     ends: usize, // how many elements each list has
     parts: usize,
     high: u8, // the first digit of a pair whose second has not come
-    length: usize, // how many bytes of the sources came, as far as they are kept
+    length: usize, // how many bytes of the sources or the image came, as far as they are kept
     is_cut: bool, // whether some were not kept
 }
 
@@ -104,6 +112,12 @@ fn next(form: u64, stage: u8) -> u8 {
             PARTS => ROOM,
             ROOM => COUNT,
             COUNT => BYTES,
+            _ => BAD,
+        };
+    }
+    if form == BACK_FORM {
+        return match stage {
+            WORD => BYTES,
             _ => BAD,
         };
     }
@@ -277,7 +291,7 @@ impl Question {
         self.with_digit(b)
     }
 
-    // A digit of the sources.
+    // A digit of the sources or the image.
     fn with_hex(mut self, b: u8, source: &mut [u8]) -> Self {
         let d = digit(b);
         if b == b'-' {
@@ -441,6 +455,20 @@ fn answer_night(
     )
 }
 
+// The answer's line for an image, which is lent just as many numbers as it needs.
+fn answer_back(q: Question, image: &[u8], links: &mut [usize], text: &mut [u8]) -> usize
+    ensures { λ r. ⌜ Counts r (now (text .exit)) ⌝ }
+{
+    let needed = image.len() / 3 * 2;
+    if q.is_cut {
+        return say_bad(text);
+    }
+    if links.len() < needed {
+        return say_bad(text);
+    }
+    backs::answer_into(image, &mut links[..needed], text)
+}
+
 // The answer's line for a question; `bad` for a line that asks nothing, and for one that the buffers are too short for.
 pub fn answer(
     q: Question,
@@ -448,6 +476,7 @@ pub fn answer(
     lists: &[usize],
     output: &mut [u8],
     answers: &mut [u64],
+    links: &mut [usize],
     text: &mut [u8],
 ) -> usize
     ensures { λ r. ⌜ Counts r (now (text .exit)) ⌝ }
@@ -472,6 +501,9 @@ pub fn answer(
             answers,
             text,
         );
+    }
+    if q.form == BACK_FORM {
+        return answer_back(q, &source[..length], links, text);
     }
     answer_into(q.setting, &source[..length], &mut output[..room], text)
 }

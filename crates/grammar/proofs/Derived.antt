@@ -9,24 +9,14 @@ use Rattle.grammar.specs.Reading.{done, ended, eaten, deepened, Reads}
 use Rattle.grammar.specs.Words.{Worded}
 use Rattle.grammar.specs.Spells.{anywhere}
 use Rattle.grammar.specs.Records.{Sort, Is, Spans, Obeys}
-use Rattle.grammar.proofs.Alike.{Alike, alike-sym}
+use Rattle.grammar.specs.Derived.{Spanned, Derived}
+use Rattle.grammar.proofs.Alike.{alike-sym}
 use Rattle.grammar.proofs.ButForSpans.{loose, obeys-alike}
-use Rattle.grammar.proofs.Spanned.{Spanned, spanned-obeys, obeys-spanned}
+use Rattle.grammar.proofs.Spanned.{spanned-obeys, obeys-spanned}
 use Rattle.grammar.proofs.SpelledReadings.{expr-spells}
 use Rattle.grammar.proofs.SpelledSources.{spelled-is-read}
 use Rattle.grammar.proofs.SpelledObeys.{Expression, spelled-obeys}
 use Rattle.grammar.proofs.Exactly.{exactly}
-
--- Some derivation over worded lexemes, at some depth, gives t but for spans.
-pub record Derived (prefix s : ℕ) (t : Trees) : Type 0 where
-  pub lexemes : List Lexeme
-  pub worded : Worded lexemes
-  pub depth : ℕ
-  pub given : Trees
-  pub at : ℕ
-  pub left : List Lexeme
-  pub reads : Reads prefix s depth lexemes (done given at left)
-  pub alike : Alike t given
 
 -- WHAT IS DERIVED OBEYS THE TABLE BUT FOR SPANS, under every setting.
 pub derived-obeys : {prefix s : ℕ} {t : Trees} → Derived prefix s t → Expression t

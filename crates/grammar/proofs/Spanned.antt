@@ -12,32 +12,13 @@ use Rattle.grammar.specs.Tags.{NAME-PATTERN, SKIP, ARRAY-PATTERN, OBJECT
 use Rattle.grammar.specs.Tags.{OBJECT-ITERATION}
 use Rattle.grammar.specs.Trees.{Field, byte, number, span, text, Trees}
 use Rattle.grammar.specs.Trees as trees
-use Rattle.grammar.specs.Records.{Sort, Spans, Absent, Part, Form, Obeys}
+use Rattle.grammar.specs.Records.{Sort, Spans, Part, Form, Obeys}
+use Rattle.grammar.specs.Derived.{Forwards, Zeros, Spanned}
 use Rattle.grammar.proofs.Possible.{is-kind, not-either}
-
--- No span of a record runs backward.
-abbrev pub Forwards : List Field → Type 0
-Forwards [] = Unit
-Forwards (byte n ∷ fs) = Forwards fs
-Forwards (number n ∷ fs) = Forwards fs
-Forwards (span a e ∷ fs) = (a ≤ e) × Forwards fs
-Forwards (text w ∷ fs) = Forwards fs
-
--- "23 slice: byte (start 1, end 2, step 4), three spans, absent ones 0"; "29 .. default's span (0 if absent)".
-pub data Zeros : ℕ → List Field → Type 0 where
-  slice : {b i₁ j₁ i₂ j₂ i₃ j₃ : ℕ} → (b % 2 ≡ 0 → Absent Spans.forward i₁ j₁) → (b / 2 % 2 ≡ 0 → Absent Spans.forward i₂ j₂)
-      → (b / 4 % 2 ≡ 0 → Absent Spans.forward i₃ j₃) → Zeros SLICE (byte b ∷ span i₁ j₁ ∷ span i₂ j₂ ∷ span i₃ j₃ ∷ [])
-  pattern-field : {h d a e : ℕ} {w : List ℕ} → (d ≡ 0 → Absent Spans.forward a e) → Zeros PATTERN-FIELD (byte h ∷ byte d ∷ span a e ∷ text w ∷ [])
-  other : {tag : ℕ} {fs : List Field} → (tag ≡ SLICE → ⊥) → (tag ≡ PATTERN-FIELD → ⊥) → Zeros tag fs
-
--- So in each record.
-pub data Spanned : Trees → Type 0 where
-  none : Spanned trees.none
-  node : {tag : ℕ} {fs : List Field} {cs ts : Trees} → Forwards fs → Zeros tag fs → Spanned cs → Spanned ts → Spanned (trees.node tag fs cs ts)
 
 -- ── But for spans and spanned: the whole table ────────────────────────────────────────────────────
 
-tight : {σ : Sort} {tag : ℕ} {fs : List Field} {ws : List Sort} → Form Spans.free σ tag fs ws → Forwards fs → Zeros tag fs → Form Spans.forward σ tag fs ws
+pub tight : {σ : Sort} {tag : ℕ} {fs : List Field} {ws : List Sort} → Form Spans.free σ tag fs ws → Forwards fs → Zeros tag fs → Form Spans.forward σ tag fs ws
 tight (Form.r1 h p) f z = Form.r1 h (f .0)
 tight Form.r2 f z = Form.r2
 tight (Form.r3 h) f z = Form.r3 h
@@ -113,7 +94,7 @@ others tag h = let n = not-either (eqb tag SLICE) (eqb tag PATTERN-FIELD) h in Z
 zero : {a e : ℕ} → (a ≡ 0) × (e ≡ 0) → a ≤ e
 zero z = omega (arith, z .0, z .1)
 
-forwards : {σ : Sort} {tag : ℕ} {fs : List Field} {ws : List Sort} → Form Spans.forward σ tag fs ws → Forwards fs × Zeros tag fs
+pub forwards : {σ : Sort} {tag : ℕ} {fs : List Field} {ws : List Sort} → Form Spans.forward σ tag fs ws → Forwards fs × Zeros tag fs
 forwards (Form.r1 h p) = ((p, tt), others IDENTITY tt)
 forwards Form.r2 = (tt, others NULL tt)
 forwards (Form.r3 h) = (tt, others BOOL tt)

@@ -17,3 +17,4 @@ pub mod Source
 pub mod SameAnswers
 pub mod Spells
 pub mod Words
+pub mod Derived

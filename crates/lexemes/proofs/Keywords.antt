@@ -45,7 +45,7 @@ bytes-length = refl
 abbrev pub wordLength : ℕ → ℕ
 wordLength w = getD wordFrom (w + 1) 0 - getD wordFrom w 0
 
-text-length : (w : ℕ) → w < 18 → length (wordText w) ≡ wordLength w
+pub text-length : (w : ℕ) → w < 18 → length (wordText w) ≡ wordLength w
 unfolding wordText
 text-length w h = simp (length-take, length-drop) (omega (arith, from-up w h .0, from-up w h .1, bytes-length))
 
@@ -77,7 +77,7 @@ module _ (s : List ℕ) where
       at f zero h = subst (λ (x : ℕ). getD s x 0 ≡ b) (sym (add-zero i)) (m .0)
       at f (suc k) h = subst (λ (x : ℕ). getD s x 0 ≡ getD bs k 0) (omega arith) (f k (omega arith))
 
-  spells-same : (t u : List ℕ) (i j : ℕ) → Spells s t i j → Spells s u i j → t ≡ u
+  pub spells-same : (t u : List ℕ) (i j : ℕ) → Spells s t i j → Spells s u i j → t ≡ u
   unfolding Spells
   spells-same [] [] i j m n = refl
   spells-same [] (b ∷ u) i j m n = absurd (omega (arith, m, spells-to u (i + 1) j (n .1) .0))

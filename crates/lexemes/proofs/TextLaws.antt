@@ -9,9 +9,10 @@ use Prim.Native.Nat.{ℕ, zero, suc, _+_, _-_, _≤_, _<_}
 use native.Mathlib.Omega.{arith}
 use native.Mathlib.Numerals.{add-one}
 use native.Mathlib.Nat.{le-refl, le-trans, le-of-lt}
+use native.Mathlib.Decide.{ℕ-discrete}
 use lib.Dec.{T, leb, leb→le, ltb, ltb→lt, eqb, eqb→eq, eqb-refl}
 use lib.ListN.{length, getD, take, drop, take-append-drop}
-use lib.Seq.{drop-cons, drop-drop}
+use lib.Seq.{drop-cons, drop-drop, take-length}
 use Rattle.regex.specs.Regex.{END, Range, Class, only, but, Re, none, eps, one, _·_, _∣_, star, inClass, within, _to_, Star, stop, more, Match, Rule, _⇒_, Takes, Longest}
 use Rattle.regex.proofs.Bools.{every, Each, each, and, and-left, and-right, or-cases, implies, implied, refuted}
 use Rattle.regex.proofs.Derive.{or, or-to, along}
@@ -22,7 +23,7 @@ use Rattle.lexemes.specs.Rules.{rules, alpha, alnum, digit, groups, some
 use Rattle.lexemes.specs.Kinds.{EOF, LEXING-ERROR, ERROR-STRING-BLOCK-MISSING-INDENT, IDENT, TAILSTRICT-KW, FLOAT, STRING-DOUBLE, STRING-SINGLE, STRING-DOUBLE-VERBATIM, STRING-SINGLE-VERBATIM, STRING-BLOCK}
 use Rattle.lexemes.specs.Lexeme.{Beats, Ruled, longest, error, LexemeAt, end, rule, block, lexeme, blockKind, blockEnd}
 use Rattle.lexemes.specs.Scan.{Best}
-use Rattle.lexemes.specs.Words.{wordText, wordBytes, wordFrom, wordKind, Spells}
+use Rattle.lexemes.specs.Words.{wordText, wordBytes, wordFrom, wordKind, Spells, KeywordAt}
 use Rattle.lexemes.specs.Texts.{part, textOf, All, Identifier, keywords, Among, plain, isDigit, isE, isSign, Whole, digits, Fraction, point, Exponent, unsigned, signed, Numeral, numeral, Enclosed, EnclosedRaw}
 use Rattle.lexemes.proofs.Letters.{of-letter, sound, up, inside as byte-inside}
 use Rattle.strings.specs.Utf8.{Utf8}
@@ -37,7 +38,7 @@ use Rattle.blocks.proofs.Utf8.{text-utf8}
 use Rattle.lexemes.proofs.Laws.{lexeme-bounds}
 use Rattle.lexemes.proofs.Moves.{is, is-to, plain as plain-byte}
 use Rattle.lexemes.proofs.Spaces.{within-to}
-use Rattle.lexemes.proofs.Keywords.{others, words, rules-split, words-from, keyword-least}
+use Rattle.lexemes.proofs.Keywords.{others, words, rules-split, words-from, keyword-least, spells-same, text-length, from-up}
 
 -- The rules of one kind.
 rulesOf : ℕ → List Rule → Re
@@ -183,6 +184,43 @@ unfolding texts
 which t v zero h m = absurd m
 which t v (suc n) h (inl e) = (v, omega arith, e)
 which t v (suc n) h (inr m) = which t (suc v) n (omega arith) m
+
+listed : (w v n : ℕ) → v ≤ w → w < v + n → Among (wordText w) (texts v n)
+unfolding texts
+listed w v zero h g = absurd (omega arith)
+listed w v (suc n) h g = by (ℕ-discrete w v) (listed w (suc v) n)
+  where
+    by : Dec (w ≡ v) → (suc v ≤ w → w < suc v + n → Among (wordText w) (texts (suc v) n)) → (wordText w ≡ wordText v) ⊎ Among (wordText w) (texts (suc v) n)
+    by (yes e) later = inl (ap wordText e)
+    by (no e) later = inr (later (omega arith) (omega arith))
+
+-- What the kind of the word that a whole text is says of it.
+module _ (s : List ℕ) where
+  self-spells : Spells s s 0 (length s)
+  self-spells =
+      let e : length s - 0 ≡ length s = omega arith in
+      subst (λ (t : List ℕ). Spells s t 0 (length s)) (ap (λ (n : ℕ). take n s) e ∙ take-length s)
+      (part-spells s (length s) 0 (length s) (omega arith) (le-refl (length s)))
+
+  whole-spells : (w : ℕ) → Spells s (wordText w) 0 (length s) → s ≡ wordText w
+  whole-spells w m = spells-same s s (wordText w) 0 (length s) self-spells m
+
+  pub keyword-among : {k : ℕ} → KeywordAt s 0 (length s) k → (k ≡ IDENT → ⊥) → Among s keywords
+  keyword-among (inl x) n =
+      subst (λ (us : List (List ℕ)). Among s us) (sym keywords-texts)
+      (subst (λ (t : List ℕ). Among t (texts 0 18)) (sym (whole-spells (x .0) (x .3))) (listed (x .0) 0 18 (omega arith) (x .1)))
+  keyword-among (inr x) n = absurd (n (x .0))
+
+  pub none-among : {k : ℕ} → KeywordAt s 0 (length s) k → k ≡ IDENT → Among s keywords → ⊥
+  none-among (inl x) e m = omega (arith, x .2, e, keyword-least (x .0) (x .1))
+  none-among (inr x) e m =
+      let w = which s 0 18 (omega arith) (subst (λ (us : List (List ℕ)). Among s us) keywords-texts m) in
+      x .1 (w .0) (w .1) (subst (λ (t : List ℕ). Spells s t 0 (length s)) (w .2) self-spells)
+
+pub empty-among : Among [] keywords → ⊥
+empty-among m =
+    let w = which [] 0 18 (omega arith) (subst (λ (us : List (List ℕ)). Among [] us) keywords-texts m) in
+    omega (arith, ap length (w .2), text-length (w .0) (w .1), from-up (w .0) (w .1) .0)
 
 ident-no-keyword : (s : List ℕ) (at e : ℕ) → at ≤ e → e ≤ length s → Best s rules at IDENT e → Among (part s at e) keywords → ⊥
 ident-no-keyword s at e h g l m = no-word (l .first k (subst (λ (S : List Rule). Takes (text s) S k at e) (sym rules-split) (append-to (text s) others words k at e (inr (words-from s (w .0) at e (w .1) sp)))))

@@ -1,7 +1,7 @@
 -- What the text of a kept lexeme is like: what the layers above need to know of it.
 -- Assumes nothing.
 use mathlib.Core.Path.{_≡_}
-use mathlib.Core.Bool.{Bool, cond}
+use mathlib.Core.Bool.{Bool, true, false, cond}
 use mathlib.Core.List.{List, [], _∷_, _++_}
 use mathlib.Core.Logic.{_⊎_}
 use Prim.Native.Nat.{ℕ, _-_}
@@ -38,6 +38,11 @@ keywords =
 abbrev pub Among : List ℕ → List (List ℕ) → Type 0
 Among t [] = ⊥
 Among t (u ∷ us) = (t ≡ u) ⊎ Among t us
+
+-- A test's answer to whether a text is a keyword.
+pub data TellsKeyword (t : List ℕ) : Bool → Type 0 where
+  keyword : Among t keywords → TellsKeyword t true
+  other : (Among t keywords → ⊥) → TellsKeyword t false
 
 -- "A number keeps its literal without underscores": a literal without them, and what it then is.
 unfoldable pub plain : List ℕ → List ℕ

@@ -9,7 +9,7 @@ mod numbers; // numbers and their junk rules
 mod operators; // operators and punctuation
 mod quoted; // strings in quotes with escapes
 mod scan; // which of these it is, and blocks
-mod words; // identifiers and keywords
+pub mod words; // identifiers and keywords
 
 // What the rules match at a place: a kind, and where the match ends.
 pub struct Matched {

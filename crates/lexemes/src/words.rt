@@ -5,6 +5,7 @@ ghost use Prim.Native.Nat.{ℕ, _+_, _≤_, _<_};
 ghost use lib.ListN.{length, getD};
 ghost use Rattle.lexemes.specs.Scan.{classOf, Says};
 ghost use Rattle.lexemes.specs.Lexeme.{Ruled};
+ghost use Rattle.lexemes.specs.Texts.{TellsKeyword};
 ghost use Rattle.lexemes.specs.Words.{FirstWord, Spells, KeywordAt, wordBytes, wordFrom, wordKind, wordNext, wordText};
 use super::Matched;
 use super::bytes;
@@ -155,7 +156,20 @@ fn keyword(src: &[u8], at: usize, end: usize) -> u8
     Kind::IDENT
 }
 
-pub fn word_at(src: &[u8], at: usize) -> Matched
+// Whether a text is a keyword.
+pub fn is_keyword(text: &[u8]) -> bool
+    ensures { λ r. ⌜ TellsKeyword (now (text .entry)) r ⌝ }
+{
+    if text.len() == 0 {
+        return false;
+    }
+    if keyword(text, 0, text.len()) == Kind::IDENT {
+        return false;
+    }
+    true
+}
+
+pub(crate) fn word_at(src: &[u8], at: usize) -> Matched
     requires { ⌜ (at < length (now src)) × (classOf (getD (now src) at 0) ≡ 1) ⌝ }
     ensures { λ r. ⌜ Ruled (now (src .entry)) at (r .kind) (r .end) ⌝ }
 {

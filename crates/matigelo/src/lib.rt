@@ -3,6 +3,7 @@ ghost use lib.ListN.{length};
 ghost use Rattle.grammar.specs.Source.{Reads01};
 ghost use Rattle.reader.specs.Five.{five as five01};
 ghost use Rattle.night.specs.Night.{Night};
+ghost use Rattle.matigelo.specs.Three.{three as three02, Back02};
 
 // Reads a source under a setting into a lent output. The answer's five numbers: number, start, end, detail, length.
 #[no_mangle]
@@ -33,4 +34,16 @@ pub extern "C" fn matigelo_night(
     ensures { λ r. ⌜ Night setting (now (sources .entry)) (now (ends .entry)) (length (now (output .entry))) (now (parts .entry)) (length (now (answers .entry))) r (now (output .exit)) (now (answers .exit)) ⌝ }
 {
     night::read(setting, sources, ends, output, parts, answers)
+}
+
+// Reads an image back. For each of its records the array then holds its offset and the number of the first record of its own tree. The
+// answer's three numbers: number, offset, count.
+#[no_mangle]
+pub extern "C" fn matigelo_back(image: &[u8], links: &mut [usize], answer: &mut [u64; 3])
+    ensures { λ _. ⌜ Back02 (now (image .entry)) (length (now (links .entry))) (three02 (now (answer .exit))) (now (links .exit)) ⌝ }
+{
+    let back = images::back(image, links);
+    let f = images::numbers(back);
+    let three = [f.number, f.offset, f.count];
+    *answer = three;
 }

@@ -2,8 +2,9 @@
 mod escapes; // what is wrong with an escape
 pub mod differences; // two sources that part
 mod lines; // a record as a line
-mod places; // places as a person counts them
-pub mod records; // the image's records
+pub mod places; // places as a person counts them
+mod records; // the image's records
 pub mod refusals; // a refusal as a sentence
 mod say; // what is written
 pub mod tree; // the records in a person's order
+pub mod unread; // why an image is not shown

@@ -1,5 +1,5 @@
 // A record as a line: its name in words, then its operator, name or text, its counts, and its place.
-use crate::places::say_place;
+use crate::places::say_found;
 use crate::records::byte;
 use crate::records::number;
 use crate::records::rest;
@@ -9,10 +9,10 @@ use crate::say::say_text;
 use crate::say::say_word;
 use grammar::tags::Tag;
 
-// ` at LINE:COLUMN`, where the span begins that stands at a place of the payload.
-fn say_at(p: &[u8], at: usize, source: &[u8]) {
+// ` at` the place where the span begins that stands at a place of the payload.
+fn say_at(p: &[u8], at: usize, places: &[usize]) {
     say(b" at ");
-    say_place(source, number(p, at));
+    say_found(places, number(p, at));
 }
 
 // Words where a flag is set.
@@ -29,11 +29,11 @@ fn say_named(word: &[u8], name: &[u8]) {
     say_text(b"", name);
 }
 
-fn say_leaf(tag: u8, p: &[u8], source: &[u8]) {
+fn say_leaf(tag: u8, p: &[u8], places: &[usize]) {
     match tag {
         Tag::IDENTITY => {
             say_word(b"self super $", byte(p, 0));
-            say_at(p, 1, source);
+            say_at(p, 1, places);
         }
         Tag::NULL => say(b"null"),
         Tag::BOOL => say_word(b"false true", byte(p, 0)),
@@ -44,7 +44,7 @@ fn say_leaf(tag: u8, p: &[u8], source: &[u8]) {
         }
         _ => {
             say_named(b"variable", rest(p, 4));
-            say_at(p, 0, source);
+            say_at(p, 0, places);
         }
     }
 }
@@ -72,7 +72,7 @@ fn say_collection(tag: u8, p: &[u8]) {
     }
 }
 
-fn say_phrase(tag: u8, p: &[u8], source: &[u8]) {
+fn say_phrase(tag: u8, p: &[u8], places: &[usize]) {
     match tag {
         Tag::PREFIX => {
             say(b"prefix ");
@@ -84,7 +84,10 @@ fn say_phrase(tag: u8, p: &[u8], source: &[u8]) {
                 b"* / % + - << >> < > <= >= & | ^ == != && || ?? in",
                 byte(p, 0),
             );
-            say_at(p, 1, source);
+            // an infix record from before request 8 has no place
+            if p.len() > 1 {
+                say_at(p, 1, places);
+            }
         }
         Tag::ASSERT_EXPR => say(b"assert expression"),
         Tag::LOCAL => {
@@ -93,61 +96,61 @@ fn say_phrase(tag: u8, p: &[u8], source: &[u8]) {
         }
         Tag::IMPORT => {
             say_word(b"import importstr importbin", byte(p, 0));
-            say_at(p, 1, source);
+            say_at(p, 1, places);
         }
         _ => {
             say(b"error");
-            say_at(p, 0, source);
+            say_at(p, 0, places);
         }
     }
 }
 
-fn say_call(p: &[u8], source: &[u8]) {
+fn say_call(p: &[u8], places: &[usize]) {
     say(b"call");
     say_count(number(p, 5), b"positional argument");
     say_count(number(p, 7), b"named argument");
     say_if(byte(p, 4), b", tailstrict");
-    say_at(p, 0, source);
+    say_at(p, 0, places);
 }
 
 // One of a slice's parts, where it is there.
-fn say_part(flag: u8, word: &[u8], p: &[u8], at: usize, source: &[u8]) {
+fn say_part(flag: u8, word: &[u8], p: &[u8], at: usize, places: &[usize]) {
     if flag == 0 {
         return;
     }
     say(word);
-    say_at(p, at, source);
+    say_at(p, at, places);
 }
 
-fn say_slice(p: &[u8], source: &[u8]) {
+fn say_slice(p: &[u8], places: &[usize]) {
     let there = byte(p, 0);
     say(b"slice");
-    say_part(there % 2, b", start", p, 1, source);
-    say_part(there / 2 % 2, b", end", p, 5, source);
-    say_part(there / 4 % 2, b", step", p, 9, source);
+    say_part(there % 2, b", start", p, 1, places);
+    say_part(there / 2 % 2, b", end", p, 5, places);
+    say_part(there / 4 % 2, b", step", p, 9, places);
 }
 
-fn say_suffix(tag: u8, p: &[u8], source: &[u8]) {
+fn say_suffix(tag: u8, p: &[u8], places: &[usize]) {
     match tag {
-        Tag::CALL => say_call(p, source),
+        Tag::CALL => say_call(p, places),
         Tag::NAMED_ARGUMENT => say_named(b"named argument", p),
         Tag::INDEX_PART => {
             say(b"index");
             say_if(byte(p, 4), b", first of its run");
             say_if(byte(p, 5), b", null-safe");
-            say_at(p, 0, source);
+            say_at(p, 0, places);
         }
         Tag::FUNCTION => {
             say(b"function");
             say_count(number(p, 4), b"parameter");
-            say_at(p, 0, source);
+            say_at(p, 0, places);
         }
         Tag::IF => {
             say(b"if");
             say_if(byte(p, 4), b" with else");
-            say_at(p, 0, source);
+            say_at(p, 0, places);
         }
-        _ => say_slice(p, source),
+        _ => say_slice(p, places),
     }
 }
 
@@ -168,21 +171,21 @@ fn say_rest(what: u8, name: &[u8]) {
     }
 }
 
-fn say_pattern_field(p: &[u8], source: &[u8]) {
+fn say_pattern_field(p: &[u8], places: &[usize]) {
     say_named(b"pattern field", rest(p, 6));
     say_if(byte(p, 0), b", its own pattern");
     if byte(p, 1) != 0 {
         say(b", default");
-        say_at(p, 2, source);
+        say_at(p, 2, places);
     }
 }
 
-fn say_pattern(tag: u8, p: &[u8], source: &[u8]) {
+fn say_pattern(tag: u8, p: &[u8], places: &[usize]) {
     match tag {
         Tag::BIND => say_bind(p),
         Tag::NAME_PATTERN => {
             say_named(b"name", rest(p, 4));
-            say_at(p, 0, source);
+            say_at(p, 0, places);
         }
         Tag::SKIP => say(b"skipped"),
         Tag::ARRAY_PATTERN => {
@@ -196,7 +199,7 @@ fn say_pattern(tag: u8, p: &[u8], source: &[u8]) {
             say_count(number(p, 0), b"field");
             say_rest(byte(p, 2), rest(p, 3));
         }
-        Tag::PATTERN_FIELD => say_pattern_field(p, source),
+        Tag::PATTERN_FIELD => say_pattern_field(p, places),
         _ => {
             say(b"parameter");
             say_if(byte(p, 0), b" with default");
@@ -212,7 +215,7 @@ fn say_visibility(visibility: u8) {
     }
 }
 
-fn say_field(p: &[u8], source: &[u8]) {
+fn say_field(p: &[u8], places: &[usize]) {
     say(b"field");
     say_if(byte(p, 4), b", computed name");
     say_if(byte(p, 5), b", added with +");
@@ -221,21 +224,21 @@ fn say_field(p: &[u8], source: &[u8]) {
         say(b", a method");
         say_count(number(p, 7), b"parameter");
     }
-    say_at(p, 0, source);
+    say_at(p, 0, places);
 }
 
-fn say_member(tag: u8, p: &[u8], source: &[u8]) {
+fn say_member(tag: u8, p: &[u8], places: &[usize]) {
     match tag {
-        Tag::FIELD => say_field(p, source),
+        Tag::FIELD => say_field(p, places),
         Tag::ASSERT => {
             say(b"assert");
             say_if(byte(p, 4), b" with message");
-            say_at(p, 0, source);
+            say_at(p, 0, places);
         }
         Tag::FOR => say(b"for"),
         Tag::IF_CLAUSE => {
             say(b"if clause");
-            say_at(p, 0, source);
+            say_at(p, 0, places);
         }
         Tag::OBJECT_ITERATION => {
             say_named(b"for object, key", rest(p, 1));
@@ -245,13 +248,13 @@ fn say_member(tag: u8, p: &[u8], source: &[u8]) {
     }
 }
 
-pub fn say_record(tag: u8, p: &[u8], source: &[u8]) {
+pub fn say_record(tag: u8, p: &[u8], places: &[usize]) {
     match tag {
-        Tag::IDENTITY..=Tag::VARIABLE => say_leaf(tag, p, source),
+        Tag::IDENTITY..=Tag::VARIABLE => say_leaf(tag, p, places),
         Tag::ARRAY..=Tag::EXTENSION => say_collection(tag, p),
-        Tag::PREFIX..=Tag::ERROR => say_phrase(tag, p, source),
-        Tag::CALL..=Tag::SLICE => say_suffix(tag, p, source),
-        Tag::BIND..=Tag::PARAMETER => say_pattern(tag, p, source),
-        _ => say_member(tag, p, source),
+        Tag::PREFIX..=Tag::ERROR => say_phrase(tag, p, places),
+        Tag::CALL..=Tag::SLICE => say_suffix(tag, p, places),
+        Tag::BIND..=Tag::PARAMETER => say_pattern(tag, p, places),
+        _ => say_member(tag, p, places),
     }
 }

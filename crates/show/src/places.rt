@@ -39,10 +39,41 @@ fn place_of(source: &[u8], at: usize) -> Place {
     p
 }
 
-// `LINE:COLUMN`.
-pub fn say_place(source: &[u8], at: usize) {
-    let p = place_of(source, at);
+fn say_line_and_column(p: Place) {
     say_number(p.line);
     say(b":");
     say_number(p.column);
+}
+
+// `LINE:COLUMN`.
+pub fn say_place(source: &[u8], at: usize) {
+    say_line_and_column(place_of(source, at));
+}
+
+// The places of all bytes of a source and of its end, two numbers each, as far as there is room: found once, for a tree has many places.
+pub fn find_places(source: &[u8], places: &mut [usize]) {
+    let mut p = Place { line: 1, column: 1 };
+    let mut i = 0;
+    while i < places.len() / 2 {
+        places[i * 2] = p.line;
+        places[i * 2 + 1] = p.column;
+        if source.len() <= i {
+            return;
+        }
+        p = p.after(source[i]);
+        i += 1;
+    }
+}
+
+// `LINE:COLUMN`; `byte N` of an image that came without its source.
+pub fn say_found(places: &[usize], at: usize) {
+    if places.len() / 2 <= at {
+        say(b"byte ");
+        say_number(at);
+        return;
+    }
+    say_line_and_column(Place {
+        line: places[at * 2],
+        column: places[at * 2 + 1],
+    });
 }

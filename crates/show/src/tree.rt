@@ -1,9 +1,7 @@
-// The image's records stand children first; a person reads a tree from its root. So the records are found, each with the first of
-// the records below it, and then shown from the last on, by a stack of those that wait.
+// The image's records stand children first; a person reads a tree from its root. So the records, of which the links tell the children, are
+// shown from the last on, by a stack of those that wait.
 use crate::lines::say_record;
 use crate::records::byte;
-use crate::records::children;
-use crate::records::number;
 use crate::records::payload;
 use crate::say::say;
 use crate::say::say_number;
@@ -12,84 +10,46 @@ use crate::say::say_times;
 // How deep lines are indented; beyond that a line begins with its depth.
 const INDENTED: usize = 24;
 
-// Where each record starts, and how many there are: 0 where there are more than there is room for.
-fn find_starts(image: &[u8], starts: &mut [usize]) -> usize {
-    let mut n = 0;
-    let mut at = 0;
-    while at < image.len() {
-        if starts.len() <= n {
-            return 0;
-        }
-        starts[n] = at;
-        n += 1;
-        let size = 3 + number(image, at + 1);
-        if image.len() - at <= size {
-            return n;
-        }
-        at += size;
+// The number at a place of the links; 0 beyond their end.
+fn link(links: &[usize], at: usize) -> usize {
+    if at < links.len() {
+        return links[at];
     }
-    n
+    0
 }
 
-// From a record on back over so many trees.
-fn back_over(firsts: &[usize], from: usize, trees: usize) -> usize {
-    let mut r = from;
-    let mut left = trees;
-    while left > 0 {
-        if r == 0 {
-            return 0;
-        }
-        if firsts.len() < r {
-            return r;
-        }
-        r = firsts[r - 1];
-        left -= 1;
+// Where the record r starts, and the first record of its tree.
+fn start_of(links: &[usize], r: usize) -> usize {
+    if links.len() / 2 <= r {
+        return 0;
     }
-    r
+    link(links, r * 2)
 }
 
-// For each record the first of its tree: its last child stands before it, and before the first of that child's tree the next.
-fn find_firsts(image: &[u8], starts: &[usize], count: usize, firsts: &mut [usize]) {
-    let mut r = 0;
-    while r < count {
-        if starts.len() <= r {
-            return;
-        }
-        if firsts.len() <= r {
-            return;
-        }
-        let at = starts[r];
-        let k = children(byte(image, at), payload(image, at));
-        firsts[r] = back_over(firsts, r, k);
-        r += 1;
+fn first_of(links: &[usize], r: usize) -> usize {
+    if links.len() / 2 <= r {
+        return 0;
     }
+    link(links, r * 2 + 1)
 }
 
-// A record's children on top of the stack, the last below, and the stack's new height.
-fn push_children(
-    firsts: &[usize],
-    from: usize,
-    k: usize,
-    stack: &mut [usize],
-    top: usize,
-) -> usize {
-    let mut r = from;
-    let mut left = k;
+// A record's children on top of the stack, the last below, and the stack's new height. The last child stands before the record, and before
+// the first of that child's tree the next.
+fn push_children(links: &[usize], of: usize, stack: &mut [usize], top: usize) -> usize {
+    let first = first_of(links, of);
+    let mut r = of;
     let mut n = top;
-    while left > 0 {
-        if r == 0 {
-            return n;
-        }
-        if firsts.len() < r {
-            return n;
-        }
+    while first < r {
         if stack.len() <= n {
             return n;
         }
         stack[n] = r - 1;
         n += 1;
-        r = firsts[r - 1];
-        left -= 1;
+        let next = first_of(links, r - 1);
+        if r <= next {
+            return n;
+        }
+        r = next;
     }
     n
 }
@@ -116,40 +76,27 @@ fn depth(shown: usize, first: usize) -> usize {
 // The line of a record, and its children on the stack.
 fn show_record(
     image: &[u8],
-    source: &[u8],
-    starts: &[usize],
-    firsts: &[usize],
+    places: &[usize],
+    links: &[usize],
     stack: &mut [usize],
     top: usize,
     r: usize,
     shown: usize,
 ) -> usize {
-    if starts.len() <= r {
-        return top;
-    }
-    if firsts.len() <= r {
-        return top;
-    }
-    let at = starts[r];
-    let tag = byte(image, at);
-    let p = payload(image, at);
-    indent(depth(shown, firsts[r]));
-    say_record(tag, p, source);
+    let at = start_of(links, r);
+    indent(depth(shown, first_of(links, r)));
+    say_record(byte(image, at), payload(image, at), places);
     say(b"\n");
-    push_children(firsts, r, children(tag, p), stack, top)
+    push_children(links, r, stack, top)
 }
 
-// The records from the root on, as many as there are.
-fn show_all(
-    image: &[u8],
-    source: &[u8],
-    starts: &[usize],
-    firsts: &[usize],
-    stack: &mut [usize],
-    count: usize,
-) {
-    let mut top = push_children(firsts, count, 1, stack, 0);
-    let mut shown = 0;
+// The tree of an image that was read back: so many records, each with its links. The root is the last.
+pub fn show(image: &[u8], places: &[usize], links: &[usize], stack: &mut [usize], count: usize) {
+    if count == 0 {
+        return;
+    }
+    let mut top = show_record(image, places, links, stack, 0, count - 1, 0);
+    let mut shown = 1;
     while shown < count {
         if top == 0 {
             return;
@@ -158,23 +105,7 @@ fn show_all(
             return;
         }
         let r = stack[top - 1];
-        top = show_record(image, source, starts, firsts, stack, top - 1, r, shown);
+        top = show_record(image, places, links, stack, top - 1, r, shown);
         shown += 1;
     }
-}
-
-pub fn show(
-    image: &[u8],
-    source: &[u8],
-    starts: &mut [usize],
-    firsts: &mut [usize],
-    stack: &mut [usize],
-) {
-    let count = find_starts(image, starts);
-    if count == 0 {
-        say(b"the tree has more records than can be shown\n");
-        return;
-    }
-    find_firsts(image, starts, count, firsts);
-    show_all(image, source, starts, firsts, stack, count);
 }

@@ -1,10 +1,11 @@
 // Shows files to a person: an accepted one as an indented tree, a refused one as a sentence with its place.
-// Arguments: files, and `-s SETTING` for those after it.
+// Arguments: files, `-s SETTING` for those after it, and `--image FILE` for a file that is an image itself.
 use desk::Fields;
 use desk::input::take;
 use desk::options;
 use desk::options::Options;
 use desk::status;
+use images::Answer;
 use libc::STDIN_FILENO;
 use show::refusals::Refusal;
 
@@ -14,8 +15,13 @@ const SOURCE: usize = 65_001;
 // The largest image known, of `a` and 32,499 times `.b`, has 422,495 bytes. A larger one would be told as such, and not cut.
 const OUTPUT: usize = 524_288;
 
-// A tree has no more records than its source has lexemes. One that had would be told as such.
-const RECORDS: usize = 65_536;
+// Two numbers for every three bytes of such an image, and one for each record, which has three bytes at least.
+const LINKS: usize = 349_524;
+
+const RECORDS: usize = 174_762;
+
+// Two numbers for each place of a source.
+const PLACES: usize = 130_004;
 
 // The options that hold, and how the files so far have ended.
 struct Turn {
@@ -34,13 +40,31 @@ fn tell(name: &[u8], f: Fields, source: &[u8]) {
     show::refusals::tell(name, refusal, source);
 }
 
+// The tree of an image, with the places that its spans tell of.
+fn show_image(
+    name: &[u8],
+    image: &[u8],
+    places: &[usize],
+    links: &mut [usize],
+    stack: &mut [usize],
+) -> u8 {
+    let answer = images::back(image, links);
+    let Answer::Tree(count) = answer else {
+        let f = images::numbers(answer);
+        show::unread::tell(name, f.number, f.offset);
+        return status::REFUSED;
+    };
+    show::tree::show(image, places, links, stack, count);
+    status::GOOD
+}
+
 fn show_source(
     name: &[u8],
     setting: u64,
     source: &[u8],
     output: &mut [u8],
-    starts: &mut [usize],
-    firsts: &mut [usize],
+    places: &mut [usize],
+    links: &mut [usize],
     stack: &mut [usize],
 ) -> u8 {
     let f = desk::answer(setting, source, output);
@@ -48,19 +72,18 @@ fn show_source(
         tell(name, f, source);
         return status::REFUSED;
     }
-    let image = desk::image(f, output);
-    show::tree::show(image, source, starts, firsts, stack);
-    status::GOOD
+    show::places::find_places(source, places);
+    show_image(name, desk::image(f, output), places, links, stack)
 }
 
-fn show_from(
+fn show_source_from(
     fd: i32,
     name: &[u8],
     setting: u64,
     source: &mut [u8],
     output: &mut [u8],
-    starts: &mut [usize],
-    firsts: &mut [usize],
+    places: &mut [usize],
+    links: &mut [usize],
     stack: &mut [usize],
 ) -> u8 {
     let taken = take(fd, source);
@@ -70,28 +93,77 @@ fn show_from(
     }
     let n = taken.length;
     status::forget_errors();
-    let status = show_source(name, setting, &source[..n], output, starts, firsts, stack);
+    let status = show_source(name, setting, &source[..n], output, places, links, stack);
     status::if_written(status)
+}
+
+// An image's spans are told as bytes of the source that it came from.
+fn show_image_from(
+    fd: i32,
+    name: &[u8],
+    buffer: &mut [u8],
+    places: &[usize],
+    links: &mut [usize],
+    stack: &mut [usize],
+) -> u8 {
+    let taken = take(fd, buffer);
+    if !taken.whole {
+        os::fail(name);
+        return status::FAILED;
+    }
+    let n = taken.length;
+    status::forget_errors();
+    if n == buffer.len() {
+        show::unread::tell(name, 24, n as u64);
+        return status::if_written(status::REFUSED);
+    }
+    let status = show_image(name, &buffer[..n], &places[..0], links, stack);
+    status::if_written(status)
+}
+
+fn show_from(
+    fd: i32,
+    name: &[u8],
+    options: Options,
+    source: &mut [u8],
+    output: &mut [u8],
+    places: &mut [usize],
+    links: &mut [usize],
+    stack: &mut [usize],
+) -> u8 {
+    if options.image {
+        return show_image_from(fd, name, output, places, links, stack);
+    }
+    show_source_from(
+        fd,
+        name,
+        options.setting,
+        source,
+        output,
+        places,
+        links,
+        stack,
+    )
 }
 
 fn show_file(
     name: &[u8],
-    setting: u64,
+    options: Options,
     source: &mut [u8],
     output: &mut [u8],
-    starts: &mut [usize],
-    firsts: &mut [usize],
+    places: &mut [usize],
+    links: &mut [usize],
     stack: &mut [usize],
 ) -> u8 {
     if options::is_standard_input(name) {
         return show_from(
             STDIN_FILENO,
             b"standard input",
-            setting,
+            options,
             source,
             output,
-            starts,
-            firsts,
+            places,
+            links,
             stack,
         );
     }
@@ -100,7 +172,7 @@ fn show_file(
         os::fail(name);
         return status::FAILED;
     }
-    let status = show_from(fd, name, setting, source, output, starts, firsts, stack);
+    let status = show_from(fd, name, options, source, output, places, links, stack);
     libc::close(fd);
     status
 }
@@ -111,8 +183,8 @@ fn take_argument(
     turn: Turn,
     source: &mut [u8],
     output: &mut [u8],
-    starts: &mut [usize],
-    firsts: &mut [usize],
+    places: &mut [usize],
+    links: &mut [usize],
     stack: &mut [usize],
 ) -> Turn {
     let mut word = io::buffer();
@@ -125,15 +197,7 @@ fn take_argument(
             status: turn.status,
         };
     }
-    let shown = show_file(
-        &word[..n],
-        options.setting,
-        source,
-        output,
-        starts,
-        firsts,
-        stack,
-    );
+    let shown = show_file(&word[..n], options, source, output, places, links, stack);
     Turn {
         options: options,
         status: status::worse(turn.status, shown),
@@ -145,8 +209,8 @@ fn end_arguments(
     turn: Turn,
     source: &mut [u8],
     output: &mut [u8],
-    starts: &mut [usize],
-    firsts: &mut [usize],
+    places: &mut [usize],
+    links: &mut [usize],
     stack: &mut [usize],
 ) -> u8 {
     let before = turn.options;
@@ -158,24 +222,24 @@ fn end_arguments(
     if options.file != 0 {
         return turn.status;
     }
-    show_file(b"-", options.setting, source, output, starts, firsts, stack)
+    show_file(b"-", options, source, output, places, links, stack)
 }
 
 fn take_arguments(
     source: &mut [u8],
     output: &mut [u8],
-    starts: &mut [usize],
-    firsts: &mut [usize],
+    places: &mut [usize],
+    links: &mut [usize],
     stack: &mut [usize],
 ) -> Turn {
     let count = os::arg_count();
     let mut turn = Turn {
-        options: Options::new(false),
+        options: Options::for_images(),
         status: status::GOOD,
     };
     let mut i = status::first_argument();
     while i < count {
-        turn = take_argument(i, turn, source, output, starts, firsts, stack);
+        turn = take_argument(i, turn, source, output, places, links, stack);
         if turn.options.fault != options::NOTHING {
             return turn;
         }
@@ -188,25 +252,25 @@ fn take_arguments(
 fn run(
     source: &mut [u8; SOURCE],
     output: &mut [u8; OUTPUT],
-    starts: &mut [usize; RECORDS],
-    firsts: &mut [usize; RECORDS],
+    places: &mut [usize; PLACES],
+    links: &mut [usize; LINKS],
     stack: &mut [usize; RECORDS],
 ) -> u8 {
-    let turn = take_arguments(source, output, starts, firsts, stack);
-    end_arguments(turn, source, output, starts, firsts, stack)
+    let turn = take_arguments(source, output, places, links, stack);
+    end_arguments(turn, source, output, places, links, stack)
 }
 
 fn main() {
     let mut source = [0u8; SOURCE];
     let mut output = [0u8; OUTPUT];
-    let mut starts = [0usize; RECORDS];
-    let mut firsts = [0usize; RECORDS];
+    let mut places = [0usize; PLACES];
+    let mut links = [0usize; LINKS];
     let mut stack = [0usize; RECORDS];
     let status = run(
         &mut source,
         &mut output,
-        &mut starts,
-        &mut firsts,
+        &mut places,
+        &mut links,
         &mut stack,
     );
     status::end(status);

@@ -1,5 +1,7 @@
 //! Answers as document 01 asks, from the Rust.
 
+pub mod back;
+pub mod doubles;
 pub mod exhaustive;
 pub mod generate;
 pub mod hex;
@@ -8,3 +10,4 @@ pub mod night;
 pub mod reader;
 pub mod readings;
 pub mod stack;
+pub mod written;

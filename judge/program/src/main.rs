@@ -7,10 +7,11 @@ use std::{
     process::ExitCode,
 };
 
-use judge::{exhaustive, generate, layers, night, reader, stack};
+use judge::{back, exhaustive, generate, layers, night, reader, stack};
 
-const USAGE: &str = "usage: judge [strings|blocks|lexemes|sources|night]
-       judge generate strings|blocks|lexemes|sources|night SEED COUNT
+const USAGE: &str = "usage: judge [strings|blocks|lexemes|sources|night|back]
+       judge generate strings|blocks|lexemes|sources|night|numbers|back SEED COUNT
+       judge generate long
        judge exhaustive";
 
 fn main() -> ExitCode {
@@ -32,11 +33,13 @@ fn run(arguments: &[String]) -> Result<(), String> {
         ["blocks"] => answer_lines(layers::blocks),
         ["lexemes"] => answer_lines(layers::lexemes),
         ["night"] => answer_lines(night::line),
+        ["back"] => answer_lines(back::line),
         ["generate", what, seed, count] => {
             let seed = seed.parse().map_err(|e| format!("seed: {e}"))?;
             let count = count.parse().map_err(|e| format!("count: {e}"))?;
             print_lines(generate::lines(what, seed, count)?)
         }
+        ["generate", "long"] => print_lines(generate::long()),
         ["exhaustive"] => print_lines(exhaustive::lines()),
         _ => Err(USAGE.to_owned()),
     }

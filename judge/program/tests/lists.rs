@@ -3,7 +3,7 @@
 
 use std::{collections::BTreeSet, fs};
 
-use judge::{generate, layers, night, reader, stack};
+use judge::{back, generate, layers, night, reader, stack};
 
 /// Compares a list whose input is the first `words` words of each line.
 fn check(name: &str, words: usize, answer: fn(&str) -> Result<String, String>) {
@@ -40,6 +40,11 @@ fn sources() {
 #[test]
 fn nights() {
     stack::large(|| check("night", 7, night::line));
+}
+
+#[test]
+fn images() {
+    check("back", 2, back::line);
 }
 
 /// Only closers and the like are ever wanted, number 10 never comes, and neither do some kinds.

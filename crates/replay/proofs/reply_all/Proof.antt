@@ -8,10 +8,10 @@ use Rattle.replay.proofs.reply_all.Statement.{statement}
 use Rattle.replay.proofs.reply_all.Tie as tie
 
 abbrev Inv-loop : tie.InvT-loop
-Inv-loop bytes source₀ lists₀ output₀ answers₀ text₀ q₀ i₀ source lists output answers text q i = (length source ≡ length source₀) × (length lists ≡ length lists₀) × (length output ≡ length output₀) × (length answers ≡ length answers₀) × (length text ≡ length text₀)
+Inv-loop bytes source₀ lists₀ output₀ answers₀ links₀ text₀ q₀ i₀ source lists output answers links text q i = (length source ≡ length source₀) × (length lists ≡ length lists₀) × (length output ≡ length output₀) × (length answers ≡ length answers₀) × (length links ≡ length links₀) × (length text ≡ length text₀)
 
 abbrev μ-loop : tie.MeasureT-loop
-μ-loop bytes source₀ lists₀ output₀ answers₀ text₀ q₀ i₀ source lists output answers text q i = length bytes - i
+μ-loop bytes source₀ lists₀ output₀ answers₀ links₀ text₀ q₀ i₀ source lists output answers links text q i = length bytes - i
 
 loop-holds : tie.Need-loop-holds Inv-loop μ-loop
 loop-holds c = search needs
@@ -58,6 +58,9 @@ same-length-4 c = search needs
 same-length-5 : tie.Need-same-length-5 Inv-loop μ-loop
 same-length-5 c = search needs
 
+same-length-6 : tie.Need-same-length-6 Inv-loop μ-loop
+same-length-6 c = search needs
+
 returns : tie.Need-returns Inv-loop μ-loop
 returns c = search needs
 
@@ -82,4 +85,5 @@ reply-all-spec =
     same-length-3
     same-length-4
     same-length-5
+    same-length-6
     returns)

@@ -7,10 +7,10 @@ use Rattle.replay.proofs.serve.Statement.{statement}
 use Rattle.replay.proofs.serve.Tie as tie
 
 abbrev Inv-loop : tie.InvT-loop
-Inv-loop source₀ lists₀ output₀ answers₀ text₀ q₀ turns₀ source lists output answers text q turns = (length source ≡ length source₀) × (length lists ≡ length lists₀) × (length output ≡ length output₀) × (length answers ≡ length answers₀) × (length text ≡ length text₀)
+Inv-loop fd source₀ lists₀ output₀ answers₀ links₀ text₀ q₀ turns₀ source lists output answers links text q turns = (length source ≡ length source₀) × (length lists ≡ length lists₀) × (length output ≡ length output₀) × (length answers ≡ length answers₀) × (length links ≡ length links₀) × (length text ≡ length text₀)
 
 abbrev μ-loop : tie.MeasureT-loop
-μ-loop source₀ lists₀ output₀ answers₀ text₀ q₀ turns₀ source lists output answers text q turns = turns
+μ-loop fd source₀ lists₀ output₀ answers₀ links₀ text₀ q₀ turns₀ source lists output answers links text q turns = turns
 
 new-requires : tie.Need-new-requires Inv-loop μ-loop
 new-requires c κs = search needs
@@ -36,6 +36,9 @@ same-length-4 c = search needs
 same-length-5 : tie.Need-same-length-5 Inv-loop μ-loop
 same-length-5 c = search needs
 
+same-length-6 : tie.Need-same-length-6 Inv-loop μ-loop
+same-length-6 c = search needs
+
 returns : tie.Need-returns Inv-loop μ-loop
 returns c = search needs
 
@@ -48,9 +51,6 @@ loop-less c = search needs
 loop-again : tie.Need-loop-again Inv-loop μ-loop
 loop-again c = search needs
 
-same-length-6 : tie.Need-same-length-6 Inv-loop μ-loop
-same-length-6 c = search needs
-
 same-length-7 : tie.Need-same-length-7 Inv-loop μ-loop
 same-length-7 c = search needs
 
@@ -62,6 +62,12 @@ same-length-9 c = search needs
 
 same-length-10 : tie.Need-same-length-10 Inv-loop μ-loop
 same-length-10 c = search needs
+
+same-length-11 : tie.Need-same-length-11 Inv-loop μ-loop
+same-length-11 c = search needs
+
+same-length-12 : tie.Need-same-length-12 Inv-loop μ-loop
+same-length-12 c = search needs
 
 returns-2 : tie.Need-returns-2 Inv-loop μ-loop
 returns-2 c = search needs
@@ -80,13 +86,15 @@ serve-spec =
     same-length-3
     same-length-4
     same-length-5
+    same-length-6
     returns
     sub-turns
     loop-less
     loop-again
-    same-length-6
     same-length-7
     same-length-8
     same-length-9
     same-length-10
+    same-length-11
+    same-length-12
     returns-2)

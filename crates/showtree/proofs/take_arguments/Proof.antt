@@ -8,16 +8,16 @@ use Rattle.showtree.proofs.take_arguments.Statement.{statement}
 use Rattle.showtree.proofs.take_arguments.Tie as tie
 
 abbrev Inv-loop : tie.InvT-loop
-Inv-loop source₀ output₀ starts₀ firsts₀ stack₀ count turn₀ i₀ source output starts firsts stack turn i = (length source ≡ length source₀) × (length output ≡ length output₀) × (length starts ≡ length starts₀) × (length firsts ≡ length firsts₀) × (length stack ≡ length stack₀)
+Inv-loop source₀ output₀ places₀ links₀ stack₀ count turn₀ i₀ source output places links stack turn i = (length source ≡ length source₀) × (length output ≡ length output₀) × (length places ≡ length places₀) × (length links ≡ length links₀) × (length stack ≡ length stack₀)
 
 abbrev μ-loop : tie.MeasureT-loop
-μ-loop source₀ output₀ starts₀ firsts₀ stack₀ count turn₀ i₀ source output starts firsts stack turn i = count - i
+μ-loop source₀ output₀ places₀ links₀ stack₀ count turn₀ i₀ source output places links stack turn i = count - i
 
 arg-count-requires : tie.Need-arg-count-requires Inv-loop μ-loop
 arg-count-requires c κs = search needs
 
-new-requires : tie.Need-new-requires Inv-loop μ-loop
-new-requires c κs = search needs
+for-images-requires : tie.Need-for-images-requires Inv-loop μ-loop
+for-images-requires c κs = search needs
 
 first-argument-requires : tie.Need-first-argument-requires Inv-loop μ-loop
 first-argument-requires c κs = search needs
@@ -80,7 +80,7 @@ take-arguments-spec =
     Inv-loop
     μ-loop
     arg-count-requires
-    new-requires
+    for-images-requires
     first-argument-requires
     loop-holds
     take-argument-requires

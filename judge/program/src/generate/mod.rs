@@ -4,6 +4,7 @@
 mod blocks;
 mod damage;
 mod grammar;
+mod images;
 mod lexemes;
 mod nights;
 mod numbers;
@@ -32,6 +33,13 @@ impl Lines {
     }
 }
 
+/// Lines for the reader of images that are too long to keep.
+pub fn long() -> Vec<String> {
+    let mut lines = Lines::default();
+    images::long(&mut lines);
+    lines.list
+}
+
 /// Adds the fixed lines of a layer; makes one random line for it.
 type Layer = (fn(&mut Lines), fn(&mut Rng) -> String);
 
@@ -44,6 +52,7 @@ pub fn lines(what: &str, seed: u64, count: usize) -> Result<Vec<String>, String>
         "sources" => (sources::fixed, sources::random),
         "night" => (nights::fixed, nights::random),
         "numbers" => (numbers::fixed, numbers::random),
+        "back" => (images::fixed, images::random),
         _ => return Err(format!("nothing to generate for {what}")),
     };
     let mut lines = Lines::default();

@@ -7,10 +7,13 @@ use Rattle.show.proofs.tree.push_children.Statement.{statement}
 use Rattle.show.proofs.tree.push_children.Tie as tie
 
 abbrev Inv-loop : tie.InvT-loop
-Inv-loop firsts from k stack₀ top r₀ left₀ n₀ stack r left n = length stack ≡ length stack₀
+Inv-loop links of stack₀ top first r₀ n₀ stack r n = length stack ≡ length stack₀
 
 abbrev μ-loop : tie.MeasureT-loop
-μ-loop firsts from k stack₀ top r₀ left₀ n₀ stack r left n = left
+μ-loop links of stack₀ top first r₀ n₀ stack r n = r
+
+first-of-requires : tie.Need-first-of-requires Inv-loop μ-loop
+first-of-requires c κs = search needs
 
 loop-holds : tie.Need-loop-holds Inv-loop μ-loop
 loop-holds c = search needs
@@ -20,18 +23,6 @@ same-length c = search needs
 
 returns : tie.Need-returns Inv-loop μ-loop
 returns c = search needs
-
-same-length-2 : tie.Need-same-length-2 Inv-loop μ-loop
-same-length-2 c = search needs
-
-returns-2 : tie.Need-returns-2 Inv-loop μ-loop
-returns-2 c = search needs
-
-same-length-3 : tie.Need-same-length-3 Inv-loop μ-loop
-same-length-3 c = search needs
-
-returns-3 : tie.Need-returns-3 Inv-loop μ-loop
-returns-3 c = search needs
 
 sub-stack : tie.Need-sub-stack Inv-loop μ-loop
 sub-stack c = search needs
@@ -45,17 +36,17 @@ slice-write-stack c = search needs
 add-n : tie.Need-add-n Inv-loop μ-loop
 add-n c = search needs
 
-sub-r : tie.Need-sub-r Inv-loop μ-loop
-sub-r c = search needs
+sub-first-of : tie.Need-sub-first-of Inv-loop μ-loop
+sub-first-of c = search needs
 
-mul-r : tie.Need-mul-r Inv-loop μ-loop
-mul-r c = search needs
+first-of-requires-2 : tie.Need-first-of-requires-2 Inv-loop μ-loop
+first-of-requires-2 c κs = search needs
 
-shared-slice-read-r : tie.Need-shared-slice-read-r Inv-loop μ-loop
-shared-slice-read-r c = search needs
+same-length-2 : tie.Need-same-length-2 Inv-loop μ-loop
+same-length-2 c = search needs
 
-sub-left : tie.Need-sub-left Inv-loop μ-loop
-sub-left c = search needs
+returns-2 : tie.Need-returns-2 Inv-loop μ-loop
+returns-2 c = search needs
 
 loop-less : tie.Need-loop-less Inv-loop μ-loop
 loop-less c = search needs
@@ -63,11 +54,11 @@ loop-less c = search needs
 loop-again : tie.Need-loop-again Inv-loop μ-loop
 loop-again c = search needs
 
-same-length-4 : tie.Need-same-length-4 Inv-loop μ-loop
-same-length-4 c = search needs
+same-length-3 : tie.Need-same-length-3 Inv-loop μ-loop
+same-length-3 c = search needs
 
-returns-4 : tie.Need-returns-4 Inv-loop μ-loop
-returns-4 c = search needs
+returns-3 : tie.Need-returns-3 Inv-loop μ-loop
+returns-3 c = search needs
 
 pub push-children-spec : {M : Type 1} → statement M
 push-children-spec =
@@ -75,22 +66,19 @@ push-children-spec =
     (tie.spec
     Inv-loop
     μ-loop
+    first-of-requires
     loop-holds
     same-length
     returns
-    same-length-2
-    returns-2
-    same-length-3
-    returns-3
     sub-stack
     mul-stack
     slice-write-stack
     add-n
-    sub-r
-    mul-r
-    shared-slice-read-r
-    sub-left
+    sub-first-of
+    first-of-requires-2
+    same-length-2
+    returns-2
     loop-less
     loop-again
-    same-length-4
-    returns-4)
+    same-length-3
+    returns-3)

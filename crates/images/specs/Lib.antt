@@ -1,0 +1,5 @@
+pub mod Images
+pub mod Children
+pub mod Unmarked
+pub mod Numbers
+pub mod Inner
