@@ -17,7 +17,7 @@ use Rattle.grammar.specs.Reading.{has, published, choose, view, producti
 use Rattle.grammar.specs.Answer.{refused, tree, verdict, Judged, prefix-power, document-01}
 use Rattle.grammar.specs.Source.{Bad, Kept}
 use Rattle.grammar.proofs.Execute.{run, after}
-use Rattle.grammar.proofs.Marked.{low, word-at, no-string, no-strings, words, plainly}
+use Rattle.grammar.proofs.Computed.{low, word-at, no-string, no-strings, words, plainly}
 
 -- `-1e999`: 17 at 1,6, the sign left out, without a detail
 pub large-refused : Judged Bad Kept document-01 0 (ascii "-1e999") (refused LARGE 1 6 0)

@@ -20,6 +20,7 @@ pub mod Obeys
 pub mod Room
 pub mod Source
 pub mod Ranges
+pub mod Computed
 pub mod Marked
 pub mod Beyond
 pub mod Shut

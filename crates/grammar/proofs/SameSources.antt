@@ -22,7 +22,7 @@ use Rattle.lexemes.specs.Kinds.{EOF, FLOAT, IDENT, STRING-BLOCK}
 use Rattle.lexemes.specs.Lexeme.{LexemeAt, lexeme}
 use Rattle.lexemes.specs.Texts.{part, plain}
 use Rattle.lexemes.specs.Kept as lexemes
-use Rattle.lexemes.specs.Same.{SameLexeme, SameList, SameLexemes, Place, here, behind, later}
+use Rattle.lexemes.specs.Same.{SameLexeme, SameList, SameLexemes, Place, here, at-end, later}
 use Rattle.lexemes.specs.Same as same
 use Rattle.lexemes.proofs.KeptLaws.{Rest, kept-step, kept-once}
 use Rattle.lexemes.proofs.TextLaws.{double-verbatim-has-quotes, single-verbatim-has-quotes, block-is-good, block-decodes}
@@ -134,7 +134,7 @@ same-told {s} {t} {p} {q} x y (same.more z r) (Told.more {a = a} {e = e} {w = w}
 
 -- What a reading has come to is the place behind all lexemes but those that are left.
 placed : {s : List ℕ} {p r : ℕ} {xs : List Range} {us vs : List Lexeme} → Told s xs us → Came p us r vs → (i : ℕ) × (i + length vs ≡ length us) × Place p xs i (start-of r vs) (stop-of r vs)
-placed Told.none at-once = (0, refl, behind)
+placed Told.none at-once = (0, refl, at-end)
 placed (Told.more m o) at-once = (0, omega arith, here)
 placed (Told.more m o) (after c) = let z = placed o c in (suc (z .0), omega (arith, z .1), later (z .2))
 

@@ -21,7 +21,7 @@ use Rattle.grammar.specs.Answer.{document-01, Answer, Verdict, verdict, 
 use Rattle.grammar.specs.Source.{Bad, Kept, Reads01}
 use Rattle.grammar.proofs.Execute.{run, after}
 use Rattle.grammar.proofs.Source.{reads-once}
-use Rattle.grammar.proofs.Marked.{plainly, low, words, word-at, no-string, no-strings}
+use Rattle.grammar.proofs.Computed.{plainly, low, words, word-at, no-string, no-strings}
 
 -- A reader: of a setting, a source and the output as it is lent, the answer and the output as it is left.
 abbrev pub Reader : Type 0

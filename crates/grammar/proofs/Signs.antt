@@ -39,7 +39,7 @@ use Rattle.grammar.proofs.OperatorLaws.{signed as sign-body, prefix-cho
 use Rattle.grammar.proofs.OperatorForms.{Signs, signs-sound, Found, here, there, found}
 use Rattle.grammar.proofs.Execute.{run, after}
 use Rattle.grammar.proofs.Source.{reads-once}
-use Rattle.grammar.proofs.Marked.{low, words, word-at, no-string, no-strings, plainly}
+use Rattle.grammar.proofs.Computed.{low, words, word-at, no-string, no-strings, plainly}
 
 -- ── What a sign stands before ─────────────────────────────────────────────────────────────────────
 

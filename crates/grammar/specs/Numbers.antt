@@ -47,21 +47,22 @@ ROOM = 12
 abbrev pub LARGE : ℕ
 LARGE = 17
 
--- "Order: 1, 2, 3, 4; then 5 to 11 as the reading meets them; 12 last." What comes last is for a tree, and has a length.
+-- R30. "Order: 1, 2, 3, 4; then 5 to 11 as the reading meets them; 12 last." What comes last is for a tree, and has a length.
 pub data Order : Type 0 where
   first met last : Order
 
--- The place: none; start = end; a lexeme, or with none left the end twice.
+-- R31 to R35. The place: none; start = end; a lexeme, or with none left the end twice.
 pub data Place : Type 0 where
   nowhere point lexeme : Place
 
--- The detail: none; a kind; one of those that 01 numbers; where in the source a byte stands.
+-- R35 to R39. The detail: none; a kind; one of those that 01 numbers; where in the source a byte stands.
 pub data Detail : Type 0 where
   nothing kind which byte : Detail
 
 pub data Row : Type 0 where
   row : ℕ → Order → Place → Detail → Row
 
+-- R30 to R39, R45.
 unfoldable pub table : List Row
 table =
     row TREE last nowhere nothing ∷
@@ -122,7 +123,7 @@ unfolding placed detailed sized
 fits-in n a e x l [] = false
 fits-in n a e x l (row m o p d ∷ rows) = cond (eqb n m) (placed p a e && (detailed d x && sized o l)) (fits-in n a e x l rows)
 
--- Number, start, end, detail and length, as the table has them: "Unused fields are 0."
+-- R2. Number, start, end, detail and length, as the table has them: "Unused fields are 0."
 unfoldable pub fits : ℕ → ℕ → ℕ → ℕ → ℕ → Bool
 unfolding fits-in table
 fits n a e x l = fits-in n a e x l table

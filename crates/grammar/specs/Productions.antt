@@ -74,7 +74,7 @@ pub data Body : Type 0 where
   fail : ℕ → ℕ → Body  -- 01's number and detail
   _▸_ : Step → Body → Body
 
--- The cargo features that a setting is a sum of.
+-- R25. The cargo features that a setting is a sum of.
 pub data Switch : Type 0 where
   always exp-destruct exp-object-iteration exp-null-coaelse : Switch
 
@@ -137,7 +137,7 @@ is-string v =
 abbrev pub word : View → List ℕ
 word v = said (v .says)
 
--- Spans: the next lexeme's; one from `a` to the last lexeme read; an absent one.
+-- R43. Spans: the next lexeme's; one from `a` to the last lexeme read; an absent one.
 abbrev pub here : View → Field
 here v = span (v .start) (v .stop)
 
@@ -149,14 +149,14 @@ absent = span 0 0
 
 -- ── Operators ─────────────────────────────────────────────────────────────────────────────────────
 
--- unary_op: a prefix operator's kind and its byte, its place in `UnaryOpType`.
+-- R19, R44. unary_op: a prefix operator's kind and its byte, its place in `UnaryOpType`.
 pub data Sign : Type 0 where
   sign : ℕ → ℕ → Sign
 
 unfoldable pub signs : List Sign
 signs = sign PLUS 0 ∷ sign MINUS 1 ∷ sign BIT-NOT 2 ∷ sign NOT 3 ∷ []
 
--- binary_op, infix_binding_power: a binary operator's kind, switch, left and right power, and its byte, its place in `BinaryOpType`.
+-- R18, R28, R44. binary_op, infix_binding_power: a binary operator's kind, switch, left and right power, and its byte, its place in `BinaryOpType`.
 pub data Operator : Type 0 where
   op : ℕ → Switch → ℕ → ℕ → ℕ → Operator
 
@@ -184,14 +184,14 @@ operators =
     op MODULO always 20 21 2 ∷
     []
 
--- expr_bp at each prefix operator: its operand has at least the prefix power.
+-- R19. expr_bp at each prefix operator: its operand has at least the prefix power.
 unfoldable pub sign-rows : ℕ → ℕ → View → List Sign → Table
 sign-rows prefix least v [] = otherwise (sub suffixed ▸ goto (infix-tail least))
 sign-rows prefix least v (sign k o ∷ rest) =
     v at k ⟹ eat k ▸ deep (expr prefix) ▸ close PREFIX (byte o ∷ []) ▸ goto (infix-tail least)
     ∣ sign-rows prefix least v rest
 
--- expr_bp's loop at each binary operator: the record has the operator's own span.
+-- R18, R43. expr_bp's loop at each binary operator: the record has the operator's own span.
 unfoldable pub operator-rows : ℕ → View → List Operator → Table
 operator-rows least v [] = otherwise end
 operator-rows least v (op k g left right o ∷ rest) =
@@ -200,7 +200,7 @@ operator-rows least v (op k g left right o ∷ rest) =
 
 -- ── Comprehensions ────────────────────────────────────────────────────────────────────────────────
 
--- objinside, the loop over a comprehension's members: the fault so far, "members judged in order". 4 no field yet, 0 one field,
+-- R23, R38. objinside, the loop over a comprehension's members: the fault so far, "members judged in order". 4 no field yet, 0 one field,
 -- 2 a second field, 3 an assert: the first of 2 and 3 stays. The numbers are number 8's details.
 unfoldable pub with-field : ℕ → ℕ
 with-field c = elim (eqb c 4) [ true ↦ 0 | false ↦ elim (eqb c 0) [ true ↦ 2 | false ↦ c ] ]
@@ -218,17 +218,17 @@ with-member c k = elim (eqb k LOCAL-KW) [ true ↦ c | false ↦ elim (eqb k ASS
 abbrev pub expression : Step
 expression = deep (expr 0)
 
--- parse: the whole source
+-- R16. parse: the whole source
 abbrev pub source : Body
 source = expression ▸ eat EOF ▸ end
 
 unfoldable pub rule : ℕ → Phrase → View → Table
 unfolding signs operators sign-rows operator-rows
--- expr_bp, unary_op, prefix_binding_power
+-- R19. expr_bp, unary_op, prefix_binding_power
 rule prefix (expr least) v = sign-rows prefix least v signs
--- expr_bp's loop, binary_op, infix_binding_power
+-- R18. expr_bp's loop, binary_op, infix_binding_power
 rule prefix (infix-tail least) v = operator-rows least v operators
--- expr_suffix
+-- R20, R28, R40. expr_suffix
 rule prefix suffixed v = otherwise (sub basic ▸ goto (suffix 1))
 rule prefix (suffix f) v =
     v at QUESTION-MARK with exp-null-coaelse ⟹ eat QUESTION-MARK ▸ eat DOT ▸ goto (null-safe f)
@@ -264,7 +264,7 @@ rule prefix (slice-step b i j k l) v =
     ∣ otherwise (expression ▸ goto (slice-stepped b i j k l (v .start)))
 rule prefix (slice-stepped b i j k l a) v =
     otherwise (eat R-BRACK ▸ close SLICE (byte (b + 4) ∷ span i j ∷ span k l ∷ since a v ∷ []) ▸ goto (suffix 1))
--- args, with expr_suffix's `(`, `)` and `tailstrict`. The trees: what is called, then the arguments
+-- R21, R22, R38. args, with expr_suffix's `(`, `)` and `tailstrict`. The trees: what is called, then the arguments
 rule prefix (arguments a u n) v =
     v at R-PAREN ⟹ goto (call-close a u n)
     ∣ otherwise (goto (argument a u n))
@@ -280,7 +280,7 @@ rule prefix (call-close a u n) v = otherwise (eat R-PAREN ▸ goto (call-end a u
 rule prefix (call-end a u n) v =
     v at TAILSTRICT-KW ⟹ eat TAILSTRICT-KW ▸ close CALL (since a v ∷ byte 1 ∷ number u ∷ number n ∷ []) ▸ goto (suffix 1)
     ∣ otherwise (close CALL (since a v ∷ byte 0 ∷ number u ∷ number n ∷ []) ▸ goto (suffix 1))
--- expr_basic; parse_number, with 02, Item 2: a number beyond a double says nothing
+-- R16, R24, R37, R42, R45. expr_basic; parse_number, with 02, Item 2: a number beyond a double says nothing
 rule prefix basic v =
     v at SELF-KW ⟹ leaf IDENTITY (byte 0 ∷ here v ∷ []) ▸ end
     ∣ v at SUPER-KW ⟹ leaf IDENTITY (byte 1 ∷ here v ∷ []) ▸ end
@@ -304,11 +304,11 @@ rule prefix basic v =
     ∣ v at IMPORT-KW ⟹ eat IMPORT-KW ▸ expression ▸ close IMPORT (byte 0 ∷ here v ∷ []) ▸ end
     ∣ v at IDENT ⟹ leaf VARIABLE (here v ∷ text (word v) ∷ []) ▸ end
     ∣ otherwise (fail EXPRESSION 0)
--- parse_string_content; 02, Item 3: the detail is where the bad escape's backslash stands in the source, one byte of it being the quote
+-- R39, R42. parse_string_content; 02, Item 3: the detail is where the bad escape's backslash stands in the source, one byte of it being the quote
 rule prefix string v =
     when good (v .says) ⟹ leaf STRING (text (word v) ∷ []) ▸ end
     ∣ otherwise (fail ESCAPE (v .start + 1 + spoiled-at (v .says)))
--- expr_basic's arrays, after `[`
+-- R21. expr_basic's arrays, after `[`
 rule prefix array v =
     v at R-BRACK ⟹ eat R-BRACK ▸ close ARRAY (number 0 ∷ []) ▸ end
     ∣ otherwise (expression ▸ goto array-first)
@@ -329,7 +329,7 @@ rule prefix member v =
     v at LOCAL-KW ⟹ eat LOCAL-KW ▸ sub bind ▸ end
     ∣ v at ASSERT-KW ⟹ sub assertion ▸ end
     ∣ otherwise (sub field ▸ end)
--- objinside: between the braces
+-- R21, R23. objinside: between the braces
 rule prefix inside v =
     v at R-BRACE ⟹ close MEMBERS (number 0 ∷ []) ▸ end
     ∣ otherwise (sub member ▸ goto (members (with-member 4 (v .kind))))
@@ -341,12 +341,12 @@ rule prefix (next-member c) v =
     v at R-BRACE ⟹ close MEMBERS (number (v .count) ∷ []) ▸ end
     ∣ v at FOR-KW ⟹ goto (comprehension c)
     ∣ otherwise (sub member ▸ goto (members (with-member c (v .kind))))
--- "Comprehension faults (8) come after its last clause"
+-- R23, R38. "Comprehension faults (8) come after its last clause"
 rule prefix (comprehension c) v =
     when eqb c 0 ⟹ sub clauses ▸ goto (comprehension-end (v .count))
     ∣ otherwise (sub clauses ▸ fail MISPLACED c)
 rule prefix (comprehension-end m) v = otherwise (close OBJECT-COMP (number m ∷ number (v .count - m) ∷ []) ▸ end)
--- field, field_name, visibility
+-- R37, R43. field, field_name, visibility
 rule prefix field v =
     v at IDENT ⟹ leaf STRING (text (word v) ∷ []) ▸ goto (field-named 0 (v .start))
     ∣ when is-string v ⟹ sub string ▸ goto (field-named 0 (v .start))
@@ -360,7 +360,7 @@ rule prefix (field-value i j c p m) v =
     when three-are v COLON COLON COLON ⟹ eat COLON ▸ eat COLON ▸ eat COLON ▸ expression ▸ close FIELD (span i j ∷ byte c ∷ byte p ∷ byte m ∷ number (v .count - 1) ∷ byte 2 ∷ []) ▸ end
     ∣ when two-are v COLON COLON ⟹ eat COLON ▸ eat COLON ▸ expression ▸ close FIELD (span i j ∷ byte c ∷ byte p ∷ byte m ∷ number (v .count - 1) ∷ byte 1 ∷ []) ▸ end
     ∣ otherwise (eat COLON ▸ expression ▸ close FIELD (span i j ∷ byte c ∷ byte p ∷ byte m ∷ number (v .count - 1) ∷ byte 0 ∷ []) ▸ end)
--- params, up to `)`
+-- R21. params, up to `)`
 rule prefix params v =
     v at R-PAREN ⟹ end
     ∣ otherwise (sub param ▸ goto params-end)
@@ -371,7 +371,7 @@ rule prefix param v = otherwise (sub pattern ▸ goto param-default)
 rule prefix param-default v =
     v at ASSIGN ⟹ eat ASSIGN ▸ expression ▸ close PARAMETER (byte 1 ∷ []) ▸ end
     ∣ otherwise (close PARAMETER (byte 0 ∷ []) ▸ end)
--- expr_basic's local, after `local`; bind
+-- R21. expr_basic's local, after `local`; bind
 rule prefix binds v =
     v at SEMI ⟹ goto local-body
     ∣ otherwise (sub bind ▸ goto binds-end)
@@ -403,7 +403,7 @@ rule prefix more-clauses v =
     v at FOR-KW ⟹ eat FOR-KW ▸ sub for-clause ▸ goto more-clauses
     ∣ v at IF-KW ⟹ eat IF-KW ▸ sub (if-clause (v .start) (v .stop)) ▸ goto more-clauses
     ∣ otherwise end
--- "With 2, `for [k]:` is object iteration only when the four lexemes `[`, `IDENT`, `]`, `:` stand there."
+-- R27. "With 2, `for [k]:` is object iteration only when the four lexemes `[`, `IDENT`, `]`, `:` stand there."
 rule prefix for-clause v =
     when four-are v L-BRACK IDENT R-BRACK COLON with exp-object-iteration ⟹ deep header ▸ goto (iteration (said (v .says₁)))
     ∣ otherwise (sub pattern ▸ eat IN-KW ▸ expression ▸ close FOR [] ▸ end)
@@ -414,7 +414,7 @@ rule prefix (iteration key) v =
     ∣ otherwise (eat COLON ▸ goto (iteration-value 0 key))
 rule prefix (iteration-value visibility key) v = otherwise (sub pattern ▸ eat IN-KW ▸ expression ▸ close OBJECT-ITERATION (byte visibility ∷ text key ∷ []) ▸ end)
 rule prefix (if-clause i j) v = otherwise (expression ▸ close IF-CLAUSE (span i j ∷ []) ▸ end)
--- destruct
+-- R26, R37. destruct
 rule prefix pattern v =
     v at IDENT ⟹ leaf NAME-PATTERN (here v ∷ text (word v) ∷ []) ▸ end
     ∣ v at QUESTION-MARK with exp-destruct ⟹ leaf SKIP [] ▸ end
@@ -422,7 +422,7 @@ rule prefix pattern v =
     ∣ v at L-BRACE with exp-destruct ⟹ deep object-pattern ▸ end
     ∣ when true with exp-destruct ⟹ fail ABSENT 2
     ∣ otherwise (fail WANTED IDENT)
--- destruct_array, destruct_rest
+-- R21, R26. destruct_array, destruct_rest
 rule prefix array-pattern v = otherwise (eat L-BRACK ▸ goto pattern-starts)
 rule prefix pattern-starts v =
     v at R-BRACK ⟹ goto (array-pattern-close (v .count) 0 [])
@@ -444,7 +444,7 @@ rule prefix (pattern-ends-end n r w) v =
     v at COMMA ⟹ eat COMMA ▸ goto (pattern-ends n r w)
     ∣ otherwise (goto (array-pattern-close n r w))
 rule prefix (array-pattern-close n r w) v = otherwise (eat R-BRACK ▸ close ARRAY-PATTERN (number n ∷ byte r ∷ number (v .count - n) ∷ text w ∷ []) ▸ end)
--- destruct_object, destruct_rest
+-- R26. destruct_object, destruct_rest
 rule prefix object-pattern v = otherwise (eat L-BRACE ▸ goto pattern-fields)
 rule prefix pattern-fields v =
     v at R-BRACE ⟹ goto (object-pattern-close 0 [])

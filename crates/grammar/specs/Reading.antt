@@ -10,18 +10,18 @@ use Rattle.grammar.specs.Trees.{Field, Trees, none, tree, _⊕_, count}
 use Rattle.grammar.specs.Lexemes.{Lexeme, rest, kind-of, word-of, start-of, stop-of}
 use Rattle.grammar.specs.Productions.{Phrase, Body, end, goto, fail, _▸_, Step, eat, leaf, sub, deep, close, Switch, always, exp-destruct, exp-object-iteration, exp-null-coaelse, Row, row, Table, otherwise, _∣_, View, rule, source}
 
--- "Setting is a sum of 1 (`exp-destruct`), 2 (`exp-object-iteration`), 4 (`exp-null-coaelse`)."
+-- R25. "Setting is a sum of 1 (`exp-destruct`), 2 (`exp-object-iteration`), 4 (`exp-null-coaelse`)."
 unfoldable pub has : ℕ → Switch → Bool
 has s always = true
 has s exp-destruct = eqb (s % 2) 1
 has s exp-object-iteration = eqb (s / 2 % 2) 1
 has s exp-null-coaelse = eqb (s / 4 % 2) 1
 
--- 02, Item 9: with 8, signs bind as the Jsonnet specification has it. No production has this switch: it decides on the prefix power.
+-- R19, R25. 02, Item 9: with 8, signs bind as the Jsonnet specification has it. No production has this switch: it decides on the prefix power.
 unfoldable pub published : ℕ → Bool
 published s = eqb (s / 8 % 2) 1
 
--- The first production whose test holds and whose switch is on.
+-- R16, R17. The first production whose test holds and whose switch is on.
 unfoldable pub choose : ℕ → Table → Body
 choose s (otherwise b) = b
 choose s (row g t b ∣ rest) = elim (t && has s g) [ true ↦ b | false ↦ choose s rest ]
@@ -46,12 +46,12 @@ view p xs n =
 unfoldable pub production : ℕ → ℕ → Phrase → ℕ → List Lexeme → ℕ → Body
 production prefix s q p xs n = choose s (rule prefix q (view p xs n))
 
--- A phrase's outcome: done, with its trees; or broken, with 01's number and detail. Both with where the last lexeme ended and what is left.
+-- R16, R31. A phrase's outcome: done, with its trees; or broken, with 01's number and detail. Both with where the last lexeme ended and what is left.
 pub data Outcome : Type 0 where
   done : Trees → ℕ → List Lexeme → Outcome
   broken : ℕ → ℕ → List Lexeme → ℕ → Outcome  -- number, place, what is left, detail
 
--- `Reading prefix s body ts d p xs o`: with the trees ts, d levels of depth left, the last lexeme ended at p and xs left, a phrase that
+-- R16. `Reading prefix s body ts d p xs o`: with the trees ts, d levels of depth left, the last lexeme ended at p and xs left, a phrase that
 -- goes on with body has the outcome o.
 pub data Reading (prefix s : ℕ) : Body → Trees → ℕ → ℕ → List Lexeme → Outcome → Type 0 where
   ended : {ts : Trees} {d p : ℕ} {xs : List Lexeme} → Reading prefix s end ts d p xs (done ts p xs)
@@ -70,15 +70,15 @@ pub data Reading (prefix s : ℕ) : Body → Trees → ℕ → ℕ → List Lexe
       → Reading prefix s (sub q ▸ b) ts d p xs o
   unsubbed : {q : Phrase} {b : Body} {ts : Trees} {d p n r x : ℕ} {xs ys : List Lexeme}
       → Reading prefix s (production prefix s q p xs 0) none d p xs (broken n r ys x) → Reading prefix s (sub q ▸ b) ts d p xs (broken n r ys x)
-  -- "Each entry to `expr_bp` counts one while it lasts; so does each array or object pattern, and the header `[k]:`"
+  -- R5. "Each entry to `expr_bp` counts one while it lasts; so does each array or object pattern, and the header `[k]:`"
   deepened : {q : Phrase} {b : Body} {ts us : Trees} {d p r : ℕ} {xs ys : List Lexeme} {o : Outcome}
       → Reading prefix s (production prefix s q p xs 0) none d p xs (done us r ys) → Reading prefix s b (ts ⊕ us) (suc d) r ys o
       → Reading prefix s (deep q ▸ b) ts (suc d) p xs o
   undeepened : {q : Phrase} {b : Body} {ts : Trees} {d p n r x : ℕ} {xs ys : List Lexeme}
       → Reading prefix s (production prefix s q p xs 0) none d p xs (broken n r ys x) → Reading prefix s (deep q ▸ b) ts (suc d) p xs (broken n r ys x)
-  -- "Depth is tested before the lexeme is."
+  -- R5, R39. "Depth is tested before the lexeme is."
   too-deep : {q : Phrase} {b : Body} {ts : Trees} {p : ℕ} {xs : List Lexeme} → Reading prefix s (deep q ▸ b) ts zero p xs (broken DEPTH p xs 0)
 
--- The whole source, of which xs are the kept lexemes.
+-- R16. The whole source, of which xs are the kept lexemes.
 abbrev pub Reads : ℕ → ℕ → ℕ → List Lexeme → Outcome → Type 0
 Reads prefix s depth xs o = Reading prefix s source none depth 0 xs o

@@ -12,7 +12,7 @@ use strings::put;
 
 // ── Fields ──────────────────────────────────────────────────────────────────────────────────────
 
-pub fn put_byte(out: &mut [u8], w: usize, b: u8) -> usize
+fn put_byte(out: &mut [u8], w: usize, b: u8) -> usize
     requires { ⌜ w < 2 ^ 62 ⌝ }
     ensures { λ r. ⌜ Wrote (now (out .entry)) w (b ∷ []) r (now (out .exit)) ⌝ }
 {
@@ -21,7 +21,7 @@ pub fn put_byte(out: &mut [u8], w: usize, b: u8) -> usize
 }
 
 // "Numbers are two bytes, high first".
-pub fn put_number(out: &mut [u8], w: usize, n: usize) -> usize
+fn put_number(out: &mut [u8], w: usize, n: usize) -> usize
     requires { ⌜ (w < 2 ^ 61) × (n < 2 ^ 16) ⌝ }
     ensures { λ r. ⌜ Wrote (now (out .entry)) w (two n) r (now (out .exit)) ⌝ }
 {
@@ -29,7 +29,7 @@ pub fn put_number(out: &mut [u8], w: usize, n: usize) -> usize
     put_byte(out, w1, (n % 256) as u8)
 }
 
-pub fn put_span(out: &mut [u8], w: usize, a: usize, e: usize) -> usize
+fn put_span(out: &mut [u8], w: usize, a: usize, e: usize) -> usize
     requires { ⌜ (w < 2 ^ 60) × (a < 2 ^ 16) × (e < 2 ^ 16) ⌝ }
     ensures { λ r. ⌜ Wrote (now (out .entry)) w (two a ++ two e) r (now (out .exit)) ⌝ }
 {
@@ -38,7 +38,7 @@ pub fn put_span(out: &mut [u8], w: usize, a: usize, e: usize) -> usize
 }
 
 // As many bytes of `s` as there is room for.
-pub fn put_text(out: &mut [u8], w: usize, s: &[u8]) -> usize
+fn put_text(out: &mut [u8], w: usize, s: &[u8]) -> usize
     requires { ⌜ (w < 2 ^ 60) × (length (now s) < 2 ^ 16) ⌝ }
     ensures { λ r. ⌜ Wrote (now (out .entry)) w (now (s .entry)) r (now (out .exit)) ⌝ }
 {

@@ -140,12 +140,13 @@ module _ (s : List ℕ) (i : ℕ) where
       below (inl h) = omega arith
       below (inr h) = h .1
 
--- A character of the source is one letter, and the next place is past it.
-pub one-character : (s : List ℕ) (i : ℕ) {r : List ℕ} → Character (drop i s) r → (c : ℕ) × (letter s i ≡ letterOf c) × (drop (next s i) s ≡ r)
+-- A character of the source encodes a code point; the letter is that code point's, and the next place is past the character.
+pub one-character : (s : List ℕ) (i : ℕ) {r : List ℕ} → Character (drop i s) r → (c : ℕ) × (drop i s ≡ utf8 c ++ r) × (letter s i ≡ letterOf c) × (drop (next s i) s ≡ r)
 one-character s i {r} d =
     let x = character-scalar d in
     let t = stands s i (x .code) r (x .scalar) (x .bytes) in (
       x .code,
+      x .bytes,
       t .letter-is,
       ap (λ (n : ℕ). drop n s) (t .next-is) ∙ sym (drop-drop (length (utf8 (x .code))) i s) ∙ ap (drop (length (utf8 (x .code)))) (x .bytes) ∙ drop-at (utf8 (x .code)) r (length (utf8 (x .code))) refl,
     )

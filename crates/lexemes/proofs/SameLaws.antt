@@ -13,7 +13,7 @@ use Rattle.lexemes.specs.Kinds.{EOF}
 use Rattle.lexemes.specs.Lexeme.{lexeme}
 use Rattle.lexemes.specs.Kept.{dropped, bad, keep, Kept, firstBad, FirstBad}
 use Rattle.lexemes.specs.Texts.{part}
-use Rattle.lexemes.specs.Same.{SameLexeme, SameList, none, more, SameLexemes, Place, here, behind, later}
+use Rattle.lexemes.specs.Same.{SameLexeme, SameList, none, more, SameLexemes, Place, here, at-end, later}
 use Rattle.lexemes.proofs.KeptLaws.{dropped-good, lexemes-once}
 
 -- ── The first bad lexeme ──────────────────────────────────────────────────────────────────────────

@@ -7,14 +7,14 @@ use Prim.Native.Nat.{ℕ, _+_, _-_, _*_, _^_, _≤_}
 use Prim.Native.Char.{code}
 use lib.Dec.{T, eqb, leb}
 
--- "at least 2^1024 - 2^970"
+-- R45. "at least 2^1024 - 2^970"
 unfoldable pub LIMIT : ℕ
 LIMIT = 2 ^ 1024 - 2 ^ 970
 
 abbrev pub isDigit : ℕ → Bool
 isDigit b = leb (code "0") b && leb b (code "9")
 
--- The whole number that the digits among these bytes spell, written behind n. Whatever is no digit, as `_` and `.`, is passed over.
+-- R45. The whole number that the digits among these bytes spell, written behind n. Whatever is no digit, as `_` and `.`, is passed over.
 unfoldable pub spelled : ℕ → List ℕ → ℕ
 spelled n [] = n
 spelled n (b ∷ bs) = spelled (cond (isDigit b) (n * 10 + (b - code "0")) n) bs
@@ -37,7 +37,7 @@ unfoldable pub has : ℕ → List ℕ → Bool
 has x [] = false
 has x (b ∷ bs) = eqb b x || has x bs
 
--- What stands before a literal's `e`, and what stands behind it.
+-- R9. What stands before a literal's `e`, and what stands behind it.
 abbrev pub mantissa : List ℕ → List ℕ
 mantissa t = before (code "e") (code "E") t
 
@@ -48,17 +48,17 @@ exponent t = behind (code "e") (code "E") t
 abbrev pub AtLeast : ℕ → ℕ → ℕ → Type 0
 AtLeast n up down = LIMIT * 10 ^ down ≤ n * 10 ^ up
 
--- How many digits stand behind the point.
+-- R9. How many digits stand behind the point.
 abbrev pub places : List ℕ → ℕ
 places m = digits (behind (code ".") (code ".") m)
 
--- The mantissa is a whole number, but for its places; the exponent says how often it is to be taken ten times or, if there is a minus, divided by
+-- R45. The mantissa is a whole number, but for its places; the exponent says how often it is to be taken ten times or, if there is a minus, divided by
 -- ten.
 pub data Large (m x : List ℕ) : Type 0 where
   multiplied : has (code "-") x ≡ false → AtLeast (spelled 0 m) (spelled 0 x) (places m) → Large m x
   divided : has (code "-") x ≡ true → AtLeast (spelled 0 m) 0 (places m + spelled 0 x) → Large m x
 
--- "a literal whose exact decimal value is at least 2^1024 - 2^970". This is said of all byte strings, and means something of literals.
+-- R45. "a literal whose exact decimal value is at least 2^1024 - 2^970". This is said of all byte strings, and means something of literals.
 pub record TooLarge (t : List ℕ) : Type 0 where
   pub value : Large (mantissa t) (exponent t)
 

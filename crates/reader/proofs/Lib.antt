@@ -1,4 +1,5 @@
 pub mod ReaderLaws
 pub mod AnswerLaws
 pub mod Demands
+pub mod Marked
 pub mod Comments

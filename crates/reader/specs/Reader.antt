@@ -26,15 +26,15 @@ use Rattle.reader.specs.declared.Reading.the-variants.{Tree, Setting, Lo
 
 -- ── Document 01's numbers for each case of the answer ─────────────────────────────────────────────
 
--- A refusal: number, place, detail.
+-- R2. A refusal: number, place, detail.
 abbrev pub refusal : ℕ → ℕ → ℕ → ℕ → Answer
 refusal n a e x = record { number = n; start = a; stop = e; detail = x; size = 0 }
 
--- A tree: number and length.
+-- R2. A tree: number and length.
 abbrev pub tree-of : ℕ → ℕ → Answer
 tree-of n size = record { number = n; start = 0; stop = 0; detail = 0; size = size }
 
--- 01's number, start, end, detail and length.
+-- R2, R32 to R39, R45. 01's number, start, end, detail and length.
 unfoldable pub numbers : Reading → Answer
 numbers (Tree n) = tree-of TREE n
 numbers Setting = refusal SETTING 0 0 0
@@ -56,7 +56,7 @@ answered f = record { number = f .number; start = f .start; stop = f .end; detai
 
 -- ── The reader's contract ─────────────────────────────────────────────────────────────────────────
 
--- Of a setting, a source and an output as it came in: the answer and the output as it is left.
+-- R1. Of a setting, a source and an output as it came in: the answer and the output as it is left.
 abbrev pub Reads : ℕ → List ℕ → List ℕ → Reading → List ℕ → Type 0
 Reads setting source out reading out′ = Reads01 setting source (length out) (numbers reading) out′
 
@@ -66,7 +66,7 @@ Reads setting source out reading out′ = Reads01 setting source (length out) (n
 unfoldable pub written : Reading → ℕ
 written r = cond (eqb (numbers r .number) TREE) (numbers r .size) 0
 
--- None of 1 to 3 is to be answered.
+-- R32 to R34. None of 1 to 3 is to be answered.
 pub record Admitted (setting : ℕ) (source : List ℕ) : Type 0 where
   pub known : valid-setting setting ≡ true
   pub short : length source ≤ 65000

@@ -16,7 +16,7 @@ pub data Tells (P : Type 0) : Bool → Type 0 where
   not-so : (P → ⊥) → Tells P false
 
 module _ (s t : List ℕ) where
-  -- Kept lexemes of s and of t, the last before them having ended at p and q. With none left, EOF stands there (`first`), which is no lexeme's kind: so
+  -- R46. Kept lexemes of s and of t, the last before them having ended at p and q. With none left, EOF stands there (`first`), which is no lexeme's kind: so
   -- a source with lexemes left parts from one without.
   pub data Parts : ℕ → ℕ → List Lexeme → List Lexeme → Parting → Type 0 where
     both-over : {p q : ℕ} → Parts p q [] [] Same

@@ -9,7 +9,7 @@ use native.Mathlib.Decide.{decLt}
 use lib.ListN.{length, getD, drop}
 use lib.Seq.{drop-cons}
 use Rattle.strings.specs.Utf8.{In, row-00-7F, CharacterLength, begins, ValidTo}
-use Rattle.strings.specs.Valid.{NoneAbove, ValidSoFar, Reaches, reached, stopped}
+use Rattle.strings.specs.Valid.{NoneAbove, ValidSoFar, ValidUpTo, reached, stopped}
 use Rattle.strings.proofs.Reading.{past-end}
 use Rattle.strings.proofs.CharacterLaws.{CharacterAt, character-at, valid-on, valid-stop}
 
@@ -42,14 +42,14 @@ ascii-more {s} {at} (suc n) h a b v =
     rw place (valid-more (ascii-more n (omega arith) before b v) last)
 
 -- What is reached at the end, or stopped before it, is all that is valid.
-pub valid-end : {s : List ℕ} {at : ℕ} → Reaches s (length s) at → ValidTo s at
+pub valid-end : {s : List ℕ} {at : ℕ} → ValidUpTo s (length s) at → ValidTo s at
 valid-end (reached h v) = valid-stop _ _ (v .within) (v .valid) (past-end _ _ h)
 valid-end (stopped h v) = v
 
-pub stopped-short : {s : List ℕ} {to at : ℕ} → Reaches s to at → at < to → ValidTo s at
+pub stopped-short : {s : List ℕ} {to at : ℕ} → ValidUpTo s to at → at < to → ValidTo s at
 stopped-short (reached h v) l = absurd (omega arith)
 stopped-short (stopped h v) l = v
 
-pub valid-there : {s : List ℕ} {to at : ℕ} → Reaches s to at → to ≤ at → ValidSoFar s at
+pub valid-there : {s : List ℕ} {to at : ℕ} → ValidUpTo s to at → to ≤ at → ValidSoFar s at
 valid-there (reached h v) l = v
 valid-there (stopped h v) l = absurd (omega arith)

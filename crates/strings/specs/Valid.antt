@@ -15,6 +15,6 @@ pub record ValidSoFar (s : List ℕ) (at : ℕ) : Type 0 where
   pub valid : Utf8 (take at s)
 
 -- Characters reach a place, if not further; or they stop before it, and nothing longer is UTF-8.
-pub data Reaches (s : List ℕ) (to at : ℕ) : Type 0 where
-  reached : to ≤ at → ValidSoFar s at → Reaches s to at
-  stopped : at < to → ValidTo s at → Reaches s to at
+pub data ValidUpTo (s : List ℕ) (to at : ℕ) : Type 0 where
+  reached : to ≤ at → ValidSoFar s at → ValidUpTo s to at
+  stopped : at < to → ValidTo s at → ValidUpTo s to at

@@ -6,7 +6,7 @@ ghost use lib.ListN.{length, drop};
 ghost use lib.Seq.{sets};
 ghost use Rattle.strings.specs.Utf8.{CharacterLength, ValidTo, utf8, Encodes};
 ghost use Rattle.strings.specs.Rows.{Row};
-ghost use Rattle.strings.specs.Valid.{NoneAbove, ValidSoFar, Reaches};
+ghost use Rattle.strings.specs.Valid.{NoneAbove, ValidSoFar, ValidUpTo};
 ghost use Rattle.strings.specs.Decoding.{Decoding, Missing};
 use crate::Decoded;
 use crate::clear;
@@ -137,7 +137,7 @@ fn lead_of(a: u8) -> Lead
 }
 
 // How many bytes the character has that begins at a place; 0 where none does.
-pub fn char_len(s: &[u8], at: usize) -> usize
+fn char_len(s: &[u8], at: usize) -> usize
     ensures { λ r. ⌜ CharacterLength (drop at (now (s .entry))) r ⌝ }
 {
     if s.len() <= at {
@@ -190,7 +190,7 @@ fn largest(s: &[u8], from: usize) -> u8
 // Character after character, from a place up to which all is valid, until another place is reached or no character begins.
 fn valid_from(s: &[u8], from: usize, to: usize) -> usize
     requires { ⌜ ValidSoFar (now s) from × (to ≤ length (now s)) ⌝ }
-    ensures { λ r. ⌜ Reaches (now (s .entry)) to r ⌝ }
+    ensures { λ r. ⌜ ValidUpTo (now (s .entry)) to r ⌝ }
 {
     let mut i = from;
     while i < to {
