@@ -6,27 +6,15 @@ use borrow.Author.Needs.{needs}
 use Rattle.grammar.proofs.writers.put_bind.Statement.{statement}
 use Rattle.grammar.proofs.writers.put_bind.Tie as tie
 
-put-head-requires : tie.Need-put-head-requires
-put-head-requires c κs = search needs
-
-put-byte-requires : tie.Need-put-byte-requires
-put-byte-requires c κs = search needs
-
-put-number-requires : tie.Need-put-number-requires
-put-number-requires c κs = search needs
-
-same-length : tie.Need-same-length
-same-length c = search needs
-
 returns : tie.Need-returns
 unfolding entry payload
 returns c =
-    let head = c .before .before .before .before .before .before .before .before .before .before .put-head .ensures in
-    let byte = c .before .before .before .before .before .before .put-byte .ensures in
-    let number = c .before .before .put-number .ensures in
-    and-then (and-then head byte) number
+    let number = c .before .before in
+    let byte = number .before .before .before .before in
+    let head = byte .before .before .before .before in
+    and-then (and-then (head .put-head .ensures) (byte .put-byte .ensures)) (number .put-number .ensures)
 
 pub put-bind-spec : {M : Type 1} → statement M
 put-bind-spec =
     tie.close
-    (tie.spec put-head-requires put-byte-requires put-number-requires same-length returns)
+    (tie.spec (λ c κs. search needs) (λ c κs. search needs) (λ c κs. search needs) (λ c. search needs) returns)

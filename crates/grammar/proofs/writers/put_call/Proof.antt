@@ -6,42 +6,24 @@ use borrow.Author.Needs.{needs}
 use Rattle.grammar.proofs.writers.put_call.Statement.{statement}
 use Rattle.grammar.proofs.writers.put_call.Tie as tie
 
-put-head-requires : tie.Need-put-head-requires
-put-head-requires c κs = search needs
-
-put-span-requires : tie.Need-put-span-requires
-put-span-requires c κs = search needs
-
-put-byte-requires : tie.Need-put-byte-requires
-put-byte-requires c κs = search needs
-
-put-number-requires : tie.Need-put-number-requires
-put-number-requires c κs = search needs
-
-put-number-requires-2 : tie.Need-put-number-requires-2
-put-number-requires-2 c κs = search needs
-
-same-length : tie.Need-same-length
-same-length c = search needs
-
 returns : tie.Need-returns
 unfolding entry payload
 returns c =
-    let head = c .before .before .before .before .before .before .before .before .before .before .before .before .before .before .before .before .before .before .put-head .ensures in
-    let span = c .before .before .before .before .before .before .before .before .before .before .before .before .before .before .put-span .ensures in
-    let byte = c .before .before .before .before .before .before .before .before .before .before .put-byte .ensures in
-    let number = c .before .before .before .before .before .before .put-number .ensures in
-    let number2 = c .before .before .put-number2 .ensures in
-    and-then (and-then (and-then (and-then head span) byte) number) number2
+    let number2 = c .before .before in
+    let number = number2 .before .before .before .before in
+    let byte = number .before .before .before .before in
+    let span = byte .before .before .before .before in
+    let head = span .before .before .before .before in
+    and-then (and-then (and-then (and-then (head .put-head .ensures) (span .put-span .ensures)) (byte .put-byte .ensures)) (number .put-number .ensures)) (number2 .put-number2 .ensures)
 
 pub put-call-spec : {M : Type 1} → statement M
 put-call-spec =
     tie.close
     (tie.spec
-    put-head-requires
-    put-span-requires
-    put-byte-requires
-    put-number-requires
-    put-number-requires-2
-    same-length
+    (λ c κs. search needs)
+    (λ c κs. search needs)
+    (λ c κs. search needs)
+    (λ c κs. search needs)
+    (λ c κs. search needs)
+    (λ c. search needs)
     returns)

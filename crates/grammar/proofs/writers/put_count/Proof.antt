@@ -6,21 +6,12 @@ use borrow.Author.Needs.{needs}
 use Rattle.grammar.proofs.writers.put_count.Statement.{statement}
 use Rattle.grammar.proofs.writers.put_count.Tie as tie
 
-put-head-requires : tie.Need-put-head-requires
-put-head-requires c κs = search needs
-
-put-number-requires : tie.Need-put-number-requires
-put-number-requires c κs = search needs
-
-same-length : tie.Need-same-length
-same-length c = search needs
-
 returns : tie.Need-returns
 unfolding entry payload
 returns c =
-    let head = c .before .before .before .before .before .before .put-head .ensures in
-    let number = c .before .before .put-number .ensures in
-    and-then head number
+    let number = c .before .before in
+    let head = number .before .before .before .before in
+    and-then (head .put-head .ensures) (number .put-number .ensures)
 
 pub put-count-spec : {M : Type 1} → statement M
-put-count-spec = tie.close (tie.spec put-head-requires put-number-requires same-length returns)
+put-count-spec = tie.close (tie.spec (λ c κs. search needs) (λ c κs. search needs) (λ c. search needs) returns)

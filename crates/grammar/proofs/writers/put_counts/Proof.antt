@@ -6,27 +6,15 @@ use borrow.Author.Needs.{needs}
 use Rattle.grammar.proofs.writers.put_counts.Statement.{statement}
 use Rattle.grammar.proofs.writers.put_counts.Tie as tie
 
-put-head-requires : tie.Need-put-head-requires
-put-head-requires c κs = search needs
-
-put-number-requires : tie.Need-put-number-requires
-put-number-requires c κs = search needs
-
-put-number-requires-2 : tie.Need-put-number-requires-2
-put-number-requires-2 c κs = search needs
-
-same-length : tie.Need-same-length
-same-length c = search needs
-
 returns : tie.Need-returns
 unfolding entry payload
 returns c =
-    let head = c .before .before .before .before .before .before .before .before .before .before .put-head .ensures in
-    let number = c .before .before .before .before .before .before .put-number .ensures in
-    let number2 = c .before .before .put-number2 .ensures in
-    and-then (and-then head number) number2
+    let number2 = c .before .before in
+    let number = number2 .before .before .before .before in
+    let head = number .before .before .before .before in
+    and-then (and-then (head .put-head .ensures) (number .put-number .ensures)) (number2 .put-number2 .ensures)
 
 pub put-counts-spec : {M : Type 1} → statement M
 put-counts-spec =
     tie.close
-    (tie.spec put-head-requires put-number-requires put-number-requires-2 same-length returns)
+    (tie.spec (λ c κs. search needs) (λ c κs. search needs) (λ c κs. search needs) (λ c. search needs) returns)

@@ -6,21 +6,12 @@ use borrow.Author.Needs.{needs}
 use Rattle.grammar.proofs.writers.put_flag.Statement.{statement}
 use Rattle.grammar.proofs.writers.put_flag.Tie as tie
 
-put-head-requires : tie.Need-put-head-requires
-put-head-requires c κs = search needs
-
-put-byte-requires : tie.Need-put-byte-requires
-put-byte-requires c κs = search needs
-
-same-length : tie.Need-same-length
-same-length c = search needs
-
 returns : tie.Need-returns
 unfolding entry payload
 returns c =
-    let head = c .before .before .before .before .before .before .put-head .ensures in
-    let byte = c .before .before .put-byte .ensures in
-    and-then head byte
+    let byte = c .before .before in
+    let head = byte .before .before .before .before in
+    and-then (head .put-head .ensures) (byte .put-byte .ensures)
 
 pub put-flag-spec : {M : Type 1} → statement M
-put-flag-spec = tie.close (tie.spec put-head-requires put-byte-requires same-length returns)
+put-flag-spec = tie.close (tie.spec (λ c κs. search needs) (λ c κs. search needs) (λ c. search needs) returns)

@@ -6,27 +6,15 @@ use borrow.Author.Needs.{needs}
 use Rattle.grammar.proofs.writers.put_function.Statement.{statement}
 use Rattle.grammar.proofs.writers.put_function.Tie as tie
 
-put-head-requires : tie.Need-put-head-requires
-put-head-requires c κs = search needs
-
-put-span-requires : tie.Need-put-span-requires
-put-span-requires c κs = search needs
-
-put-number-requires : tie.Need-put-number-requires
-put-number-requires c κs = search needs
-
-same-length : tie.Need-same-length
-same-length c = search needs
-
 returns : tie.Need-returns
 unfolding entry payload
 returns c =
-    let head = c .before .before .before .before .before .before .before .before .before .before .put-head .ensures in
-    let span = c .before .before .before .before .before .before .put-span .ensures in
-    let number = c .before .before .put-number .ensures in
-    and-then (and-then head span) number
+    let number = c .before .before in
+    let span = number .before .before .before .before in
+    let head = span .before .before .before .before in
+    and-then (and-then (head .put-head .ensures) (span .put-span .ensures)) (number .put-number .ensures)
 
 pub put-function-spec : {M : Type 1} → statement M
 put-function-spec =
     tie.close
-    (tie.spec put-head-requires put-span-requires put-number-requires same-length returns)
+    (tie.spec (λ c κs. search needs) (λ c κs. search needs) (λ c κs. search needs) (λ c. search needs) returns)

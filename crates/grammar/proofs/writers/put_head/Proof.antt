@@ -5,17 +5,8 @@ use borrow.Author.Needs.{needs}
 use Rattle.grammar.proofs.writers.put_head.Statement.{statement}
 use Rattle.grammar.proofs.writers.put_head.Tie as tie
 
-put-byte-requires : tie.Need-put-byte-requires
-put-byte-requires c κs = search needs
-
-put-number-requires : tie.Need-put-number-requires
-put-number-requires c κs = search needs
-
-same-length : tie.Need-same-length
-same-length c = search needs
-
 returns : tie.Need-returns
 returns c = and-then (c .before .before .before .before .before .before .put-byte .ensures) (c .before .before .put-number .ensures)
 
 pub put-head-spec : {M : Type 1} → statement M
-put-head-spec = tie.close (tie.spec put-byte-requires put-number-requires same-length returns)
+put-head-spec = tie.close (tie.spec (λ c κs. search needs) (λ c κs. search needs) (λ c. search needs) returns)

@@ -9,37 +9,22 @@ use borrow.Author.Needs.{needs}
 use Rattle.grammar.proofs.writers.put_iteration.Statement.{statement}
 use Rattle.grammar.proofs.writers.put_iteration.Tie as tie
 
-add-put-head : tie.Need-add-put-head
-add-put-head c = search needs
-
-put-head-requires : tie.Need-put-head-requires
-put-head-requires c κs = search needs
-
-put-byte-requires : tie.Need-put-byte-requires
-put-byte-requires c κs = search needs
-
-put-text-requires : tie.Need-put-text-requires
-put-text-requires c κs = search needs
-
-same-length : tie.Need-same-length
-same-length c = search needs
-
 returns : tie.Need-returns
 unfolding entry payload
 returns c =
-    let args = c .before .before .before .before .before .before .before .before .before .before .before .before .before .before .args in
-    let head = c .before .before .before .before .before .before .before .before .before .before .put-head .ensures in
-    let byte = c .before .before .before .before .before .before .put-byte .ensures in
-    let text = c .before .before .put-text .ensures in
-    and-then (and-then (head-is 35 (1 + length (args .s .now)) _ (omega arith) head) byte) text
+    let text = c .before .before in
+    let byte = text .before .before .before .before in
+    let head = byte .before .before .before .before in
+    let args = head .before .before .before .before .args in
+    and-then (and-then (head-is 35 (1 + length (args .s .now)) _ (omega arith) (head .put-head .ensures)) (byte .put-byte .ensures)) (text .put-text .ensures)
 
 pub put-iteration-spec : {M : Type 1} → statement M
 put-iteration-spec =
     tie.close
     (tie.spec
-    add-put-head
-    put-head-requires
-    put-byte-requires
-    put-text-requires
-    same-length
+    (λ c. search needs)
+    (λ c κs. search needs)
+    (λ c κs. search needs)
+    (λ c κs. search needs)
+    (λ c. search needs)
     returns)

@@ -6,26 +6,14 @@ use borrow.Author.Needs.{needs}
 use Rattle.grammar.proofs.writers.put_kind.Statement.{statement}
 use Rattle.grammar.proofs.writers.put_kind.Tie as tie
 
-put-head-requires : tie.Need-put-head-requires
-put-head-requires c κs = search needs
-
-put-byte-requires : tie.Need-put-byte-requires
-put-byte-requires c κs = search needs
-
-put-span-requires : tie.Need-put-span-requires
-put-span-requires c κs = search needs
-
-same-length : tie.Need-same-length
-same-length c = search needs
-
 returns : tie.Need-returns
 unfolding entry payload
 returns c =
-    let head = c .before .before .before .before .before .before .before .before .before .before .put-head .ensures in
-    let byte = c .before .before .before .before .before .before .put-byte .ensures in
-    let span = c .before .before .put-span .ensures in
-    and-then (and-then head byte) span
+    let span = c .before .before in
+    let byte = span .before .before .before .before in
+    let head = byte .before .before .before .before in
+    and-then (and-then (head .put-head .ensures) (byte .put-byte .ensures)) (span .put-span .ensures)
 
 pub put-kind-spec : {M : Type 1} → statement M
 put-kind-spec =
-    tie.close (tie.spec put-head-requires put-byte-requires put-span-requires same-length returns)
+    tie.close (tie.spec (λ c κs. search needs) (λ c κs. search needs) (λ c κs. search needs) (λ c. search needs) returns)

@@ -6,21 +6,12 @@ use borrow.Author.Needs.{needs}
 use Rattle.grammar.proofs.writers.put_mark.Statement.{statement}
 use Rattle.grammar.proofs.writers.put_mark.Tie as tie
 
-put-head-requires : tie.Need-put-head-requires
-put-head-requires c κs = search needs
-
-put-span-requires : tie.Need-put-span-requires
-put-span-requires c κs = search needs
-
-same-length : tie.Need-same-length
-same-length c = search needs
-
 returns : tie.Need-returns
 unfolding entry payload
 returns c =
-    let head = c .before .before .before .before .before .before .put-head .ensures in
-    let span = c .before .before .put-span .ensures in
-    and-then head span
+    let span = c .before .before in
+    let head = span .before .before .before .before in
+    and-then (head .put-head .ensures) (span .put-span .ensures)
 
 pub put-mark-spec : {M : Type 1} → statement M
-put-mark-spec = tie.close (tie.spec put-head-requires put-span-requires same-length returns)
+put-mark-spec = tie.close (tie.spec (λ c κs. search needs) (λ c κs. search needs) (λ c. search needs) returns)

@@ -9,42 +9,24 @@ use borrow.Author.Needs.{needs}
 use Rattle.grammar.proofs.writers.put_object_pattern.Statement.{statement}
 use Rattle.grammar.proofs.writers.put_object_pattern.Tie as tie
 
-add-put-head : tie.Need-add-put-head
-add-put-head c = search needs
-
-put-head-requires : tie.Need-put-head-requires
-put-head-requires c κs = search needs
-
-put-number-requires : tie.Need-put-number-requires
-put-number-requires c κs = search needs
-
-put-byte-requires : tie.Need-put-byte-requires
-put-byte-requires c κs = search needs
-
-put-text-requires : tie.Need-put-text-requires
-put-text-requires c κs = search needs
-
-same-length : tie.Need-same-length
-same-length c = search needs
-
 returns : tie.Need-returns
 unfolding entry payload
 returns c =
-    let args = c .before .before .before .before .before .before .before .before .before .before .before .before .before .before .before .before .before .before .args in
-    let head = c .before .before .before .before .before .before .before .before .before .before .before .before .before .before .put-head .ensures in
-    let number = c .before .before .before .before .before .before .before .before .before .before .put-number .ensures in
-    let byte = c .before .before .before .before .before .before .put-byte .ensures in
-    let text = c .before .before .put-text .ensures in
-    and-then (and-then (and-then (head-is 28 (3 + length (args .s .now)) _ (omega arith) head) number) byte) text
+    let text = c .before .before in
+    let byte = text .before .before .before .before in
+    let number = byte .before .before .before .before in
+    let head = number .before .before .before .before in
+    let args = head .before .before .before .before .args in
+    and-then (and-then (and-then (head-is 28 (3 + length (args .s .now)) _ (omega arith) (head .put-head .ensures)) (number .put-number .ensures)) (byte .put-byte .ensures)) (text .put-text .ensures)
 
 pub put-object-pattern-spec : {M : Type 1} → statement M
 put-object-pattern-spec =
     tie.close
     (tie.spec
-    add-put-head
-    put-head-requires
-    put-number-requires
-    put-byte-requires
-    put-text-requires
-    same-length
+    (λ c. search needs)
+    (λ c κs. search needs)
+    (λ c κs. search needs)
+    (λ c κs. search needs)
+    (λ c κs. search needs)
+    (λ c. search needs)
     returns)

@@ -5,17 +5,8 @@ use borrow.Author.Needs.{needs}
 use Rattle.grammar.proofs.writers.put_span.Statement.{statement}
 use Rattle.grammar.proofs.writers.put_span.Tie as tie
 
-put-number-requires : tie.Need-put-number-requires
-put-number-requires c κs = search needs
-
-put-number-requires-2 : tie.Need-put-number-requires-2
-put-number-requires-2 c κs = search needs
-
-same-length : tie.Need-same-length
-same-length c = search needs
-
 returns : tie.Need-returns
 returns c = and-then (c .before .before .before .before .before .before .put-number .ensures) (c .before .before .put-number2 .ensures)
 
 pub put-span-spec : {M : Type 1} → statement M
-put-span-spec = tie.close (tie.spec put-number-requires put-number-requires-2 same-length returns)
+put-span-spec = tie.close (tie.spec (λ c κs. search needs) (λ c κs. search needs) (λ c. search needs) returns)

@@ -49,8 +49,8 @@ same-length c = ap length (c .before .loop .inv .1) ∙ simp length-sets
 
 returns : tie.Need-returns Inv-loop μ-loop
 returns c =
-    let inv = c .before .loop .inv in
-    record { to = refl; stored = inv .1 ∙ ap (λ l. sets (c .before .before .before .before .args .out .now) (c .before .before .before .before .args .w) l) (take-all _ _ (c .loop-test .left)) }
+    let inv = c .before in
+    record { to = refl; stored = (inv .loop .inv) .1 ∙ ap (λ l. sets (c .before .before .before .before .args .out .now) (c .before .before .before .before .args .w) l) (take-all _ _ (c .loop-test .left)) }
 
 pub put-text-spec : {M : Type 1} → statement M
 put-text-spec =

@@ -6,22 +6,13 @@ use borrow.Author.Needs.{needs}
 use Rattle.grammar.proofs.writers.put_word.Statement.{statement}
 use Rattle.grammar.proofs.writers.put_word.Tie as tie
 
-put-head-requires : tie.Need-put-head-requires
-put-head-requires c κs = search needs
-
-put-text-requires : tie.Need-put-text-requires
-put-text-requires c κs = search needs
-
-same-length : tie.Need-same-length
-same-length c = search needs
-
 returns : tie.Need-returns
 unfolding entry payload
 returns c =
-    let args = c .before .before .before .before .before .before .before .before .before .before .args in
-    let head = c .before .before .before .before .before .before .put-head .ensures in
-    let text = c .before .before .put-text .ensures in
-    and-then head text
+    let text = c .before .before in
+    let head = text .before .before .before .before in
+    let args = head .before .before .before .before .args in
+    and-then (head .put-head .ensures) (text .put-text .ensures)
 
 pub put-word-spec : {M : Type 1} → statement M
-put-word-spec = tie.close (tie.spec put-head-requires put-text-requires same-length returns)
+put-word-spec = tie.close (tie.spec (λ c κs. search needs) (λ c κs. search needs) (λ c. search needs) returns)
