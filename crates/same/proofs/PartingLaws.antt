@@ -11,10 +11,11 @@ use Rattle.lexemes.specs.Kinds.{EOF}
 use Rattle.lexemes.specs.Lexeme.{lexeme}
 use Rattle.lexemes.specs.Kept.{Kept, first, NextKept}
 use Rattle.lexemes.specs.Texts.{textOf}
+use Rattle.lexemes.specs.Scan.{Says}
 use Rattle.lexemes.specs.Same.{SameLexeme, SameList, none, more, SameLexemes}
 use Rattle.lexemes.proofs.KeptLaws.{Rest, kept-step, kept-once, next-eof, next-some, next-bounds}
 use Rattle.lexemes.proofs.Laws.{lexeme-not-eof}
-use Rattle.same.specs.Parting.{Tells, so, not-so, Parts, both-over, on, here, FirstDifference}
+use Rattle.same.specs.Parting.{Parts, both-over, on, here, FirstDifference}
 use Rattle.same.specs.declared.Parting.{Parting}
 use Rattle.same.specs.declared.Parting.the-variants.{Same, Apart}
 
@@ -108,18 +109,11 @@ module _ {s t : List ℕ} where
               (subst (λ (ms : List Lexeme). Parts s t (l .end) (m .end) ls ms r) (kept-once j (y .2)) z)));
         }
 
-  -- What the code tells of two lexemes.
-  pub other-kind : {l m : Lexeme} → (l .kind ≡ m .kind → ⊥) → Tells (SameLexeme s t l m) false
-  other-kind h = not-so (λ e. h (e .kind))
+-- What the code says of two lexemes.
+module _ (s t : List ℕ) (l m : Lexeme) where
+  pub other-kind : (l .kind ≡ m .kind → ⊥) → Says false (SameLexeme s t l m)
+  other-kind h = λ e. h (e .kind)
 
-  pub by-text : {l m : Lexeme} {r : Bool} → l .kind ≡ m .kind → (r ≡ true → textOf s l ≡ textOf t m) × (textOf s l ≡ textOf t m → r ≡ true) → Tells (SameLexeme s t l m) r
-  by-text {r = true} k h = so (record { kind = k; text = h .0 refl })
-  by-text {r = false} k h = not-so (λ e. absurd (let z = h .1 (e .text) in let y : _≡_ {A = ℕ} 0 1 = cc in omega arith))
-
-pub told-so : {P : Type 0} {r : Bool} → Tells P r → r ≡ true → P
-told-so (so p) e = p
-told-so (not-so h) e = absurd (let y : _≡_ {A = ℕ} 0 1 = cc in omega arith)
-
-pub told-not : {P : Type 0} {r : Bool} → Tells P r → r ≡ false → P → ⊥
-told-not (so p) e = absurd (let y : _≡_ {A = ℕ} 0 1 = cc in omega arith)
-told-not (not-so h) e = h
+  pub by-text : {r : Bool} → l .kind ≡ m .kind → (r ≡ true → textOf s l ≡ textOf t m) × (textOf s l ≡ textOf t m → r ≡ true) → Says r (SameLexeme s t l m)
+  by-text {r = true} k h = record { kind = k; text = h .0 refl }
+  by-text {r = false} k h = λ e. absurd (let z = h .1 (e .text) in let y : _≡_ {A = ℕ} 0 1 = cc in omega arith)

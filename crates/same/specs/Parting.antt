@@ -1,7 +1,5 @@
 -- Where two sources part: the first of their kept lexemes, one by one, that do not agree in kind and text.
 -- Assumes nothing.
-use mathlib.Core.Path.{_≡_}
-use mathlib.Core.Bool.{Bool, true, false}
 use mathlib.Core.List.{List, [], _∷_}
 use Prim.Native.Nat.{ℕ}
 use Rattle.lexemes.specs.declared.Lexeme.{Lexeme}
@@ -9,11 +7,6 @@ use Rattle.lexemes.specs.Kept.{Kept, first}
 use Rattle.lexemes.specs.Same.{SameLexeme}
 use Rattle.same.specs.declared.Parting.{Parting}
 use Rattle.same.specs.declared.Parting.the-variants.{Same, Apart}
-
--- A test says whether P is so.
-pub data Tells (P : Type 0) : Bool → Type 0 where
-  so : P → Tells P true
-  not-so : (P → ⊥) → Tells P false
 
 module _ (s t : List ℕ) where
   -- R46. Kept lexemes of s and of t, the last before them having ended at p and q. With none left, EOF stands there (`first`), which is no lexeme's kind: so

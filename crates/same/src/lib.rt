@@ -2,7 +2,8 @@
 ghost use Prim.Native.Nat.{_≤_};
 ghost use lib.ListN.{length};
 ghost use Rattle.lexemes.specs.Same.{SameLexeme};
-ghost use Rattle.same.specs.Parting.{Tells, FirstDifference};
+ghost use Rattle.lexemes.specs.Scan.{Says};
+ghost use Rattle.same.specs.Parting.{FirstDifference};
 use lexemes::Lexeme;
 use lexemes::kept;
 use lexemes::kinds::Kind;
@@ -16,7 +17,7 @@ pub enum Parting {
 // Whether two lexemes agree in kind and text.
 fn same_lexeme(left: &[u8], l: Lexeme, right: &[u8], m: Lexeme) -> bool
     requires { ⌜ (l .start ≤ l .end) × (l .end ≤ length (now left)) × (m .start ≤ m .end) × (m .end ≤ length (now right)) ⌝ }
-    ensures { λ r. ⌜ Tells (SameLexeme (now (left .entry)) (now (right .entry)) l m) r ⌝ }
+    ensures { λ r. ⌜ Says r (SameLexeme (now (left .entry)) (now (right .entry)) l m) ⌝ }
 {
     if l.kind != m.kind {
         return false;

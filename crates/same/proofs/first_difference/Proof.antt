@@ -6,7 +6,8 @@ use lib.ListN.{length}
 use borrow.Author.Tests.{not-true, not-false}
 use borrow.Author.Needs.{needs}
 use Rattle.lexemes.proofs.KeptLaws.{next-bounds}
-use Rattle.same.proofs.PartingLaws.{Along, begun, lies, parted, over, along, told-so, told-not}
+use Rattle.lexemes.proofs.Numerals.{said, denied}
+use Rattle.same.proofs.PartingLaws.{Along, begun, lies, parted, over, along}
 use Rattle.same.proofs.first_difference.Statement.{statement}
 use Rattle.same.proofs.first_difference.Tie as tie
 
@@ -19,12 +20,6 @@ abbrev μ-loop : tie.MeasureT-loop
 loop-holds : tie.Need-loop-holds Inv-loop μ-loop
 loop-holds c = begun
 
-next-kept-requires : tie.Need-next-kept-requires Inv-loop μ-loop
-next-kept-requires c κs = search needs
-
-next-kept-requires-2 : tie.Need-next-kept-requires-2 Inv-loop μ-loop
-next-kept-requires-2 c κs = search needs
-
 same-lexeme-requires : tie.Need-same-lexeme-requires Inv-loop μ-loop
 same-lexeme-requires c κs =
     let loop = c .before .before .loop in
@@ -34,15 +29,19 @@ same-lexeme-requires c κs =
 
 returns : tie.Need-returns Inv-loop μ-loop
 returns c =
-    let loop = c .before .before .before .before .loop in
-    parted (loop .inv) (c .before .before .before .next-kept .ensures) (c .before .before .next-kept2 .ensures)
-    (told-not (c .before .same-lexeme .ensures) (not-true (c .before .same-lexeme .result) (c .if1 .taken)))
+    let test = c .before in
+    let second = test .before in
+    let first = second .before in
+    parted (first .before .loop .inv) (first .next-kept .ensures) (second .next-kept2 .ensures)
+    (denied (not-true (test .same-lexeme .result) (c .if1 .taken)) (test .same-lexeme .ensures))
 
 returns-2 : tie.Need-returns-2 Inv-loop μ-loop
 returns-2 c =
-    let loop = c .before .before .before .before .before .before .loop in
-    over (loop .inv) (c .before .before .before .before .before .next-kept .ensures) (c .before .before .before .before .next-kept2 .ensures)
-    (told-so (c .before .before .before .same-lexeme .ensures) (not-false (c .before .before .before .same-lexeme .result) (c .before .before .if1 .left))) (c .if2 .taken)
+    let test = c .before .before .before in
+    let second = test .before in
+    let first = second .before in
+    over (first .before .loop .inv) (first .next-kept .ensures) (second .next-kept2 .ensures)
+    (said (not-false (test .same-lexeme .result) (c .before .before .if1 .left)) (test .same-lexeme .ensures)) (c .if2 .taken)
 
 loop-less : tie.Need-loop-less Inv-loop μ-loop
 loop-less c =
@@ -51,10 +50,12 @@ loop-less c =
 
 loop-again : tie.Need-loop-again Inv-loop μ-loop
 loop-again c =
-    let loop = c .before .before .before .before .before .before .loop in
-    along (loop .inv) (c .before .before .before .before .before .next-kept .ensures) (c .before .before .before .before .next-kept2 .ensures)
-    (told-so (c .before .before .before .same-lexeme .ensures) (not-false (c .before .before .before .same-lexeme .result) (c .before .before .if1 .left))) (c .if2 .left)
+    let test = c .before .before .before in
+    let second = test .before in
+    let first = second .before in
+    along (first .before .loop .inv) (first .next-kept .ensures) (second .next-kept2 .ensures)
+    (said (not-false (test .same-lexeme .result) (c .before .before .if1 .left)) (test .same-lexeme .ensures)) (c .if2 .left)
 
 pub first-difference-spec : {M : Type 1} → statement M
 first-difference-spec =
-    tie.close (tie.spec Inv-loop μ-loop loop-holds next-kept-requires next-kept-requires-2 same-lexeme-requires returns returns-2 loop-less loop-again)
+    tie.close (tie.spec Inv-loop μ-loop loop-holds (λ c κs. search needs) (λ c κs. search needs) same-lexeme-requires returns returns-2 loop-less loop-again)
