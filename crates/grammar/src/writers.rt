@@ -29,12 +29,12 @@ fn put_number(out: &mut [u8], w: usize, n: usize) -> usize
     put_byte(out, w1, (n % 256) as u8)
 }
 
-fn put_span(out: &mut [u8], w: usize, a: usize, e: usize) -> usize
+fn put_span(out: &mut [u8], w: usize, a: u16, e: u16) -> usize
     requires { ⌜ (w < 2 ^ 60) × (a < 2 ^ 16) × (e < 2 ^ 16) ⌝ }
     ensures { λ r. ⌜ Wrote (now (out .entry)) w (two a ++ two e) r (now (out .exit)) ⌝ }
 {
-    let w1 = put_number(out, w, a);
-    put_number(out, w1, e)
+    let w1 = put_number(out, w, a as usize);
+    put_number(out, w1, e as usize)
 }
 
 // As many bytes of `s` as there is room for.
@@ -123,7 +123,7 @@ pub fn put_word(out: &mut [u8], w: usize, tag: u8, s: &[u8]) -> usize
 }
 
 // ERROR, IF_CLAUSE: a span.
-pub fn put_mark(out: &mut [u8], w: usize, tag: u8, a: usize, e: usize) -> usize
+pub fn put_mark(out: &mut [u8], w: usize, tag: u8, a: u16, e: u16) -> usize
     requires { ⌜ (w < 2 ^ 40) × (a < 2 ^ 16) × (e < 2 ^ 16) ⌝ }
     ensures { λ r. ⌜ Wrote (now (out .entry)) w (entry tag (span a e ∷ [])) r (now (out .exit)) ⌝ }
 {
@@ -132,7 +132,7 @@ pub fn put_mark(out: &mut [u8], w: usize, tag: u8, a: usize, e: usize) -> usize
 }
 
 // IDENTITY, INFIX, IMPORT: an enum's byte, a span.
-pub fn put_kind(out: &mut [u8], w: usize, tag: u8, b: u8, a: usize, e: usize) -> usize
+pub fn put_kind(out: &mut [u8], w: usize, tag: u8, b: u8, a: u16, e: u16) -> usize
     requires { ⌜ (w < 2 ^ 40) × (a < 2 ^ 16) × (e < 2 ^ 16) ⌝ }
     ensures { λ r. ⌜ Wrote (now (out .entry)) w (entry tag (byte b ∷ span a e ∷ [])) r (now (out .exit)) ⌝ }
 {
@@ -142,7 +142,7 @@ pub fn put_kind(out: &mut [u8], w: usize, tag: u8, b: u8, a: usize, e: usize) ->
 }
 
 // IF, ASSERT: a span, a flag.
-pub fn put_marked(out: &mut [u8], w: usize, tag: u8, a: usize, e: usize, b: u8) -> usize
+pub fn put_marked(out: &mut [u8], w: usize, tag: u8, a: u16, e: u16, b: u8) -> usize
     requires { ⌜ (w < 2 ^ 40) × (a < 2 ^ 16) × (e < 2 ^ 16) ⌝ }
     ensures { λ r. ⌜ Wrote (now (out .entry)) w (entry tag (span a e ∷ byte b ∷ [])) r (now (out .exit)) ⌝ }
 {
@@ -152,7 +152,7 @@ pub fn put_marked(out: &mut [u8], w: usize, tag: u8, a: usize, e: usize, b: u8) 
 }
 
 // FUNCTION: span, parameter count.
-pub fn put_function(out: &mut [u8], w: usize, a: usize, e: usize, n: usize) -> usize
+pub fn put_function(out: &mut [u8], w: usize, a: u16, e: u16, n: usize) -> usize
     requires { ⌜ (w < 2 ^ 40) × (a < 2 ^ 16) × (e < 2 ^ 16) × (n < 2 ^ 16) ⌝ }
     ensures { λ r. ⌜ Wrote (now (out .entry)) w (entry FUNCTION (span a e ∷ number n ∷ [])) r (now (out .exit)) ⌝ }
 {
@@ -162,7 +162,7 @@ pub fn put_function(out: &mut [u8], w: usize, a: usize, e: usize, n: usize) -> u
 }
 
 // VARIABLE, NAME_PATTERN: span, name.
-pub fn put_name(out: &mut [u8], w: usize, tag: u8, a: usize, e: usize, s: &[u8]) -> usize
+pub fn put_name(out: &mut [u8], w: usize, tag: u8, a: u16, e: u16, s: &[u8]) -> usize
     requires { ⌜ (w < 2 ^ 40) × (a < 2 ^ 16) × (e < 2 ^ 16) × (4 + length (now s) < 2 ^ 16) ⌝ }
     ensures { λ r. ⌜ Wrote (now (out .entry)) w (entry tag (span a e ∷ text (now (s .entry)) ∷ [])) r (now (out .exit)) ⌝ }
 {
@@ -175,8 +175,8 @@ pub fn put_name(out: &mut [u8], w: usize, tag: u8, a: usize, e: usize, s: &[u8])
 pub fn put_call(
     out: &mut [u8],
     w: usize,
-    a: usize,
-    e: usize,
+    a: u16,
+    e: u16,
     strict: u8,
     unnamed: usize,
     named: usize,
@@ -192,7 +192,7 @@ pub fn put_call(
 }
 
 // INDEX_PART: span, first-of-run, null-safe.
-pub fn put_index(out: &mut [u8], w: usize, a: usize, e: usize, first: u8, safe: u8) -> usize
+pub fn put_index(out: &mut [u8], w: usize, a: u16, e: u16, first: u8, safe: u8) -> usize
     requires { ⌜ (w < 2 ^ 40) × (a < 2 ^ 16) × (e < 2 ^ 16) ⌝ }
     ensures { λ r. ⌜ Wrote (now (out .entry)) w (entry INDEX-PART (span a e ∷ byte first ∷ byte safe ∷ [])) r (now (out .exit)) ⌝ }
 {
@@ -207,12 +207,12 @@ pub fn put_slice(
     out: &mut [u8],
     w: usize,
     parts: u8,
-    a: usize,
-    e: usize,
-    a1: usize,
-    e1: usize,
-    a2: usize,
-    e2: usize,
+    a: u16,
+    e: u16,
+    a1: u16,
+    e1: u16,
+    a2: u16,
+    e2: u16,
 ) -> usize
     requires { ⌜ (w < 2 ^ 40) × (a < 2 ^ 16) × (e < 2 ^ 16) × (a1 < 2 ^ 16) × (e1 < 2 ^ 16) × (a2 < 2 ^ 16) × (e2 < 2 ^ 16) ⌝ }
     ensures { λ r. ⌜ Wrote (now (out .entry)) w (entry SLICE (byte parts ∷ span a e ∷ span a1 e1 ∷ span a2 e2 ∷ [])) r (now (out .exit)) ⌝ }
@@ -270,8 +270,8 @@ pub fn put_pattern_field(
     w: usize,
     into: u8,
     default: u8,
-    a: usize,
-    e: usize,
+    a: u16,
+    e: u16,
     s: &[u8],
 ) -> usize
     requires { ⌜ (w < 2 ^ 40) × (a < 2 ^ 16) × (e < 2 ^ 16) × (6 + length (now s) < 2 ^ 16) ⌝ }
@@ -298,8 +298,8 @@ pub fn put_iteration(out: &mut [u8], w: usize, visibility: u8, s: &[u8]) -> usiz
 pub fn put_field(
     out: &mut [u8],
     w: usize,
-    a: usize,
-    e: usize,
+    a: u16,
+    e: u16,
     flags: Flags,
     n: usize,
     visibility: u8,

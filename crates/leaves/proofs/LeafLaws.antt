@@ -66,21 +66,21 @@ no-string a b c d e = no-quotes (λ q. which q a b c d e)
 
 -- where a phrase may start the image is short, and so are places
 pub fits : {s : List ℕ} {c : Cursor} {w : ℕ} → Ready s c w → w < 2 ^ 40
-fits r = omega (arith, r .room, r .short, r .stands .within)
+fits r = omega (arith, r .room, r .stands .short, r .stands .within)
 
 pub within : {s : List ℕ} {c : Cursor} {w : ℕ} → Ready s c w → (c .start < 65536) × (c .end < 65536)
-within r = let l = lies (r .stands) in (omega (arith, l .on, l .within, r .short), omega (arith, l .within, r .short))
+within r = let l = lies (r .stands) in (omega (arith, l .on, l .within, r .stands .short), omega (arith, l .within, r .stands .short))
 
 pub few : {s : List ℕ} {c : Cursor} {w n : ℕ} → Ready s c w → n ≤ c .at → n < 65536
-few r h = omega (arith, h, r .short, r .stands .within)
+few r h = omega (arith, h, r .stands .short, r .stands .within)
 
 -- a lexeme's bytes
 pub bytes-short : {s : List ℕ} {c : Cursor} {w : ℕ} → Ready s c w → length (take (c .end - c .start) (drop (c .start) s)) < 65000 + 1
-bytes-short {s} {c} r = lent-short s (c .start) (c .end) (r .short) (lies (r .stands) .within)
+bytes-short {s} {c} r = lent-short s (c .start) (c .end) (r .stands .short) (lies (r .stands) .within)
 
 -- further on
 pub onward : {s : List ℕ} {c c₁ : Cursor} {w : ℕ} → Ready s c w → Stands s c₁ → c .at ≤ c₁ .at → Ready s c₁ w
-onward r h i = record { short = r .short; stands = h; room = omega (arith, r .room, i) }
+onward r h i = record { stands = h; room = omega (arith, r .room, i) }
 
 pub moved-on : {s : List ℕ} {c c₁ : Cursor} → Stands s c → Moved s c c₁ → c .at ≤ c₁ .at
 moved-on st mv = let l = lies st in omega (arith, l .from, l .on, mv .at)

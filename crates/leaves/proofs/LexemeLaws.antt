@@ -36,7 +36,7 @@ pub record Lies (s : List ℕ) (at : ℕ) (l : Token) : Type 0 where
   pub block : l .kind ≡ 50 → l .start + 3 ≤ l .end
   pub block′ : l .kind ≡ 50 → BlockAt s (l .start + 3) (Good (l .end))
 
-next-lies : {s : List ℕ} {at : ℕ} {l : Token} → at ≤ length s → NextKept s at l → Lies s at l
+pub next-lies : {s : List ℕ} {at : ℕ} {l : Token} → at ≤ length s → NextKept s at l → Lies s at l
 next-lies {s} {at} {l} h n = subst⁻¹ (Lies s at) (n .is-first) (by (kept-step (n .is-left)))
   where
     by : {ks : List Token} → Rest s at ks → Lies s at (first at ks)

@@ -104,11 +104,11 @@ module _ {g : ℕ} {s : List ℕ} {d : ℕ} where
 
   -- a phrase may start where a stretch ends
   pub ready : {from : State} {b : Body} {n e v w : ℕ} {c : Cursor} {o : List ℕ} → Ready s (from .cursor) (from .written) → v ≤ 32 * e → Seg g s d from e v (state b n c w o) → Ready s c w
-  ready r h p = record { short = r .short; stands = p .stands (r .stands); room = omega (arith, r .room, h, p .credit) }
+  ready r h p = record { stands = p .stands (r .stands); room = omega (arith, r .room, h, p .credit) }
 
   -- the image stays short
   pub fits : {from : State} {b : Body} {n e v w : ℕ} {c : Cursor} {o : List ℕ} → Ready s (from .cursor) (from .written) → v ≤ 1000000 → Seg g s d from e v (state b n c w o) → w < 2 ^ 40
-  fits r h p = let i = p .stands (r .stands) .within in omega (arith, r .short, r .room, h, p .credit, i)
+  fits r h p = let i = p .stands (r .stands) .within in omega (arith, r .stands .short, r .room, h, p .credit, i)
 
   -- the number of trees, and the place, written otherwise
   pub count-is : {from : State} {b : Body} {n n₁ e v w : ℕ} {c : Cursor} {o : List ℕ} → n ≡ n₁ → Seg g s d from e v (state b n c w o) → Seg g s d from e v (state b n₁ c w o)

@@ -21,8 +21,9 @@ pub data Left (s : List ℕ) : ℕ → List Lexeme → Type 0 where
   more : {p k a e : ℕ} {w : Said} {xs : List Lexeme} → NextKept s p (lexeme k a e) → (k ≡ EOF → ⊥) → Says s k a e w → Left s e xs
       → Left s p (record { kind = k; start = a; stop = e; word = w } ∷ xs)
 
--- A cursor tells of the source what stands next.
+-- A cursor tells of the source what stands next. The source is no longer than one may be (R4), so that sixteen bits hold every place of it.
 pub record Stands (s : List ℕ) (c : Cursor) : Type 0 where
+  pub short : length s ≤ 65000
   pub within : c .at ≤ length s
   pub next : NextKept s (c .at) (lexeme (c .kind) (c .start) (c .end))
 

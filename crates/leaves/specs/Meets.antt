@@ -25,7 +25,6 @@ power g = prefix-power g
 
 -- Where a phrase may start, with w bytes of image written: an image has at most 32 bytes for each byte that is read.
 pub record Ready (s : List ℕ) (c : Cursor) (w : ℕ) : Type 0 where
-  pub short : length s ≤ 65000
   pub stands : Stands s c
   pub room : w ≤ 32 * c .at
 

@@ -35,10 +35,10 @@ use strings::Decoded;
 
 // Where a phrase reads: where the last lexeme ended, and the next kept lexeme, EOF where none is left.
 pub struct Cursor {
-    pub at: usize,
+    pub at: u16,
     pub kind: u8,
-    pub start: usize,
-    pub end: usize,
+    pub start: u16,
+    pub end: u16,
 }
 
 // A phrase broken off: 01's number and detail, and where.
@@ -75,8 +75,8 @@ fn decode(src: &[u8], c: Cursor, part: &mut [u8]) -> Decoded
     requires { ⌜ (Stands (now src) c) × Quoting (c .kind) ⌝ }
     ensures { λ r. ⌜ Decoding (Means (now (src .entry)) (c .kind) (c .start) (c .end)) (Spoils (now (src .entry)) (c .kind) (c .start) (c .end)) (now (part .entry)) r (now (part .exit)) ⌝ }
 {
-    let start = c.start;
-    let end = c.end;
+    let start = c.start as usize;
+    let end = c.end as usize;
     let kind = c.kind;
     match kind {
         Kind::STRING_BLOCK => blocks::block_text(src, start + 3, part),
@@ -109,7 +109,7 @@ pub fn parse_string_content(src: &[u8], out: &mut [u8], c: Cursor, w: usize) -> 
     let from = least(w + 3, out.len());
     let d = decode(src, c, &mut out[from..]);
     match d {
-        Decoded::Refused(n) => error(c, Number::ESCAPE, c.start + 1 + n),
+        Decoded::Refused(n) => error(c, Number::ESCAPE, c.start as usize + 1 + n),
         Decoded::Text(n) => {
             let w1 = writers::put_head(out, w, Tag::STRING, n);
             Answer::Done(eat_any(src, c), w1 + n, 1)
@@ -158,7 +158,7 @@ fn number_in_range(src: &[u8], out: &mut [u8], c: Cursor, w: usize) -> Answer
     let start = c.start;
     let end = c.end;
     let from = least(w + 3, out.len());
-    let n = plain(&src[start..end], &mut out[from..]);
+    let n = plain(&src[start as usize..end as usize], &mut out[from..]);
     let w1 = writers::put_head(out, w, Tag::NUMBER, n);
     Answer::Done(eat_any(src, c), w1 + n, 1)
 }
@@ -170,7 +170,7 @@ fn parse_number(src: &[u8], out: &mut [u8], c: Cursor, w: usize) -> Answer
 {
     let start = c.start;
     let end = c.end;
-    if numerals::too_large(&src[start..end]) {
+    if numerals::too_large(&src[start as usize..end as usize]) {
         return error(c, Number::LARGE, 0);
     }
     number_in_range(src, out, c, w)
@@ -206,7 +206,14 @@ pub fn atom(src: &[u8], out: &mut [u8], c: Cursor, w: usize) -> Answer
         Kind::FLOAT => parse_number(src, out, c, w),
         Kind::IDENT => Answer::Done(
             eat_any(src, c),
-            writers::put_name(out, w, Tag::VARIABLE, start, end, &src[start..end]),
+            writers::put_name(
+                out,
+                w,
+                Tag::VARIABLE,
+                start,
+                end,
+                &src[start as usize..end as usize],
+            ),
             1,
         ),
         _ => {
@@ -227,7 +234,14 @@ pub fn pattern_atom(src: &[u8], out: &mut [u8], c: Cursor, w: usize, set: u64) -
     let end = c.end;
     let kind = c.kind;
     if kind == Kind::IDENT {
-        let w1 = writers::put_name(out, w, Tag::NAME_PATTERN, start, end, &src[start..end]);
+        let w1 = writers::put_name(
+            out,
+            w,
+            Tag::NAME_PATTERN,
+            start,
+            end,
+            &src[start as usize..end as usize],
+        );
         return Answer::Done(eat_any(src, c), w1, 1);
     }
     if !settings::has_destruct(set) {
@@ -260,7 +274,7 @@ pub fn array_pattern_close(
     };
     let from = name.start;
     let to = name.end;
-    let w2 = writers::put_array_pattern(out, w1, n, rest, m, &src[from..to]);
+    let w2 = writers::put_array_pattern(out, w1, n, rest, m, &src[from as usize..to as usize]);
     Answer::Done(c1, w2, 1)
 }
 
@@ -283,7 +297,7 @@ pub fn object_pattern_close(
     };
     let from = name.start;
     let to = name.end;
-    let w2 = writers::put_object_pattern(out, w1, n, rest, &src[from..to]);
+    let w2 = writers::put_object_pattern(out, w1, n, rest, &src[from as usize..to as usize]);
     Answer::Done(c1, w2, 1)
 }
 
@@ -417,7 +431,7 @@ pub fn member_name(
     }
     let start = c.start;
     let end = c.end;
-    let w1 = writers::put_word(out, w, Tag::STRING, &src[start..end]);
+    let w1 = writers::put_word(out, w, Tag::STRING, &src[start as usize..end as usize]);
     let w2 = records::put_index(out, w1, start, end, first, safe);
     WithFirst::Done(eat_any(src, c), w2, 0)
 }
@@ -460,7 +474,7 @@ pub fn call_close(
     out: &mut [u8],
     c: Cursor,
     w: usize,
-    from: usize,
+    from: u16,
     unnamed: usize,
     named: usize,
 ) -> WithFirst
@@ -488,7 +502,7 @@ pub fn fixed_name(src: &[u8], out: &mut [u8], c: Cursor, w: usize) -> WithComput
     let start = c.start;
     let end = c.end;
     if c.kind == Kind::IDENT {
-        let w1 = writers::put_word(out, w, Tag::STRING, &src[start..end]);
+        let w1 = writers::put_word(out, w, Tag::STRING, &src[start as usize..end as usize]);
         return WithComputed::Done(eat_any(src, c), w1, 0);
     }
     if !is_string_token(c.kind) {

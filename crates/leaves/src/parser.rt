@@ -21,15 +21,15 @@ pub const END: usize = Kind::EOF as usize;
 
 // The cursor where the last lexeme ended at a place.
 pub fn cursor_at(src: &[u8], at: usize) -> Cursor
-    requires { ⌜ at ≤ length (now src) ⌝ }
+    requires { ⌜ (at ≤ length (now src)) × (length (now src) ≤ 65000) ⌝ }
     ensures { λ r. ⌜ (r .at ≡ at) × Stands (now (src .entry)) r ⌝ }
 {
     let l = kept::next_kept(src, at);
     Cursor {
-        at,
+        at: at as u16,
         kind: l.kind,
-        start: l.start,
-        end: l.end,
+        start: l.start as u16,
+        end: l.end as u16,
     }
 }
 
@@ -38,7 +38,7 @@ pub fn eat_any(src: &[u8], c: Cursor) -> Cursor
     requires { ⌜ Stands (now src) c ⌝ }
     ensures { λ r. ⌜ Moved (now (src .entry)) c r ⌝ }
 {
-    cursor_at(src, c.end)
+    cursor_at(src, c.end as usize)
 }
 
 // Parser::error: broken off here, with 01's number and detail.

@@ -10,14 +10,14 @@ use grammar::writers::Flags;
 
 // A span of the source, as records hold it.
 pub struct Span {
-    pub start: usize,
-    pub end: usize,
+    pub start: u16,
+    pub end: u16,
 }
 
 // A field's record but for its value's visibility: where the name stands, and whether it is computed, adds, is a method of so many parameters.
 pub struct Header {
-    pub start: usize,
-    pub end: usize,
+    pub start: u16,
+    pub end: u16,
     pub computed: usize,
     pub plus: u8,
     pub method: u8,
@@ -25,7 +25,7 @@ pub struct Header {
 }
 
 // An index part. Its flag is a number that a phrase told.
-pub fn put_index(out: &mut [u8], w: usize, a: usize, e: usize, first: usize, safe: u8) -> usize
+pub fn put_index(out: &mut [u8], w: usize, a: u16, e: u16, first: usize, safe: u8) -> usize
     requires { ⌜ (w < 2 ^ 40) × (a < 65536) × (e < 65536) × (first ≤ 4) ⌝ }
     ensures { λ r. ⌜ Wrote (now (out .entry)) w (entry INDEX-PART (span a e ∷ byte first ∷ byte safe ∷ [])) r (now (out .exit)) ⌝ }
 {

@@ -191,4 +191,4 @@ with-params n m e = ap (bound 1) (let q : n - 1 ≡ m = omega (arith, e) in q)
 -- ── Places ────────────────────────────────────────────────────────────────────────────────────────
 
 pub place : {s : List ℕ} {c c₁ : Cursor} {w : ℕ} → Ready s c w → Stands s c₁ → c₁ .at < 65536
-place r st = omega (arith, r .short, st .within)
+place r st = omega (arith, r .stands .short, st .within)

@@ -331,7 +331,15 @@ fn init(
     let from = name.start;
     let to = name.end;
     if c.kind != Kind::ASSIGN {
-        let w1 = writers::put_pattern_field(out, w, into, 0, 0, 0, &src[from..to]);
+        let w1 = writers::put_pattern_field(
+            out,
+            w,
+            into,
+            0,
+            0,
+            0,
+            &src[from as usize..to as usize],
+        );
         return Answer::Done(c, w1, 1);
     }
     let c1 = eat_any(src, c);
@@ -339,7 +347,15 @@ fn init(
     let Answer::Done(c2, w2, _) = a else {
         return a;
     };
-    let w3 = writers::put_pattern_field(out, w2, into, 1, c1.start, c2.at, &src[from..to]);
+    let w3 = writers::put_pattern_field(
+        out,
+        w2,
+        into,
+        1,
+        c1.start,
+        c2.at,
+        &src[from as usize..to as usize],
+    );
     Answer::Done(c2, w3, 1)
 }
 
@@ -397,7 +413,7 @@ fn args(
     w: usize,
     left: usize,
     set: u64,
-    from: usize,
+    from: u16,
 ) -> WithFirst
     requires { ⌜ Ready (now src) c w × (from < 65536) ⌝ }
     ensures { λ r. ⌜ Tells set (now (src .entry)) left (state (goto (arguments from 0 0)) 1 c w (now (out .entry))) suffixes 1 r (now (out .exit)) ⌝ }
@@ -452,7 +468,12 @@ fn arg(
     };
     let from = c.start;
     let to = c.end;
-    let w3 = writers::put_word(out, w2, Tag::NAMED_ARGUMENT, &src[from..to]);
+    let w3 = writers::put_word(
+        out,
+        w2,
+        Tag::NAMED_ARGUMENT,
+        &src[from as usize..to as usize],
+    );
     Answer::Done(c2, w3, 1)
 }
 
@@ -470,7 +491,14 @@ fn bind(src: &[u8], out: &mut [u8], c: Cursor, w: usize, left: usize, set: u64) 
     }
     let from = c.start;
     let to = c.end;
-    let w1 = writers::put_name(out, w, Tag::NAME_PATTERN, from, to, &src[from..to]);
+    let w1 = writers::put_name(
+        out,
+        w,
+        Tag::NAME_PATTERN,
+        from,
+        to,
+        &src[from as usize..to as usize],
+    );
     let c1 = eat_any(src, c);
     if c1.kind != Kind::L_PAREN {
         return rhs(src, out, c1, w1, left, set, 0, 0);
@@ -675,7 +703,7 @@ fn each(src: &[u8], out: &mut [u8], c: Cursor, w: usize, left: usize, set: u64) 
     };
     let from = key.start;
     let to = key.end;
-    let w5 = writers::put_iteration(out, w4, v.byte, &src[from..to]);
+    let w5 = writers::put_iteration(out, w4, v.byte, &src[from as usize..to as usize]);
     Answer::Done(c4, w5, 1)
 }
 

@@ -44,16 +44,18 @@ fn refused(r: Refusal) -> Reading
     ensures { λ a. ⌜ numbers01 a ≡ refusal01 (r .number) (r .place .start) (r .place .end) (r .detail) ⌝ }
 {
     let place = r.place;
+    let start = place.start as usize;
+    let end = place.end as usize;
     let number = r.number;
     let detail = r.detail;
     match number {
-        Number::WANTED => Reading::Wanted(place.start, place.end, detail),
-        Number::ABSENT => Reading::Absent(place.start, place.end, detail),
-        Number::EXPRESSION => Reading::Expression(place.start, place.end),
-        Number::MISPLACED => Reading::Misplaced(place.start, place.end, detail),
-        Number::ESCAPE => Reading::Escape(place.start, place.end, detail),
-        Number::LARGE => Reading::Large(place.start, place.end),
-        _ => Reading::Depth(place.start, place.end),
+        Number::WANTED => Reading::Wanted(start, end, detail),
+        Number::ABSENT => Reading::Absent(start, end, detail),
+        Number::EXPRESSION => Reading::Expression(start, end),
+        Number::MISPLACED => Reading::Misplaced(start, end, detail),
+        Number::ESCAPE => Reading::Escape(start, end, detail),
+        Number::LARGE => Reading::Large(start, end),
+        _ => Reading::Depth(start, end),
     }
 }
 

@@ -40,6 +40,12 @@ returns c =
           (Steps.known body (pre′ .0 .stands) refl (λ xs t. array-pattern-closes g (args′ .c) xs (args′ .n) (args′ .m) (args′ .rest) name (args′ .c .kind) t) Steps.here);
     }
 
+cast-put-array-pattern : tie.Need-cast-put-array-pattern
+cast-put-array-pattern c = search needs
+
+cast-put-array-pattern-2 : tie.Need-cast-put-array-pattern-2
+cast-put-array-pattern-2 c = search needs
+
 sub-put-array-pattern : tie.Need-sub-put-array-pattern
 sub-put-array-pattern c = search needs
 
@@ -56,7 +62,7 @@ put-array-pattern-requires c κs =
     let pre′ = c .before .before .before .before .before .before .before .before .pre in
     let args′ = c .before .before .before .before .before .before .before .before .args in
     let moved = eat′ .ensures .moved _ _ _ (a′ .given .1) in
-    (omega (arith, moved .1, fits (pre′ .0)), few (pre′ .0) (pre′ .1), few (pre′ .0) (pre′ .2), omega (arith, lent-short (args′ .src .now) (args′ .name .start) (args′ .name .end) (pre′ .0 .short) (pre′ .4)))
+    (omega (arith, moved .1, fits (pre′ .0)), few (pre′ .0) (pre′ .1), few (pre′ .0) (pre′ .2), omega (arith, lent-short (args′ .src .now) (args′ .name .start) (args′ .name .end) (pre′ .0 .stands .short) (pre′ .4)))
 
 same-length : tie.Need-same-length
 same-length c = search needs
@@ -82,4 +88,4 @@ returns-2 c =
     }
 
 pub array-pattern-close-spec : {M : Type 1} → statement M
-array-pattern-close-spec = tie.close (tie.spec eat-requires enum-known-a enum-told returns sub-put-array-pattern part-put-array-pattern-start part-put-array-pattern-end put-array-pattern-requires same-length returns-2)
+array-pattern-close-spec = tie.close (tie.spec eat-requires enum-known-a enum-told returns cast-put-array-pattern cast-put-array-pattern-2 sub-put-array-pattern part-put-array-pattern-start part-put-array-pattern-end put-array-pattern-requires same-length returns-2)

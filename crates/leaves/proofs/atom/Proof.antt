@@ -65,6 +65,12 @@ parse-number-requires c κs = search needs
 eat-any-requires-7 : tie.Need-eat-any-requires-7
 eat-any-requires-7 c κs = search needs
 
+cast-put-name : tie.Need-cast-put-name
+cast-put-name c = search needs
+
+cast-put-name-2 : tie.Need-cast-put-name-2
+cast-put-name-2 c = search needs
+
 sub-put-name : tie.Need-sub-put-name
 sub-put-name c =
     let pre′ = c .before .before .before .before .before .pre in
@@ -242,4 +248,4 @@ returns-10 c =
     }
 
 pub atom-spec : {M : Type 1} → statement M
-atom-spec = tie.close (tie.spec eat-any-requires put-kind-requires eat-any-requires-2 put-kind-requires-2 eat-any-requires-3 put-kind-requires-3 eat-any-requires-4 put-none-requires eat-any-requires-5 put-flag-requires eat-any-requires-6 put-flag-requires-2 parse-number-requires eat-any-requires-7 sub-put-name part-put-name-start part-put-name-end put-name-requires is-string-token-requires parse-string-content-requires same-length returns error-requires same-length-2 returns-2 same-length-3 returns-3 same-length-4 returns-4 same-length-5 returns-5 same-length-6 returns-6 same-length-7 returns-7 same-length-8 returns-8 same-length-9 returns-9 returns-10)
+atom-spec = tie.close (tie.spec eat-any-requires put-kind-requires eat-any-requires-2 put-kind-requires-2 eat-any-requires-3 put-kind-requires-3 eat-any-requires-4 put-none-requires eat-any-requires-5 put-flag-requires eat-any-requires-6 put-flag-requires-2 parse-number-requires eat-any-requires-7 cast-put-name cast-put-name-2 sub-put-name part-put-name-start part-put-name-end put-name-requires is-string-token-requires parse-string-content-requires same-length returns error-requires same-length-2 returns-2 same-length-3 returns-3 same-length-4 returns-4 same-length-5 returns-5 same-length-6 returns-6 same-length-7 returns-7 same-length-8 returns-8 same-length-9 returns-9 returns-10)

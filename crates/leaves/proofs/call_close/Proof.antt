@@ -42,7 +42,7 @@ put-call-requires c κs =
     let pre′ = c .before .before .before .before .before .before .before .before .before .pre in
     let moved = eat′ .ensures .moved _ _ _ (a′ .given .1) in
     let inside = lies (pre′ .0 .stands) .within in
-    (omega (arith, moved .1, fits (pre′ .0)), pre′ .1, omega (arith, moved .2, inside, pre′ .0 .short), few (pre′ .0) (pre′ .2), few (pre′ .0) (pre′ .3))
+    (omega (arith, moved .1, fits (pre′ .0)), pre′ .1, omega (arith, moved .2, inside, pre′ .0 .stands .short), few (pre′ .0) (pre′ .2), few (pre′ .0) (pre′ .3))
 
 eat-any-requires : tie.Need-eat-any-requires
 eat-any-requires c κs =
@@ -81,7 +81,7 @@ put-call-requires-2 c κs =
     let pre′ = c .before .before .before .before .before .before .before .before .before .pre in
     let moved = eat′ .ensures .moved _ _ _ (a′ .given .1) in
     let inside = lies (pre′ .0 .stands) .within in
-    (omega (arith, moved .1, fits (pre′ .0)), pre′ .1, omega (arith, moved .2, inside, pre′ .0 .short), few (pre′ .0) (pre′ .2), few (pre′ .0) (pre′ .3))
+    (omega (arith, moved .1, fits (pre′ .0)), pre′ .1, omega (arith, moved .2, inside, pre′ .0 .stands .short), few (pre′ .0) (pre′ .2), few (pre′ .0) (pre′ .3))
 
 same-length-2 : tie.Need-same-length-2
 same-length-2 c = search needs

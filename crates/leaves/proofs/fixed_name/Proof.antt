@@ -17,6 +17,12 @@ use Rattle.leaves.proofs.Steps
 use Rattle.leaves.proofs.fixed_name.Statement.{statement}
 use Rattle.leaves.proofs.fixed_name.Tie as tie
 
+cast-put-word : tie.Need-cast-put-word
+cast-put-word c = search needs
+
+cast-put-word-2 : tie.Need-cast-put-word-2
+cast-put-word-2 c = search needs
+
 sub-put-word : tie.Need-sub-put-word
 sub-put-word c =
     let pre′ = c .before .before .before .before .before .pre in
@@ -139,4 +145,4 @@ returns-4 c =
     }
 
 pub fixed-name-spec : {M : Type 1} → statement M
-fixed-name-spec = tie.close (tie.spec sub-put-word part-put-word-start part-put-word-end put-word-requires eat-any-requires same-length returns is-string-token-requires error-requires returns-2 parse-string-content-requires enum-known-a enum-told same-length-2 returns-3 same-length-3 returns-4)
+fixed-name-spec = tie.close (tie.spec cast-put-word cast-put-word-2 sub-put-word part-put-word-start part-put-word-end put-word-requires eat-any-requires same-length returns is-string-token-requires error-requires returns-2 parse-string-content-requires enum-known-a enum-told same-length-2 returns-3 same-length-3 returns-4)

@@ -34,6 +34,12 @@ returns c =
           (error′ .ensures);
     }
 
+cast-put-word : tie.Need-cast-put-word
+cast-put-word c = search needs
+
+cast-put-word-2 : tie.Need-cast-put-word-2
+cast-put-word-2 c = search needs
+
 sub-put-word : tie.Need-sub-put-word
 sub-put-word c =
     let pre′ = c .before .before .before .before .before .pre in
@@ -65,7 +71,7 @@ put-index-requires c κs =
     let st = pre′ .0 .stands in
     let places = within (pre′ .0) in
     let size = bytes-short (pre′ .0) in
-    (omega (arith, put-word′ .ensures .to, size, pre′ .0 .room, pre′ .0 .short, st .within), places .0, places .1, pre′ .1)
+    (omega (arith, put-word′ .ensures .to, size, pre′ .0 .room, pre′ .0 .stands .short, st .within), places .0, places .1, pre′ .1)
 
 eat-any-requires : tie.Need-eat-any-requires
 eat-any-requires c κs = search needs
@@ -96,4 +102,4 @@ returns-2 c =
     }
 
 pub member-name-spec : {M : Type 1} → statement M
-member-name-spec = tie.close (tie.spec error-requires returns sub-put-word part-put-word-start part-put-word-end put-word-requires put-index-requires eat-any-requires same-length returns-2)
+member-name-spec = tie.close (tie.spec error-requires returns cast-put-word cast-put-word-2 sub-put-word part-put-word-start part-put-word-end put-word-requires put-index-requires eat-any-requires same-length returns-2)

@@ -29,6 +29,12 @@ add-least c = search needs
 least-requires : tie.Need-least-requires
 least-requires c κs = search needs
 
+cast-plain : tie.Need-cast-plain
+cast-plain c = search needs
+
+cast-plain-2 : tie.Need-cast-plain-2
+cast-plain-2 c = search needs
+
 sub-plain : tie.Need-sub-plain
 sub-plain c =
     let pre′ = c .before .before .before .pre in
@@ -72,7 +78,7 @@ put-head-requires c κs =
     let digits = plain (slice (args′ .c .start) (args′ .c .end) src) in
     let st = pre′ .0 .stands in
     let short = means-short {t = digits} st (pre′ .1) (means-number (pre′ .2)) in
-    (omega (arith, fits (pre′ .0)), omega (arith, count, short, lies st .within, pre′ .0 .short))
+    (omega (arith, fits (pre′ .0)), omega (arith, count, short, lies st .within, pre′ .0 .stands .short))
 
 eat-any-requires : tie.Need-eat-any-requires
 eat-any-requires c κs = search needs
@@ -89,7 +95,7 @@ add-t10 c =
     let digits = plain (slice (args′ .c .start) (args′ .c .end) src) in
     let st = pre′ .0 .stands in
     let short = means-short {t = digits} st (pre′ .1) (means-number (pre′ .2)) in
-    omega (arith, count, short, lies st .within, pre′ .0 .short, fits (pre′ .0), put-head′ .ensures .to)
+    omega (arith, count, short, lies st .within, pre′ .0 .stands .short, fits (pre′ .0), put-head′ .ensures .to)
 
 same-length : tie.Need-same-length
 same-length c = search needs
@@ -120,4 +126,4 @@ returns c =
     }
 
 pub number-in-range-spec : {M : Type 1} → statement M
-number-in-range-spec = tie.close (tie.spec add-least least-requires sub-plain part-plain-start part-plain-end sub-plain-2 part-plain-start-2 part-plain-end-2 plain-requires put-head-requires eat-any-requires add-t10 same-length returns)
+number-in-range-spec = tie.close (tie.spec add-least least-requires cast-plain cast-plain-2 sub-plain part-plain-start part-plain-end sub-plain-2 part-plain-start-2 part-plain-end-2 plain-requires put-head-requires eat-any-requires add-t10 same-length returns)

@@ -40,6 +40,12 @@ returns c =
           (Steps.known body (pre′ .0 .stands) refl (λ xs t. object-pattern-closes g (args′ .c) xs (args′ .n) (args′ .rest) name (args′ .c .kind) t) Steps.here);
     }
 
+cast-put-object-pattern : tie.Need-cast-put-object-pattern
+cast-put-object-pattern c = search needs
+
+cast-put-object-pattern-2 : tie.Need-cast-put-object-pattern-2
+cast-put-object-pattern-2 c = search needs
+
 sub-put-object-pattern : tie.Need-sub-put-object-pattern
 sub-put-object-pattern c = search needs
 
@@ -56,7 +62,7 @@ put-object-pattern-requires c κs =
     let pre′ = c .before .before .before .before .before .before .before .before .pre in
     let args′ = c .before .before .before .before .before .before .before .before .args in
     let moved = eat′ .ensures .moved _ _ _ (a′ .given .1) in
-    (omega (arith, moved .1, fits (pre′ .0)), few (pre′ .0) (pre′ .1), omega (arith, lent-short (args′ .src .now) (args′ .name .start) (args′ .name .end) (pre′ .0 .short) (pre′ .3)))
+    (omega (arith, moved .1, fits (pre′ .0)), few (pre′ .0) (pre′ .1), omega (arith, lent-short (args′ .src .now) (args′ .name .start) (args′ .name .end) (pre′ .0 .stands .short) (pre′ .3)))
 
 same-length : tie.Need-same-length
 same-length c = search needs
@@ -82,4 +88,4 @@ returns-2 c =
     }
 
 pub object-pattern-close-spec : {M : Type 1} → statement M
-object-pattern-close-spec = tie.close (tie.spec eat-requires enum-known-a enum-told returns sub-put-object-pattern part-put-object-pattern-start part-put-object-pattern-end put-object-pattern-requires same-length returns-2)
+object-pattern-close-spec = tie.close (tie.spec eat-requires enum-known-a enum-told returns cast-put-object-pattern cast-put-object-pattern-2 sub-put-object-pattern part-put-object-pattern-start part-put-object-pattern-end put-object-pattern-requires same-length returns-2)

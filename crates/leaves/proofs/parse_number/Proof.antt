@@ -7,6 +7,12 @@ use Rattle.leaves.proofs.Underscores.{judged-large, judged-in-range}
 use Rattle.leaves.proofs.parse_number.Statement.{statement}
 use Rattle.leaves.proofs.parse_number.Tie as tie
 
+cast-too-large : tie.Need-cast-too-large
+cast-too-large c = search needs
+
+cast-too-large-2 : tie.Need-cast-too-large-2
+cast-too-large-2 c = search needs
+
 sub-too-large : tie.Need-sub-too-large
 sub-too-large c = lies (c .before .before .pre .0 .stands) .on
 
@@ -43,4 +49,4 @@ returns-2 c = search needs
 
 pub parse-number-spec : {M : Type 1} → statement M
 parse-number-spec =
-    tie.close (tie.spec sub-too-large part-too-large-start part-too-large-end too-large-requires error-requires returns number-in-range-requires same-length returns-2)
+    tie.close (tie.spec cast-too-large cast-too-large-2 sub-too-large part-too-large-start part-too-large-end too-large-requires error-requires returns number-in-range-requires same-length returns-2)

@@ -37,6 +37,9 @@ decode-requires c κs = search needs
 enum-known-d : tie.Need-enum-known-d
 enum-known-d c = search needs
 
+cast-error : tie.Need-cast-error
+cast-error c = search needs
+
 add-error : tie.Need-add-error
 add-error c =
     let pre′ = c .before .before .before .before .before .before .before .before .before .before .before .pre in
@@ -65,13 +68,13 @@ put-head-requires c κs =
     let text′ = found (decode′ .ensures) (d′ .given .1) in
     let st = pre′ .0 .stands in
     let short = means-short st refl (text′ .1) in
-    (omega (arith, fits (pre′ .0)), omega (arith, text′ .2, short, lies st .within, pre′ .0 .short))
+    (omega (arith, fits (pre′ .0)), omega (arith, text′ .2, short, lies st .within, pre′ .0 .stands .short))
 
 eat-any-requires : tie.Need-eat-any-requires
 eat-any-requires c κs = search needs
 
-add-t21 : tie.Need-add-t21
-add-t21 c =
+add-t22 : tie.Need-add-t22
+add-t22 c =
     let decode′ = c .before .before .before .before .before .before .before .before .before .before .decode in
     let d′ = c .before .before .before .before .before .before .d2 in
     let pre′ = c .before .before .before .before .before .before .before .before .before .before .before .before .before .before .before .pre in
@@ -79,7 +82,7 @@ add-t21 c =
     let text′ = found (decode′ .ensures) (d′ .given .1) in
     let st = pre′ .0 .stands in
     let short = means-short st refl (text′ .1) in
-    omega (arith, text′ .2, short, lies st .within, pre′ .0 .short, fits (pre′ .0), put-head′ .ensures .to)
+    omega (arith, text′ .2, short, lies st .within, pre′ .0 .stands .short, fits (pre′ .0), put-head′ .ensures .to)
 
 same-length : tie.Need-same-length
 same-length c = search needs
@@ -118,4 +121,4 @@ returns-2 c =
     }
 
 pub parse-string-content-spec : {M : Type 1} → statement M
-parse-string-content-spec = tie.close (tie.spec add-least least-requires sub-decode part-decode-start part-decode-end decode-requires enum-known-d add-error add-error-2 error-requires enum-known-d-2 put-head-requires eat-any-requires add-t21 same-length returns same-length-2 returns-2)
+parse-string-content-spec = tie.close (tie.spec add-least least-requires sub-decode part-decode-start part-decode-end decode-requires enum-known-d cast-error add-error add-error-2 error-requires enum-known-d-2 put-head-requires eat-any-requires add-t22 same-length returns same-length-2 returns-2)

@@ -13,6 +13,12 @@ use native.Mathlib.Omega.{arith}
 use Rattle.leaves.proofs.pattern_atom.Statement.{statement}
 use Rattle.leaves.proofs.pattern_atom.Tie as tie
 
+cast-put-name : tie.Need-cast-put-name
+cast-put-name c = search needs
+
+cast-put-name-2 : tie.Need-cast-put-name-2
+cast-put-name-2 c = search needs
+
 sub-put-name : tie.Need-sub-put-name
 sub-put-name c =
     let pre′ = c .before .before .before .before .pre in
@@ -115,4 +121,4 @@ returns-4 c =
     }
 
 pub pattern-atom-spec : {M : Type 1} → statement M
-pattern-atom-spec = tie.close (tie.spec sub-put-name part-put-name-start part-put-name-end put-name-requires eat-any-requires same-length returns has-destruct-requires error-requires returns-2 put-none-requires eat-any-requires-2 same-length-2 returns-3 error-requires-2 returns-4)
+pattern-atom-spec = tie.close (tie.spec cast-put-name cast-put-name-2 sub-put-name part-put-name-start part-put-name-end put-name-requires eat-any-requires same-length returns has-destruct-requires error-requires returns-2 put-none-requires eat-any-requires-2 same-length-2 returns-3 error-requires-2 returns-4)

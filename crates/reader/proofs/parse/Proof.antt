@@ -13,7 +13,7 @@ cursor-at-requires c κs = search needs
 expr-requires : tie.Need-expr-requires
 expr-requires c κs =
     let pre′ = c .before .before .before .before .pre in
-    record { short = pre′ .short; stands = c .cursor-at .ensures .1; room = omega arith }
+    record { stands = c .cursor-at .ensures .1; room = omega arith }
 
 enum-known-a : tie.Need-enum-known-a
 enum-known-a c = search needs

@@ -6,7 +6,7 @@ use lib.Dec.{lit≤}
 use lib.Seq.{slice}
 use mathlib.Core.Path.{_≡_}
 use mathlib.Core.List.{List, [], _∷_}
-use Prim.Native.Nat.{ℕ, _+_, _-_}
+use Prim.Native.Nat.{ℕ, _+_, _-_, _<_, _^_}
 use Rattle.leaves.proofs.Steps
 use Rattle.phrases.proofs.arg.Reads.{Post}
 use Rattle.phrases.proofs.+arg+args+array+assert+basic+bind+body+chain+claim+comp+cond+each+ends+expr+field+func+index+init+inside+item+link+load+local+member+name+obj+param+params+pat+rest+rhs+safe+sign+slice+spec+specs+step+value.Lts-arg as lts
@@ -18,7 +18,7 @@ use Rattle.grammar.specs.Productions.{Body, goto, end, close, _▸_, expression
 use Rattle.leaves.specs.Meets.{state, Seg}
 use Rattle.leaves.specs.declared.Cursor.{Cursor}
 use Rattle.leaves.proofs.LexemeLaws.{lies}
-use Rattle.leaves.proofs.LeafLaws.{bytes-short}
+use Rattle.leaves.proofs.LeafLaws.{bytes-short, within}
 use Rattle.leaves.proofs.PartLaws.{wrote-lent}
 use Rattle.phrases.proofs.SuffixLaws.{is-named, argues-plain, argues-fault, argues-named, name-taken, name-closed}
 
@@ -55,6 +55,16 @@ module _ (t : ℕ) where
   -- ── What each call asks ─────────────────────────────────────────────────────────────────────────
   expr-requires-2 : lts.Need-expr-requires-2 (K t) (P t) Post
   expr-requires-2 c κs = let p = a₂ c .pre in (omega (arith, p .0), Steps.ready (p .1 .0) (omega arith) (headed c))
+
+  cast-put-word : lts.Need-cast-put-word (K t) (P t) Post
+  cast-put-word c =
+      let a = a₃ (c .before .before) in let fits : a .args .c .start < 2 ^ 64 = omega (arith, within (a .pre .1 .0) .0) in
+      record { fits = fits }
+
+  cast-put-word-2 : lts.Need-cast-put-word-2 (K t) (P t) Post
+  cast-put-word-2 c =
+      let a = a₃ (c .before .before) in let fits : a .args .c .end < 2 ^ 64 = omega (arith, within (a .pre .1 .0) .1) in
+      record { fits = fits }
 
   sub-put-word : lts.Need-sub-put-word (K t) (P t) Post
   sub-put-word c = lies (a₃ (c .before .before) .pre .1 .0 .stands) .on
@@ -97,4 +107,4 @@ module _ (t : ℕ) where
   -- All of them, in the order of the code.
   pub met : {M : Type 1} → lts.Closed (K t) (P t) Post M
   met = lts.spec (K t) (P t) Post (λ c κs. search needs) returns (λ c κs. search needs) (λ c. search needs) returns-2 (λ c κs. search needs) (λ c κs. search needs) expr-requires-2
-      (λ c. search needs) (λ c. search needs) (λ c. search needs) returns-3 sub-put-word sub-put-word part-put-word-end put-word-requires (λ c. search needs) returns-4
+      (λ c. search needs) (λ c. search needs) (λ c. search needs) returns-3 cast-put-word cast-put-word-2 sub-put-word sub-put-word part-put-word-end put-word-requires (λ c. search needs) returns-4

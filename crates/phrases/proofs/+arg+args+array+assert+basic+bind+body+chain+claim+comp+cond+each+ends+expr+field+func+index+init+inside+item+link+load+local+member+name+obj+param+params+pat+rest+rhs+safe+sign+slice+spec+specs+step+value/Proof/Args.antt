@@ -93,10 +93,10 @@ module _ (t : ℕ) where
   sub-unnamed c = few (c .before)
 
   add-unnamed : lts.Need-add-unnamed (K t) (P t) Post Inv-loop μ-loop
-  add-unnamed c = let i = l₂ (c .before) .loop .inv in omega (arith, i .1, few (c .before), i .0 .ok .short, i .0 .ok .stands .within)
+  add-unnamed c = let i = l₂ (c .before) .loop .inv in omega (arith, i .1, few (c .before), i .0 .ok .stands .short, i .0 .ok .stands .within)
 
   add-named : lts.Need-add-named (K t) (P t) Post Inv-loop μ-loop
-  add-named c = let i = l₂ (c .before) .loop .inv in omega (arith, i .1, few (c .before), i .0 .ok .short, i .0 .ok .stands .within)
+  add-named c = let i = l₂ (c .before) .loop .inv in omega (arith, i .1, few (c .before), i .0 .ok .stands .short, i .0 .ok .stands .within)
 
   -- ── The loop, and what each return owes ─────────────────────────────────────────────────────────
   loop-holds : lts.Need-loop-holds (K t) (P t) Post Inv-loop μ-loop

@@ -161,6 +161,6 @@ module _ (t : ℕ) where
 
   -- All of them, in the order of the code.
   pub met : {M : Type 1} → lts.Closed (K t) (P t) Post M
-  met = lts.spec (K t) (P t) Post (λ c κs. search needs) (λ c. search needs) (λ c. search needs) (λ c. search needs) returns rhs-requires (λ c. search needs) returns-2 sub-put-name sub-put-name
+  met = lts.spec (K t) (P t) Post (λ c κs. search needs) (λ c. search needs) (λ c. search needs) (λ c. search needs) returns rhs-requires (λ c. search needs) returns-2 (λ c. search needs) (λ c. search needs) sub-put-name sub-put-name
       part-put-name-end put-name-requires (λ c κs. search needs) rhs-requires-2 (λ c. search needs) returns-3 (λ c κs. search needs) params-requires (λ c. search needs) (λ c. search needs)
       (λ c. search needs) returns-4 eat-requires (λ c. search needs) (λ c. search needs) (λ c. search needs) returns-5 rhs-requires-3 same-length-6 returns-6

@@ -60,7 +60,7 @@ module _ (t : ℕ) where
       let e = c .before in
       let a = e .before .before in
       let p = a₁ a .pre .1 in
-      (Steps.fits (p .0) (lit≤ tt) (read e), few (p .0) (p .2), omega (arith, listed a .1, read e .stands (p .0 .stands) .within, p .0 .short))
+      (Steps.fits (p .0) (lit≤ tt) (read e), few (p .0) (p .2), omega (arith, listed a .1, read e .stands (p .0 .stands) .within, p .0 .stands .short))
 
   -- ── What each return owes ───────────────────────────────────────────────────────────────────────
   returns : lts.Need-returns (K t) (P t) Post

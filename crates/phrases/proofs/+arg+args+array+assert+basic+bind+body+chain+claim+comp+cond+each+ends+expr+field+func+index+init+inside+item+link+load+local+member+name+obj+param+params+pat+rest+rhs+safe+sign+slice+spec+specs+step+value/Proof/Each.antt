@@ -4,7 +4,7 @@ use native.Mathlib.Omega.{arith}
 use lib.Dec.{lit<, lit≤}
 use lib.Seq.{slice}
 use mathlib.Core.List.{List, [], _∷_}
-use Prim.Native.Nat.{ℕ, _+_, _-_}
+use Prim.Native.Nat.{ℕ, _+_, _-_, _<_, _^_}
 use Rattle.leaves.proofs.Steps
 use Rattle.phrases.proofs.each.Reads.{Post}
 use Rattle.phrases.proofs.+arg+args+array+assert+basic+bind+body+chain+claim+comp+cond+each+ends+expr+field+func+index+init+inside+item+link+load+local+member+name+obj+param+params+pat+rest+rhs+safe+sign+slice+spec+specs+step+value.Lts-each as lts
@@ -86,6 +86,16 @@ module _ (t : ℕ) where
   expr-requires : lts.Need-expr-requires (K t) (P t) Post
   expr-requires c κs = let p = a₁ (h₂ (c .before .before .before .before .before .before)) .pre in (omega (arith, p .0), Steps.ready (p .1 .0) (omega arith) (opened (c .before .before)))
 
+  cast-put-iteration : lts.Need-cast-put-iteration (K t) (P t) Post
+  cast-put-iteration c =
+      let h = h₄ (c .before .before) in let fits : key h .start < 2 ^ 64 = omega (arith, lies (stood h) .on, lies (stood h) .within, stood h .short) in
+      record { fits = fits }
+
+  cast-put-iteration-2 : lts.Need-cast-put-iteration-2 (K t) (P t) Post
+  cast-put-iteration-2 c =
+      let h = h₄ (c .before .before) in let fits : key h .end < 2 ^ 64 = omega (arith, lies (stood h) .within, stood h .short) in
+      record { fits = fits }
+
   sub-put-iteration : lts.Need-sub-put-iteration (K t) (P t) Post
   sub-put-iteration c = lies (stood (h₄ (c .before .before))) .on
 
@@ -98,7 +108,7 @@ module _ (t : ℕ) where
   put-iteration-requires : lts.Need-put-iteration-requires (K t) (P t) Post
   put-iteration-requires c κs =
       let h = h₄ (c .before .before .before) in let r = a₁ h .pre .1 .0 in
-      let short = lent-short (a₁ h .args .src .now) (key h .start) (key h .end) (r .short) (lies (stood h) .within) in
+      let short = lent-short (a₁ h .args .src .now) (key h .start) (key h .end) (r .stands .short) (lies (stood h) .within) in
       (Steps.fits r (lit≤ tt) (value (c .before .before .before)), omega (arith, short))
 
   -- ── What each return owes ────────────────────────────────────────────────────────────────────────
@@ -124,4 +134,4 @@ module _ (t : ℕ) where
   pub met : {M : Type 1} → lts.Closed (K t) (P t) Post M
   met = lts.spec (K t) (P t) Post (λ c κs. search needs) returns (λ c κs. search needs) (λ c κs. search needs) (λ c κs. search needs) (λ c κs. search needs) (λ c κs. search needs) pat-requires
       (λ c. search needs) (λ c. search needs) (λ c. search needs) returns-2 eat-requires (λ c. search needs) (λ c. search needs) (λ c. search needs) returns-3 expr-requires (λ c. search needs)
-      (λ c. search needs) (λ c. search needs) returns-4 sub-put-iteration part-put-iteration-start part-put-iteration-end put-iteration-requires same-length-4 returns-5
+      (λ c. search needs) (λ c. search needs) returns-4 cast-put-iteration cast-put-iteration-2 sub-put-iteration part-put-iteration-start part-put-iteration-end put-iteration-requires same-length-4 returns-5

@@ -85,7 +85,7 @@ module _ (t : ℕ) where
   pat-requires c κs = let l = c .before .before .before .before .before .before in (omega (arith, a₁ l .pre .0), Steps.ready (l .loop .inv .2 .ok) (lit≤ tt) (comma (c .before .before .before)))
 
   add-m : lts.Need-add-m (K t) (P t) Post Inv-loop μ-loop
-  add-m c = let i = l₂ (c .before) .loop .inv in omega (arith, i .3, i .2 .ok .stands .within, i .2 .ok .short)
+  add-m c = let i = l₂ (c .before) .loop .inv in omega (arith, i .3, i .2 .ok .stands .within, i .2 .ok .stands .short)
 
   loop-less : lts.Need-loop-less (K t) (P t) Post Inv-loop μ-loop
   loop-less c = Steps.closer (l₂ (c .before) .loop .inv .2 .ok) (lit≤ tt) (one (c .before))

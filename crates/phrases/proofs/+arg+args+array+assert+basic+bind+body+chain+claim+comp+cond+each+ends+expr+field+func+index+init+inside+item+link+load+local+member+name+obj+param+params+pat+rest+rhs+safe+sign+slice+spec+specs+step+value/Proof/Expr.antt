@@ -96,7 +96,7 @@ module _ (t : ℕ) where
   put-kind-requires c κs =
       let d = c .before .before in let p = b₄ d .before .before .before .loop .inv .ok in
       let l = lies (p .stands) in let z = value d .stands (p .stands) .within in
-      (Steps.fits p (lit≤ tt) (value d), omega (arith, l .from, l .on, l .within, z, p .short), omega (arith, l .from, l .on, l .within, z, p .short))
+      (Steps.fits p (lit≤ tt) (value d), omega (arith, l .from, l .on, l .within, z, p .stands .short), omega (arith, l .from, l .on, l .within, z, p .stands .short))
 
   loop-less : lts.Need-loop-less (K t) (P t) Post Inv-loop μ-loop
   loop-less c = let x = c .before .before in Steps.closer (b₄ (x .before .before .before) .before .before .before .loop .inv .ok) (lit≤ tt) (joined x)

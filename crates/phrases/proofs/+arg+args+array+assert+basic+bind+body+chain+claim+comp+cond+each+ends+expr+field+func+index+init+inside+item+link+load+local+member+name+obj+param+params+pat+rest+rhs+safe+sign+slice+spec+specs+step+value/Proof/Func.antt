@@ -83,7 +83,7 @@ module _ (t : ℕ) where
   put-function-requires c κs =
       let b = d₅ (c .before .before) .before .before .before .before in let r = a₂ (a₃ b) .pre .1 .0 in
       let few = Steps.counted (b .before .before .before .before .params .ensures) (b .b .given .1) .1 in
-      (Steps.fits r (lit≤ tt) (value (c .before .before)), within r .0, within r .1, omega (arith, few, listed b .stands (r .stands) .within, r .short))
+      (Steps.fits r (lit≤ tt) (value (c .before .before)), within r .0, within r .1, omega (arith, few, listed b .stands (r .stands) .within, r .stands .short))
 
   -- ── What each return owes ────────────────────────────────────────────────────────────────────────
   returns : lts.Need-returns (K t) (P t) Post

@@ -92,7 +92,7 @@ module _ (t : ℕ) where
   slice-requires-2 : lts.Need-slice-requires-2 (K t) (P t) Post
   slice-requires-2 c κs =
       let p = a₃ (c₄ c) .pre in let r = p .1 .0 in
-      (omega (arith, p .0), (Steps.ready r (lit≤ tt) (colon c), lit≤ tt, within r .0, omega (arith, there (c₄ c) .within, r .short)))
+      (omega (arith, p .0), (Steps.ready r (lit≤ tt) (colon c), lit≤ tt, within r .0, omega (arith, there (c₄ c) .within, r .stands .short)))
 
   eat-requires : lts.Need-eat-requires (K t) (P t) Post
   eat-requires c κs = (lit< tt, there (c .before .before .before))
@@ -100,7 +100,7 @@ module _ (t : ℕ) where
   put-index-requires : lts.Need-put-index-requires (K t) (P t) Post
   put-index-requires c κs =
       let v = c₆ (c .before .before) in let p = a₃ v .pre .1 in
-      (Steps.fits (p .0) (lit≤ tt) (over (c .before .before)), within (p .0) .0, omega (arith, there v .within, p .0 .short), p .1)
+      (Steps.fits (p .0) (lit≤ tt) (over (c .before .before)), within (p .0) .0, omega (arith, there v .within, p .0 .stands .short), p .1)
 
   -- ── What each return owes ────────────────────────────────────────────────────────────────────────
   returns : lts.Need-returns (K t) (P t) Post

@@ -64,9 +64,9 @@ module _ (t : ℕ) where
   put-pattern-field-requires-2 : lts.Need-put-pattern-field-requires-2 (K t) (P t) Post
   put-pattern-field-requires-2 c κs =
       let v = c .before .before .before in let a = a₁ (c₁ v) in let r = a .pre .1 .0 in
-      let short = lent-short (a .args .src .now) (a .args .name .start) (a .args .name .end) (r .short) (a .pre .1 .2) in
+      let short = lent-short (a .args .src .now) (a .args .name .start) (a .args .name .end) (r .stands .short) (a .pre .1 .2) in
       let from = within (Steps.ready r (lit≤ tt) (opened (c₁ v))) .0 in
-      (Steps.fits r (lit≤ tt) (value v), from, omega (arith, value v .stands (r .stands) .within, r .short), omega (arith, short))
+      (Steps.fits r (lit≤ tt) (value v), from, omega (arith, value v .stands (r .stands) .within, r .stands .short), omega (arith, short))
 
   -- ── What each return owes ────────────────────────────────────────────────────────────────────────
   returns : lts.Need-returns (K t) (P t) Post
@@ -95,5 +95,5 @@ module _ (t : ℕ) where
 
   -- All of them, in the order of the code.
   pub met : {M : Type 1} → lts.Closed (K t) (P t) Post M
-  met = lts.spec (K t) (P t) Post (λ c. search needs) (λ c. search needs) (λ c. search needs) (λ c κs. search needs) (λ c. search needs) returns (λ c κs. search needs) expr-requires
-      (λ c. search needs) (λ c. search needs) (λ c. search needs) returns-2 (λ c. search needs) (λ c. search needs) (λ c. search needs) put-pattern-field-requires-2 (λ c. search needs) returns-3
+  met = lts.spec (K t) (P t) Post (λ c. search needs) (λ c. search needs) (λ c. search needs) (λ c. search needs) (λ c. search needs) (λ c κs. search needs) (λ c. search needs) returns (λ c κs. search needs) expr-requires
+      (λ c. search needs) (λ c. search needs) (λ c. search needs) returns-2 (λ c. search needs) (λ c. search needs) (λ c. search needs) (λ c. search needs) (λ c. search needs) put-pattern-field-requires-2 (λ c. search needs) returns-3

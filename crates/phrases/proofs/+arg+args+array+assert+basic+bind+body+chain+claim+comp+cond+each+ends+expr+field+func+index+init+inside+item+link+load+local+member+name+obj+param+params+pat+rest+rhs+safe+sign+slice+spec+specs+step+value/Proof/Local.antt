@@ -70,7 +70,7 @@ module _ (t : ℕ) where
   bind-requires c κs = let l = l₁ (c .before) in (omega (arith, l .before .before .before .pre .0), l .loop .inv .0 .ok)
 
   add-n : lts.Need-add-n (K t) (P t) Post Inv-loop μ-loop
-  add-n c = let i = l₃ (c .before) .loop .inv in omega (arith, i .1, i .0 .ok .stands .within, i .0 .ok .short)
+  add-n c = let i = l₃ (c .before) .loop .inv in omega (arith, i .1, i .0 .ok .stands .within, i .0 .ok .stands .short)
 
   body-requires-2 : lts.Need-body-requires-2 (K t) (P t) Post Inv-loop μ-loop
   body-requires-2 c κs =

@@ -71,7 +71,7 @@ module _ (t : ℕ) where
   returns-2 c = let p = c .before .before .before .before in let e = p .before .before in passed-counting (Steps.takes-broken (p .param .ensures .takes) (c .before .match .keys2)) (Steps.then (l₁ e .loop .inv .0 .seg) (one e))
 
   add-n : lts.Need-add-n (K t) (P t) Post Inv-loop μ-loop
-  add-n c = let i = l₃ (c .before) .loop .inv in omega (arith, i .1, i .0 .ok .stands .within, i .0 .ok .short)
+  add-n c = let i = l₃ (c .before) .loop .inv in omega (arith, i .1, i .0 .ok .stands .within, i .0 .ok .stands .short)
 
   returns-3 : lts.Need-returns-3 (K t) (P t) Post Inv-loop μ-loop
   unfolding rule choose has sight

@@ -136,7 +136,7 @@ module _ (t : ℕ) where
   pat-requires c κs = let l = l₁ (c .before) in (omega (arith, b₀ l .pre .0, a₂ l .before .if4 .left), l .loop .inv .0 .ok)
 
   add-n : lts.Need-add-n (K t) (P t) Post Inv-loop μ-loop
-  add-n c = let i = l₃ (c .before) .loop .inv in omega (arith, i .1, i .0 .ok .stands .within, i .0 .ok .short)
+  add-n c = let i = l₃ (c .before) .loop .inv in omega (arith, i .1, i .0 .ok .stands .within, i .0 .ok .stands .short)
 
   array-pattern-close-requires-2 : lts.Need-array-pattern-close-requires-2 (K t) (P t) Post Inv-loop μ-loop
   array-pattern-close-requires-2 c κs =

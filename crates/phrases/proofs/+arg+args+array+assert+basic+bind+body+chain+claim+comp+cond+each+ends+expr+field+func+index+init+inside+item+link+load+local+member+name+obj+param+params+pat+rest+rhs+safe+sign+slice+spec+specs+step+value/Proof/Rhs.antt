@@ -43,7 +43,7 @@ module _ (t : ℕ) where
   expr-requires c κs = let a = c .before .before in let p = a₀ a .pre in (omega (arith, p .0), Steps.ready (p .1 .0) (lit≤ tt) (assigned 0 a))
 
   put-bind-requires : lts.Need-put-bind-requires (K t) (P t) Post
-  put-bind-requires c κs = let b = c .before .before in let p = a₀ (c₂ b) .pre .1 in (Steps.fits (p .0) (lit≤ tt) (value 0 b), omega (arith, p .1, p .0 .stands .within, p .0 .short))
+  put-bind-requires c κs = let b = c .before .before in let p = a₀ (c₂ b) .pre .1 in (Steps.fits (p .0) (lit≤ tt) (value 0 b), omega (arith, p .1, p .0 .stands .within, p .0 .stands .short))
 
   -- ── What each return owes ───────────────────────────────────────────────────────────────────────
   returns : lts.Need-returns (K t) (P t) Post

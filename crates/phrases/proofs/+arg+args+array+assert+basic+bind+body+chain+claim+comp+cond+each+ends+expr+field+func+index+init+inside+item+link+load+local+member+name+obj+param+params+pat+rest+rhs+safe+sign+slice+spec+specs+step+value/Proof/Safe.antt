@@ -84,7 +84,7 @@ module _ (t : ℕ) where
   put-index-requires c κs =
       let d = c .before .before in let b = c₄ d in let p = a₁ (c₃ b) .pre .1 in
       let i = Steps.ready (p .0) (lit≤ tt) (opened (c₃ b)) in
-      (Steps.fits (p .0) (lit≤ tt) (over d), within i .0, omega (arith, read b .stands (p .0 .stands) .within, p .0 .short), p .1)
+      (Steps.fits (p .0) (lit≤ tt) (over d), within i .0, omega (arith, read b .stands (p .0 .stands) .within, p .0 .stands .short), p .1)
 
   -- ── What each return owes ───────────────────────────────────────────────────────────────────────
   returns : lts.Need-returns (K t) (P t) Post

@@ -88,7 +88,7 @@ module _ (t : ℕ) where
   step-requires-2 c κs =
       let a = c₂ c in let p = a₂ a .pre .1 in let st = read 0 a .stands (p .0 .stands) in
       let r = Steps.ready (p .0) (lit≤ tt) (ended 0 c) in
-      (omega (arith, a₂ a .pre .0), (r, omega (arith, p .1), p .2, p .3, within (p .0) .0, omega (arith, st .within, r .short)))
+      (omega (arith, a₂ a .pre .0), (r, omega (arith, p .1), p .2, p .3, within (p .0) .0, omega (arith, st .within, r .stands .short)))
 
   add-slice-close : lts.Need-add-slice-close (K t) (P t) Post
   add-slice-close c = omega (arith, a₂ (c .before .before .before .before) .pre .1 .1)
@@ -97,7 +97,7 @@ module _ (t : ℕ) where
   slice-close-requires-2 c κs =
       let a = c .before .before .before .before in let p = a₂ a .pre .1 in
       let r = Steps.ready (p .0) (lit≤ tt) (read 0 a) in
-      (r, p .2, p .3, within (p .0) .0, omega (arith, r .stands .within, r .short), lit< tt, lit< tt)
+      (r, p .2, p .3, within (p .0) .0, omega (arith, r .stands .within, r .stands .short), lit< tt, lit< tt)
 
   -- ── What each return owes ───────────────────────────────────────────────────────────────────────
   returns : lts.Need-returns (K t) (P t) Post

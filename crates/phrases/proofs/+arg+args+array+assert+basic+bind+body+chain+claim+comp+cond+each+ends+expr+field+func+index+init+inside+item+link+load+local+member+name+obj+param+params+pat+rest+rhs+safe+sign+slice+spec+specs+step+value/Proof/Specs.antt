@@ -95,7 +95,7 @@ module _ (t : ℕ) where
   spec-requires c κs = let l = l₁ c in (omega (arith, a₀ l .pre .0), Steps.ready (l .loop .inv .0 .ok) (lit≤ tt) (past-for c))
 
   add-n : lts.Need-add-n (K t) (P t) Post Inv-loop μ-loop
-  add-n c = let i = l₃ (c .before) .loop .inv in record { fits = omega (arith, i .1, i .0 .ok .short, i .0 .ok .stands .within) }
+  add-n c = let i = l₃ (c .before) .loop .inv in record { fits = omega (arith, i .1, i .0 .ok .stands .short, i .0 .ok .stands .within) }
 
   loop-less : lts.Need-loop-less (K t) (P t) Post Inv-loop μ-loop
   loop-less c = let a = c .before in Steps.closer (l₃ a .loop .inv .0 .ok) (lit≤ tt) (over-for a)
@@ -113,7 +113,7 @@ module _ (t : ℕ) where
       (Steps.fits (Steps.ready ok (lit≤ tt) (past-if (x .before))) (lit≤ tt) (Steps.took (x .expr .ensures) (b .b .given .1) here), within ok .0, within ok .1)
 
   add-n-2 : lts.Need-add-n-2 (K t) (P t) Post Inv-loop μ-loop
-  add-n-2 c = let i = l₇ (c .before .before) .loop .inv in record { fits = omega (arith, i .1, i .0 .ok .short, i .0 .ok .stands .within) }
+  add-n-2 c = let i = l₇ (c .before .before) .loop .inv in record { fits = omega (arith, i .1, i .0 .ok .stands .short, i .0 .ok .stands .within) }
 
   loop-less-2 : lts.Need-loop-less-2 (K t) (P t) Post Inv-loop μ-loop
   loop-less-2 c = let m = c .before .before in Steps.closer (l₇ m .loop .inv .0 .ok) (lit≤ tt) (over-if m)

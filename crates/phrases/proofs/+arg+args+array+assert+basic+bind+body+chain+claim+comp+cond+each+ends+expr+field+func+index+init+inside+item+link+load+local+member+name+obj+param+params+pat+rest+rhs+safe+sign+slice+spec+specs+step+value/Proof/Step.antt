@@ -57,7 +57,7 @@ module _ (t : ℕ) where
   slice-close-requires-2 c κs =
       let a = c .before .before in let p = a₁ a .pre .1 in
       let r = Steps.ready (p .0) (lit≤ tt) (read 0 a) in
-      (r, p .2, p .3, p .4, p .5, within (p .0) .0, omega (arith, r .stands .within, r .short))
+      (r, p .2, p .3, p .4, p .5, within (p .0) .0, omega (arith, r .stands .within, r .stands .short))
 
   -- ── What each return owes ───────────────────────────────────────────────────────────────────────
   returns : lts.Need-returns (K t) (P t) Post
