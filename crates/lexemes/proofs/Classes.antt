@@ -13,7 +13,7 @@ use Rattle.regex.specs.Regex.{END, Rule}
 use Rattle.regex.proofs.Bools.{and, refutes, refuted, and-left, and-right, every, Each, each, all, all-at, implies, implied}
 use Rattle.regex.proofs.Tables.{steps, gives}
 use Rattle.lexemes.specs.Letters.{WHITE, OTHER, letter, next}
-use Rattle.lexemes.specs.Scan.{classOf, asciiClass, classTable, Ran, InWord, Best}
+use Rattle.lexemes.specs.Scan.{classOf, asciiClass, classTable, Ran, InWord, single, Best}
 use Rattle.lexemes.proofs.Letters.{letter-ascii, next-ascii, by-byte, inside}
 use Rattle.lexemes.proofs.Moves.{Sees, notIn, Rest, at-rest, go, stop}
 
@@ -203,3 +203,30 @@ pub no-blank : (b : ℕ) → b < 256 → Rest (13 ∷ 10 ∷ 9 ∷ 32 ∷ []) b 
 no-blank b h r e =
     refuted (eqb (classOf b) 4) (implied 256 (notIn (13 ∷ 10 ∷ 9 ∷ 32 ∷ [])) (λ b. not (eqb (classOf b) 4)) blanks-only b h (at-rest (13 ∷ 10 ∷ 9 ∷ 32 ∷ []) b r))
     (subst (λ (x : ℕ). T (eqb x 4)) (sym e) tt)
+
+-- An operator, by its byte; and what has no class: none of these bytes, no letter, no operator.
+abbrev told : List ℕ
+told = 47 ∷ 35 ∷ 64 ∷ 39 ∷ 34 ∷ 57 ∷ 56 ∷ 55 ∷ 54 ∷ 53 ∷ 52 ∷ 51 ∷ 50 ∷ 49 ∷ 48 ∷ 13 ∷ 10 ∷ 9 ∷ 32 ∷ []
+
+operators-only : T (implies 256 (λ b. not (eqb (single b) 0)) (λ b. eqb (classOf b) 10))
+unfolding implies classOf asciiClass single
+operators-only = tt
+
+pub operator-class : (b : ℕ) → b < 256 → (single b ≡ 0 → ⊥) → classOf b ≡ 10
+operator-class b h n =
+    eqb→eq (classOf b) 10
+    (implied 256 (λ b. not (eqb (single b) 0)) (λ b. eqb (classOf b) 10) operators-only b h (refutes (eqb (single b) 0) (λ t. n (eqb→eq (single b) 0 t))))
+
+abbrev else-none : ℕ → Bool
+else-none b = notIn told b && (not (eqb (classOf b) 1) && eqb (single b) 0)
+
+none-else : T (implies 256 else-none (λ b. eqb (classOf b) 0))
+unfolding implies classOf asciiClass single
+none-else = tt
+
+pub none-begun : (b : ℕ) → b < 256 → Rest (47 ∷ 35 ∷ 64 ∷ 39 ∷ 34 ∷ 57 ∷ 56 ∷ 55 ∷ 54 ∷ 53 ∷ 52 ∷ 51 ∷ 50 ∷ 49 ∷ 48 ∷ 13 ∷ 10 ∷ 9 ∷ 32 ∷ []) b → (classOf b ≡ 1 → ⊥) → single b ≡ 0 → classOf b ≡ 0
+none-begun b h r n z =
+    eqb→eq (classOf b) 0
+    (implied 256 else-none (λ b. eqb (classOf b) 0) none-else b h
+    (and (notIn told b) (not (eqb (classOf b) 1) && eqb (single b) 0) (at-rest told b r)
+    (and (not (eqb (classOf b) 1)) (eqb (single b) 0) (refutes (eqb (classOf b) 1) (λ t. n (eqb→eq (classOf b) 1 t))) (subst (λ (x : ℕ). T (eqb x 0)) (sym z) tt))))

@@ -14,14 +14,12 @@ use lib.Seq.{drop-drop}
 use Rattle.regex.proofs.Bools.{false-is, and, and-left, and-right, or-cases, all, all-at, implies, implied, refuted}
 use Rattle.lexemes.specs.declared.Lexeme.{Lexeme}
 use Rattle.lexemes.specs.declared.kept.Cursor.{Cursor}
-use Rattle.lexemes.specs.Kinds.{EOF, IDENT, STRING-BLOCK, WHITESPACE}
+use Rattle.lexemes.specs.Kinds.{EOF, WHITESPACE}
 use Rattle.lexemes.specs.Lexeme.{LexemeAt, rule, lexeme}
 use Rattle.lexemes.specs.Scan.{classOf, Ran, Alone}
-use Rattle.lexemes.specs.Words.{wordKind, KeywordAt}
 use Rattle.lexemes.specs.Kept.{Lexemes, none, some, droppedKinds, dropped, bad, keep, Kept, first, NextKept, firstBad, FirstBad, Stands, oneOf}
 use Rattle.lexemes.specs.Texts.{textOf}
 use Rattle.lexemes.proofs.Operations.{alone-scanned, alone-low}
-use Rattle.lexemes.proofs.Keywords.{word-scanned, some-word}
 use Rattle.lexemes.proofs.Firsts.{blank-scanned}
 use Rattle.lexemes.proofs.Laws.{lexeme-once, lexeme-bounds, lexeme-always, lexeme-not-eof}
 
@@ -122,22 +120,27 @@ pub data NoneBad : List Lexeme → Type 0 where
   over : NoneBad []
   also : {l : Lexeme} {ls : List Lexeme} → bad (l .kind) ≡ false → NoneBad ls → NoneBad (l ∷ ls)
 
-none-bad-first : (n : ℕ) (ls : List Lexeme) → NoneBad (keep ls) → firstBad n ls ≡ lexeme EOF n n
+-- The first bad one of all is the first of the kept ones.
+first-bad-keep : (n : ℕ) (ls : List Lexeme) → firstBad n (keep ls) ≡ firstBad n ls
 unfolding keep firstBad
-none-bad-first n [] h = refl
-none-bad-first n (l ∷ ls) h = by (dropped (l .kind)) refl h (none-bad-first n ls)
+first-bad-keep n [] = refl
+first-bad-keep n (l ∷ ls) = by (dropped (l .kind)) refl (first-bad-keep n ls)
   where
-    head : NoneBad (l ∷ keep ls) → (bad (l .kind) ≡ false) × NoneBad (keep ls)
-    head (also g r) = (g, r)
+    by : (b : Bool) → dropped (l .kind) ≡ b → firstBad n (keep ls) ≡ firstBad n ls → firstBad n (cond b (keep ls) (l ∷ keep ls)) ≡ cond (bad (l .kind)) l (firstBad n ls)
+    by true e later = later ∙ sym (ap (λ (b : Bool). cond b l (firstBad n ls)) (dropped-good (l .kind) e))
+    by false e later = ap (λ (x : Lexeme). cond (bad (l .kind)) l x) later
 
-    by : (b : Bool) → dropped (l .kind) ≡ b → NoneBad (cond b (keep ls) (l ∷ keep ls)) → (NoneBad (keep ls) → firstBad n ls ≡ lexeme EOF n n)
-        → cond (bad (l .kind)) l (firstBad n ls) ≡ lexeme EOF n n
-    by true e r later = ap (λ (b : Bool). cond b l (firstBad n ls)) (dropped-good (l .kind) e) ∙ later r
-    by false e r later = ap (λ (b : Bool). cond b l (firstBad n ls)) (head r .0) ∙ later (head r .1)
+pub kept-first-bad : {s : List ℕ} {l : Lexeme} {ks : List Lexeme} → Kept s 0 ks → l ≡ firstBad (length s) ks → FirstBad s l
+kept-first-bad {s} k e = record { lexemes = k .lexemes; all = k .all; is-first = e ∙ ap (firstBad (length s)) (k .kept) ∙ first-bad-keep (length s) (k .lexemes) }
+
+none-bad-first : (n : ℕ) {ks : List Lexeme} → NoneBad ks → firstBad n ks ≡ lexeme EOF n n
+unfolding firstBad
+none-bad-first n over = refl
+none-bad-first n (also {l = l} {ls = ls} g r) = ap (λ (b : Bool). cond b l (firstBad n ls)) g ∙ none-bad-first n r
 
 -- Where none of the kept lexemes is bad, none of all is.
 pub kept-none-bad : {s : List ℕ} {ks : List Lexeme} → Kept s 0 ks → NoneBad ks → FirstBad s (lexeme EOF (length s) (length s))
-kept-none-bad {s} k h = record { lexemes = k .lexemes; all = k .all; is-first = sym (none-bad-first (length s) (k .lexemes) (subst NoneBad (k .kept) h)) }
+kept-none-bad {s} k h = kept-first-bad k (sym (none-bad-first (length s) h))
 
 -- A lexeme before a list: dropped or kept.
 module _ {s : List ℕ} {at : ℕ} {l : Lexeme} (h : at < length s) (d : LexemeAt s at l) where
@@ -231,61 +234,39 @@ module _ {s : List ℕ} {at : ℕ} where
     pub skip-end : length s ≤ i → NextKept s at (lexeme EOF at at)
     skip-end h = record { left = []; is-left = m .on (kept-none h); is-first = refl }
 
+-- No lexeme up to a place is bad: the first bad one of those kept from there on is the source's.
 pub record Good (s : List ℕ) (i : ℕ) : Type 0 where
-  pub on : {l : Lexeme} {ls : List Lexeme} → Lexemes s i ls → l ≡ firstBad (length s) ls → FirstBad s l
+  pub on : {l : Lexeme} {ks : List Lexeme} → Kept s i ks → l ≡ firstBad (length s) ks → FirstBad s l
 
-module _ {s : List ℕ} where
-  pub good-start : Good s 0
-  good-start = record { on = λ {l} {ls} m e. record { lexemes = ls; all = m; is-first = e } }
+pub good-start : {s : List ℕ} → Good s 0
+good-start = record { on = λ k e. kept-first-bad k e }
 
-  module _ {i : ℕ} (m : Good s i) where
-    pub good-on : {l : Lexeme} → i < length s → LexemeAt s i l → bad (l .kind) ≡ false → Good s (l .end)
-    unfolding firstBad
-    good-on {l} h d e =
-        record { on = λ {l = b} {ls} x q. m .on (some h d x) (q ∙ sym (ap (λ (t : Bool). cond t l (firstBad (length s) ls)) e)) }
+module _ {s : List ℕ} {i : ℕ} {l : Lexeme} (m : Good s i) (n : NextKept s i l) where
+  pub good-on : (l .kind ≡ EOF → ⊥) → bad (l .kind) ≡ false → Good s (l .end)
+  unfolding firstBad
+  good-on f e =
+      let y = next-some n f in
+      record {
+        on = λ {l = b} {ks} k q. m .on (y .1) (q ∙ ap (firstBad (length s)) (kept-once k (y .2)) ∙ sym (ap (λ (t : Bool). cond t l (firstBad (length s) (y .0))) e));
+      }
 
-    pub good-bad : {l : Lexeme} → i < length s → LexemeAt s i l → bad (l .kind) ≡ true → FirstBad s l
-    unfolding firstBad
-    good-bad {l} h d e =
-        let r = lexemes-always s (l .end) in
-        m .on (some h d (r .1)) (sym (ap (λ (t : Bool). cond t l (firstBad (length s) (r .0))) e))
+  pub good-bad : (l .kind ≡ EOF → ⊥) → bad (l .kind) ≡ true → FirstBad s l
+  unfolding firstBad
+  good-bad f e =
+      let y = next-some n f in
+      m .on (y .1) (sym (ap (λ (t : Bool). cond t l (firstBad (length s) (y .0))) e))
 
-    pub good-end : length s ≤ i → FirstBad s (lexeme EOF (length s) (length s))
-    unfolding firstBad
-    good-end h = m .on (none h) refl
+  pub good-end : l .kind ≡ EOF → FirstBad s (lexeme EOF (length s) (length s))
+  unfolding firstBad
+  good-end e = m .on (next-eof n e .0) refl
 
--- What the code sees at once: blanks, words, and operators of one byte.
-abbrev fine : ℕ → Bool
-fine k = not (dropped k) && not (bad k)
-
-all-fine : T (all fine 37)
-unfolding all dropped bad
-all-fine = tt
-
-is-false : (b : Bool) → T (not b) → b ≡ false
-is-false true t = absurd t
-is-false false t = refl
-
-fine-kind : {b c k : ℕ} → Alone b c k → T (fine k)
-fine-kind {k = k} a = all-at fine 37 all-fine k (alone-low a)
+-- What the code sees at once: blanks, and operators of one byte.
+all-kept : T (all (λ k. not (dropped k)) 37)
+unfolding all dropped
+all-kept = tt
 
 pub alone-kept : {b c k : ℕ} → Alone b c k → dropped k ≡ false
-alone-kept {k = k} a = is-false (dropped k) (and-left (not (dropped k)) (not (bad k)) (fine-kind a))
-
-pub alone-good : {b c k : ℕ} → Alone b c k → bad k ≡ false
-alone-good {k = k} a = is-false (bad k) (and-right (not (dropped k)) (not (bad k)) (fine-kind a))
-
-all-good : T (all (λ w. not (bad (getD wordKind w 0))) 18)
-unfolding all bad wordKind
-all-good = tt
-
-no-block : T (all (λ w. not (eqb (getD wordKind w 0) STRING-BLOCK)) 18)
-unfolding all wordKind
-no-block = tt
-
-ident-good : bad IDENT ≡ false
-unfolding bad
-ident-good = refl
+alone-kept {k = k} a = sym (false-is (dropped k) (all-at (λ k. not (dropped k)) 37 all-kept k (alone-low a)))
 
 module _ {s : List ℕ} {at : ℕ} (h : at < length s) where
   pub blank-lexeme : {e : ℕ} → classOf (getD s at 0) ≡ 4 → Ran s (at + 1) 4 4 e → LexemeAt s at (lexeme WHITESPACE at e)
@@ -294,24 +275,6 @@ module _ {s : List ℕ} {at : ℕ} (h : at < length s) where
   pub alone-lexeme : {k : ℕ} → Alone (getD s at 0) (getD s (at + 1) 0) k → LexemeAt s at (lexeme k at (at + 1))
   alone-lexeme a = rule h (alone-scanned s at a) (λ e. omega (arith, alone-low a)) refl
 
-  -- A word of whatever kind: none is bad.
-  pub word-lexeme : {e : ℕ} → classOf (getD s at 0) ≡ 1 → Ran s (at + 1) 1 3 e → (k : ℕ) × LexemeAt s at (lexeme k at e) × (bad k ≡ false)
-  word-lexeme {e} c r = let w = some-word s at e in (w .0, rule h (word-scanned s at e c r (w .1)) (other (w .1)) refl, good (w .1))
-    where
-      other : {k : ℕ} → KeywordAt s at e k → k ≡ STRING-BLOCK → ⊥
-      other {k} (inl w) q =
-          refuted (eqb k STRING-BLOCK) (subst (λ (x : ℕ). T (not (eqb x STRING-BLOCK))) (sym (w .2)) (all-at (λ w. not (eqb (getD wordKind w 0) STRING-BLOCK)) 18 no-block (w .0) (w .1)))
-          (subst (λ (x : ℕ). T (eqb x STRING-BLOCK)) (sym q) tt)
-      other (inr w) q = omega (arith, w .0)
-
-      good : {k : ℕ} → KeywordAt s at e k → bad k ≡ false
-      good {k} (inl w) = is-false (bad k) (subst (λ (x : ℕ). T (not (bad x))) (sym (w .2)) (all-at (λ w. not (bad (getD wordKind w 0))) 18 all-good (w .0) (w .1)))
-      good (inr w) = ap bad (w .0) ∙ ident-good
-
 pub blank-dropped : dropped WHITESPACE ≡ true
 unfolding dropped
 blank-dropped = refl
-
-pub blank-good : bad WHITESPACE ≡ false
-unfolding bad
-blank-good = refl

@@ -402,42 +402,6 @@ module _ {s : List ℕ} {at e : ℕ} where
   pub seek-end : {w : ℕ} → Seeking s at e w → 18 ≤ w → KeywordAt s at e IDENT
   seek-end f h = inr (refl, λ v g m. f .none v (omega arith) g m)
 
--- Letters and digits are some word: a keyword, or an identifier.
-spelled : (s t : List ℕ) (i j : ℕ) → Dec (Spells s t i j)
-unfolding Spells
-spelled s [] i j = ℕ-discrete i j
-spelled s (b ∷ bs) i j = by (ℕ-discrete (getD s i 0) b) (spelled s bs (i + 1) j)
-  where
-    by : Dec (getD s i 0 ≡ b) → Dec (Spells s bs (i + 1) j) → Dec ((getD s i 0 ≡ b) × Spells s bs (i + 1) j)
-    by (yes e) (yes m) = yes (e, m)
-    by (yes e) (no n) = no (λ m. n (m .1))
-    by (no n) d = no (λ m. n (m .0))
-
-module _ (s : List ℕ) (i j : ℕ) where
-  -- Of the first n keywords one is spelled from i to j, or none is.
-  abbrev Found : ℕ → Type 0
-  Found n = ((w : ℕ) × (w < 18) × Spells s (wordText w) i j) ⊎ ((w : ℕ) → w < n → Spells s (wordText w) i j → ⊥)
-
-  one-more : (n : ℕ) → n < 18 → Dec (Spells s (wordText n) i j) → Found n → Found (suc n)
-  one-more n h d (inl f) = inl f
-  one-more n h (yes m) (inr f) = inl (n, h, m)
-  one-more n h (no x) (inr f) = inr (λ w l m. by w l m (ℕ-discrete w n))
-    where
-      by : (w : ℕ) → w < suc n → Spells s (wordText w) i j → Dec (w ≡ n) → ⊥
-      by w l m (yes e) = x (subst (λ (v : ℕ). Spells s (wordText v) i j) e m)
-      by w l m (no e) = f w (omega arith) m
-
-  found-up : (n : ℕ) → n ≤ 18 → Found n
-  found-up zero h = inr (λ w l m. absurd (omega arith))
-  found-up (suc n) h = one-more n (omega arith) (spelled s (wordText n) i j) (found-up n (omega arith))
-
-  pub some-word : (k : ℕ) × KeywordAt s i j k
-  some-word = by (found-up 18 (omega arith))
-    where
-      by : Found 18 → (k : ℕ) × KeywordAt s i j k
-      by (inl f) = (getD wordKind (f .0) 0, inl (f .0, f .1, refl, f .2))
-      by (inr f) = (IDENT, inr (refl, f))
-
 -- The first word with a letter, by a test of all words.
 abbrev firsts : ℕ → ℕ → List Bool
 firsts b r = all (λ v. ask (ltb v r) (λ u. not (eqb (letterOf v) b))) 18 ∷ ask (ltb r 18) (λ u. eqb (letterOf r) b) ∷ []

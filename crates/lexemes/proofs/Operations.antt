@@ -255,12 +255,12 @@ flat true y = refl
 flat false true = refl
 flat false false = refl
 
-pub alone : (b c : ℕ) {x k : ℕ} → x ≡ b → classOf b ≡ 10 → k ≡ single b → pair b c ≡ 0 → (b ≡ 46 → c ≡ 46 → ⊥) → Lone x c k
-alone b c {k = k} e h q n d = inr (subst (λ (y : ℕ). Alone y c k) (sym e) record { class = h; kind = q; no-pair = n; no-dots = d })
+pub alone : (b : ℕ) {x k : ℕ} → x ≡ b → classOf b ≡ 10 → k ≡ single b → ((c : ℕ) → pair b c ≡ 0) → (b ≡ 46 → ⊥) → Lone x k
+alone b {k = k} e h q n d = inr (λ c. subst (λ (y : ℕ). Alone y c k) (sym e) record { class = h; kind = q; no-pair = n c; no-dots = λ f _. d f })
 
-pub alone-by : {b c d k : ℕ} → Lone b c k → c ≡ d → (k ≡ 0 → ⊥) → Alone b d k
-alone-by (inl z) e n = absurd (n z)
-alone-by {b} {k = k} (inr a) e n = subst (λ (x : ℕ). Alone b x k) e a
+pub alone-by : {b k : ℕ} (c : ℕ) → Lone b k → (k ≡ 0 → ⊥) → Alone b c k
+alone-by c (inl z) n = absurd (n z)
+alone-by c (inr a) n = a c
 
 pub alone-scanned : (s : List ℕ) (at : ℕ) {k : ℕ} → Alone (getD s at 0) (getD s (at + 1) 0) k → Ruled s at k (at + 1)
 unfolding single

@@ -122,9 +122,9 @@ pub record Alone (b c k : ℕ) : Type 0 where
   pub no-pair : pair b c ≡ 0
   pub no-dots : b ≡ code "." → c ≡ code "." → ⊥
 
--- Such a kind, or 0, which says nothing.
-abbrev pub Lone : ℕ → ℕ → ℕ → Type 0
-Lone b c k = (k ≡ 0) ⊎ Alone b c k
+-- Such a kind, whatever the byte after it, or 0, which says nothing.
+abbrev pub Lone : ℕ → ℕ → Type 0
+Lone b k = (k ≡ 0) ⊎ ((c : ℕ) → Alone b c k)
 
 -- A quote, and the kind of the string in it; the next kind is that of one with no end.
 abbrev pub Quote : ℕ → ℕ → Type 0

@@ -9,7 +9,7 @@ use super::bytes;
 use super::kinds::Kind;
 
 // The kind of the operator that is the byte b alone; 0 where none is.
-fn single_kind(b: u8) -> u8
+pub fn single_kind(b: u8) -> u8
     ensures { λ r. ⌜ r ≡ single b ⌝ }
 {
     match b {
@@ -67,25 +67,13 @@ fn pair_kind(b: u8, c: u8) -> u8
     }
 }
 
-// The kind of an operator of one byte b that is seen to be one by the byte c after it; 0 where more has to be seen, or none is.
-pub fn lone_kind(b: u8, c: u8) -> u8
-    ensures { λ r. ⌜ Lone b c r ⌝ }
+// The kind of the operator that is the byte b alone and that begins no longer one; 0 where more has to be seen, or none is.
+pub fn lone_kind(b: u8) -> u8
+    ensures { λ r. ⌜ Lone b r ⌝ }
 {
     match b {
         b',' => Kind::COMMA,
         b':' => Kind::COLON,
-        b'.' => {
-            if c == b'.' {
-                return 0;
-            }
-            Kind::DOT
-        }
-        b'=' => {
-            if c == b'=' {
-                return 0;
-            }
-            Kind::ASSIGN
-        }
         b'[' => Kind::L_BRACK,
         b']' => Kind::R_BRACK,
         b'(' => Kind::L_PAREN,

@@ -1,4 +1,4 @@
-// The lexeme at a place of the source, by the table of classes: the scanner for the class of its first byte, and blocks.
+// The lexeme at a place of the source: the scanner for the class of its first byte, and blocks.
 ghost use mathlib.Core.Path.{_≡_};
 ghost use Prim.Native.Nat.{ℕ, _<_};
 ghost use lib.ListN.{length, getD};
@@ -17,13 +17,49 @@ use super::quoted;
 use super::words;
 use blocks::Block;
 
-fn blank_at(src: &[u8], at: usize, classes: &[u8; 256]) -> Matched
-    requires { ⌜ (at < length (now src)) × (classOf (getD (now src) at 0) ≡ 4) × (now classes ≡ classTable) ⌝ }
+// The class of a byte, told by the byte: the table, where it is not at hand, would be set up anew. It is the same for each digit but `0`.
+pub fn class_by(b: u8) -> u8
+    ensures { λ r. ⌜ r ≡ classOf b ⌝ }
+{
+    match b {
+        b' ' => Class::BLANK,
+        b'\t' => Class::BLANK,
+        b'\n' => Class::BLANK,
+        b'\r' => Class::BLANK,
+        b'0' => Class::ZERO,
+        b'1' => Class::DIGIT,
+        b'2' => Class::DIGIT,
+        b'3' => Class::DIGIT,
+        b'4' => Class::DIGIT,
+        b'5' => Class::DIGIT,
+        b'6' => Class::DIGIT,
+        b'7' => Class::DIGIT,
+        b'8' => Class::DIGIT,
+        b'9' => Class::DIGIT,
+        b'"' => Class::DOUBLE,
+        b'\'' => Class::SINGLE,
+        b'@' => Class::AT,
+        b'#' => Class::HASH,
+        b'/' => Class::SLASH,
+        _ => {
+            if bytes::is_alpha(b) {
+                return Class::ALPHA;
+            }
+            if operators::single_kind(b) != 0 {
+                return Class::OPERATOR;
+            }
+            Class::NONE
+        }
+    }
+}
+
+fn blank_at(src: &[u8], at: usize) -> Matched
+    requires { ⌜ (at < length (now src)) × (classOf (getD (now src) at 0) ≡ 4) ⌝ }
     ensures { λ r. ⌜ Ruled (now (src .entry)) at (r .kind) (r .end) ⌝ }
 {
     Matched {
         kind: Kind::WHITESPACE,
-        end: bytes::run(src, at + 1, Class::BLANK, Class::BLANK, classes),
+        end: bytes::blanks(src, at + 1),
     }
 }
 
@@ -38,17 +74,16 @@ fn error_at(src: &[u8], at: usize) -> Matched
     }
 }
 
-// What the rules match at a place of the source.
-fn matched_at(src: &[u8], at: usize, classes: &[u8; 256]) -> Matched
-    requires { ⌜ (at < length (now src)) × (now classes ≡ classTable) ⌝ }
+// What the rules match at a place of the source, where the byte has a class.
+pub fn matched_at(src: &[u8], at: usize, class: u8) -> Matched
+    requires { ⌜ (at < length (now src)) × (class ≡ classOf (getD (now src) at 0)) ⌝ }
     ensures { λ r. ⌜ Ruled (now (src .entry)) at (r .kind) (r .end) ⌝ }
 {
-    let c = bytes::class_of(classes, src[at]);
-    match c {
+    match class {
         Class::ALPHA => words::word_at(src, at),
         Class::DIGIT => numbers::number_at(src, at),
         Class::ZERO => numbers::number_at(src, at),
-        Class::BLANK => blank_at(src, at, classes),
+        Class::BLANK => blank_at(src, at),
         Class::DOUBLE => quoted::string_at(src, at, b'"', Kind::STRING_DOUBLE),
         Class::SINGLE => quoted::string_at(src, at, b'\'', Kind::STRING_SINGLE),
         Class::AT => at::at_sign(src, at),
@@ -109,7 +144,7 @@ pub fn lexeme_of(src: &[u8], at: usize, m: Matched) -> Lexeme
     of_block(at, blocks::block_at(src, end))
 }
 
-// The lexeme at a place of the source; past its end, EOF.
+// The lexeme at a place of the source, by the table of classes; past its end, EOF.
 pub fn lexeme_by(src: &[u8], at: usize, classes: &[u8; 256]) -> Lexeme
     requires { ⌜ now classes ≡ classTable ⌝ }
     ensures { λ r. ⌜ LexemeAt (now (src .entry)) at r ⌝ }
@@ -121,5 +156,6 @@ pub fn lexeme_by(src: &[u8], at: usize, classes: &[u8; 256]) -> Lexeme
             end: at,
         };
     }
-    lexeme_of(src, at, matched_at(src, at, classes))
+    let class = bytes::class_of(classes, src[at]);
+    lexeme_of(src, at, matched_at(src, at, class))
 }

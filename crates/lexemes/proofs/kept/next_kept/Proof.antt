@@ -1,12 +1,11 @@
 -- `lexemes::kept::next_kept` meets its contract. The loop's invariant: all lexemes so far are dropped.
 -- Assumes nothing.
 use mathlib.Core.Path.{_≡_, refl, sym, _∙_}
-use Prim.Native.Nat.{_-_}
+use Prim.Native.Nat.{_+_, _-_}
 use native.Mathlib.Omega.{arith}
-use lib.ListN.{length}
+use lib.ListN.{length, getD}
 use borrow.Author.Tests.{not-true, not-false}
 use borrow.Author.Needs.{needs}
-use Rattle.lexemes.proofs.Numerals.{said}
 use Rattle.lexemes.proofs.Operations.{alone-by}
 use Rattle.lexemes.proofs.Laws.{lexeme-bounds}
 use Rattle.lexemes.proofs.KeptLaws.{Skipping, skip-start, skip-on, skip-found, skip-end, blank-lexeme, blank-dropped, alone-lexeme, alone-kept}
@@ -25,8 +24,24 @@ loop-holds c = skip-start
 shared-slice-read-b : tie.Need-shared-slice-read-b Inv-loop μ-loop
 shared-slice-read-b c = search needs
 
-is-blank-requires : tie.Need-is-blank-requires Inv-loop μ-loop
-is-blank-requires c κs = search needs
+lone-kind-requires : tie.Need-lone-kind-requires Inv-loop μ-loop
+lone-kind-requires c κs = search needs
+
+add-t12 : tie.Need-add-t12 Inv-loop μ-loop
+add-t12 c = search needs
+
+-- An operator of one byte is kept.
+returns : tie.Need-returns Inv-loop μ-loop
+returns c =
+    let lone-kind = c .before .lone-kind in
+    let loop-test = c .before .before .before .loop-test in
+    let loop = c .before .before .before .before .loop in
+    let args = c .before .before .before .before .before .before .args in
+    let alone = alone-by (getD (args .src .now) (loop .i + 1) 0) (lone-kind .ensures) (c .if1 .taken) in
+    skip-found (loop .inv) (loop-test .taken) (alone-lexeme (loop-test .taken) alone) (alone-kept alone)
+
+class-by-requires : tie.Need-class-by-requires Inv-loop μ-loop
+class-by-requires c κs = search needs
 
 add-blanks : tie.Need-add-blanks Inv-loop μ-loop
 add-blanks c = search needs
@@ -36,45 +51,23 @@ blanks-requires c κs = search needs
 
 loop-less : tie.Need-loop-less Inv-loop μ-loop
 loop-less c =
-    let blanks = c .blanks in
-    let loop-test = c .before .before .before .before .loop-test in
-    omega (arith, blanks .ensures .start)
+    let loop-test = c .before .before .before .before .before .before .loop-test in
+    omega (arith, c .blanks .ensures .start, loop-test .taken)
 
 -- Blanks are dropped.
 loop-again : tie.Need-loop-again Inv-loop μ-loop
 loop-again c =
-    let blanks = c .blanks in
-    let if1 = c .before .if1 in
-    let is-blank = c .before .before .is-blank in
-    let loop-test = c .before .before .before .before .loop-test in
-    let loop = c .before .before .before .before .before .loop in
-    skip-on (loop .inv) (loop-test .taken) (blank-lexeme (loop-test .taken) (said (if1 .taken) (is-blank .ensures)) (blanks .ensures)) blank-dropped
-
-add-peek : tie.Need-add-peek Inv-loop μ-loop
-add-peek c = search needs
-
-peek-requires : tie.Need-peek-requires Inv-loop μ-loop
-peek-requires c κs = search needs
-
-lone-kind-requires : tie.Need-lone-kind-requires Inv-loop μ-loop
-lone-kind-requires c κs = search needs
-
-add-t13 : tie.Need-add-t13 Inv-loop μ-loop
-add-t13 c = search needs
-
--- An operator of one byte is kept.
-returns : tie.Need-returns Inv-loop μ-loop
-returns c =
-    let if2 = c .if2 in
-    let lone-kind = c .before .lone-kind in
-    let peek = c .before .before .peek in
+    let if2 = c .before .if2 in
+    let class-by = c .before .before .class-by in
     let loop-test = c .before .before .before .before .before .before .loop-test in
     let loop = c .before .before .before .before .before .before .before .loop in
-    let alone = alone-by (lone-kind .ensures) (peek .ensures) (if2 .taken) in
-    skip-found (loop .inv) (loop-test .taken) (alone-lexeme (loop-test .taken) alone) (alone-kept alone)
+    skip-on (loop .inv) (loop-test .taken) (blank-lexeme (loop-test .taken) (sym (class-by .ensures) ∙ if2 .taken) (c .blanks .ensures)) blank-dropped
 
-lexeme-from-requires : tie.Need-lexeme-from-requires Inv-loop μ-loop
-lexeme-from-requires c κs = search needs
+matched-at-requires : tie.Need-matched-at-requires Inv-loop μ-loop
+matched-at-requires c κs = search needs
+
+lexeme-of-requires : tie.Need-lexeme-of-requires Inv-loop μ-loop
+lexeme-of-requires c κs = search needs
 
 is-dropped-requires : tie.Need-is-dropped-requires Inv-loop μ-loop
 is-dropped-requires c κs = search needs
@@ -83,27 +76,26 @@ returns-2 : tie.Need-returns-2 Inv-loop μ-loop
 returns-2 c =
     let if3 = c .if3 in
     let is-dropped = c .before .is-dropped in
-    let lexeme-from = c .before .before .lexeme-from in
+    let lexeme-of = c .before .before .lexeme-of in
     let loop-test = c .before .before .before .before .before .before .before .before .before .loop-test in
     let loop = c .before .before .before .before .before .before .before .before .before .before .loop in
-    skip-found (loop .inv) (loop-test .taken) (lexeme-from .ensures) (sym (is-dropped .ensures) ∙ not-true (is-dropped .result) (if3 .taken))
+    skip-found (loop .inv) (loop-test .taken) (lexeme-of .ensures) (sym (is-dropped .ensures) ∙ not-true (is-dropped .result) (if3 .taken))
 
 loop-less-2 : tie.Need-loop-less-2 Inv-loop μ-loop
 loop-less-2 c =
-    let lexeme-from = c .before .before .lexeme-from in
+    let lexeme-of = c .before .before .lexeme-of in
     let loop-test = c .before .before .before .before .before .before .before .before .before .loop-test in
     let args = c .before .before .before .before .before .before .before .before .before .before .before .before .args in
-    let s = args .src .now in
-    omega (arith, loop-test .taken, lexeme-bounds s (loop-test .taken) (lexeme-from .ensures) .1)
+    omega (arith, loop-test .taken, lexeme-bounds (args .src .now) (loop-test .taken) (lexeme-of .ensures) .1)
 
 loop-again-2 : tie.Need-loop-again-2 Inv-loop μ-loop
 loop-again-2 c =
     let if3 = c .if3 in
     let is-dropped = c .before .is-dropped in
-    let lexeme-from = c .before .before .lexeme-from in
+    let lexeme-of = c .before .before .lexeme-of in
     let loop-test = c .before .before .before .before .before .before .before .before .before .loop-test in
     let loop = c .before .before .before .before .before .before .before .before .before .before .loop in
-    skip-on (loop .inv) (loop-test .taken) (lexeme-from .ensures) (sym (is-dropped .ensures) ∙ not-false (is-dropped .result) (if3 .left))
+    skip-on (loop .inv) (loop-test .taken) (lexeme-of .ensures) (sym (is-dropped .ensures) ∙ not-false (is-dropped .result) (if3 .left))
 
 returns-3 : tie.Need-returns-3 Inv-loop μ-loop
 returns-3 c =
@@ -119,17 +111,16 @@ next-kept-spec =
     μ-loop
     loop-holds
     shared-slice-read-b
-    is-blank-requires
+    lone-kind-requires
+    add-t12
+    returns
+    class-by-requires
     add-blanks
     blanks-requires
     loop-less
     loop-again
-    add-peek
-    peek-requires
-    lone-kind-requires
-    add-t13
-    returns
-    lexeme-from-requires
+    matched-at-requires
+    lexeme-of-requires
     is-dropped-requires
     returns-2
     loop-less-2

@@ -11,6 +11,12 @@ returns c =
     let if1 = c .if1 in
     end (if1 .taken) refl
 
+shared-slice-read-class-of : tie.Need-shared-slice-read-class-of
+shared-slice-read-class-of c = search needs
+
+class-of-requires : tie.Need-class-of-requires
+class-of-requires c κs = search needs
+
 matched-at-requires : tie.Need-matched-at-requires
 matched-at-requires c κs = search needs
 
@@ -23,4 +29,4 @@ returns-2 c =
     lexeme-of .ensures
 
 pub lexeme-by-spec : {M : Type 1} → statement M
-lexeme-by-spec = tie.close (tie.spec returns matched-at-requires lexeme-of-requires returns-2)
+lexeme-by-spec = tie.close (tie.spec returns shared-slice-read-class-of class-of-requires matched-at-requires lexeme-of-requires returns-2)

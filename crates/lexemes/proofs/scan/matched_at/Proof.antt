@@ -8,12 +8,6 @@ use Rattle.lexemes.proofs.Firsts.{only, is-byte, no-class}
 use Rattle.lexemes.proofs.scan.matched_at.Statement.{statement}
 use Rattle.lexemes.proofs.scan.matched_at.Tie as tie
 
-shared-slice-read-class-of : tie.Need-shared-slice-read-class-of
-shared-slice-read-class-of c = search needs
-
-class-of-requires : tie.Need-class-of-requires
-class-of-requires c κs = search needs
-
 word-at-requires : tie.Need-word-at-requires
 word-at-requires c κs = search needs
 
@@ -29,64 +23,58 @@ blank-at-requires c κs = search needs
 string-at-requires : tie.Need-string-at-requires
 unfolding only
 string-at-requires c κs =
-    let args = c .before .before .before .before .args in
-    let pre = c .before .before .before .before .pre in
+    let args = c .before .before .args in
+    let pre = c .before .before .pre in
     let s = args .src .now in
-    let class-of = c .before .class-of in
     let match = c .match in
-    (pre .0, is-byte 5 34 (getD s (args .at) 0) tt (sym (class-of .ensures) ∙ match .keys5), inl (refl, refl))
+    (pre .0, is-byte 5 34 (getD s (args .at) 0) tt (sym (pre .1) ∙ match .keys5), inl (refl, refl))
 
 string-at-requires-2 : tie.Need-string-at-requires-2
 unfolding only
 string-at-requires-2 c κs =
-    let args = c .before .before .before .before .args in
-    let pre = c .before .before .before .before .pre in
+    let args = c .before .before .args in
+    let pre = c .before .before .pre in
     let s = args .src .now in
-    let class-of = c .before .class-of in
     let match = c .match in
-    (pre .0, is-byte 6 39 (getD s (args .at) 0) tt (sym (class-of .ensures) ∙ match .keys6), inr (refl, refl))
+    (pre .0, is-byte 6 39 (getD s (args .at) 0) tt (sym (pre .1) ∙ match .keys6), inr (refl, refl))
 
 at-sign-requires : tie.Need-at-sign-requires
 unfolding only
 at-sign-requires c κs =
-    let args = c .before .before .before .before .args in
-    let pre = c .before .before .before .before .pre in
+    let args = c .before .before .args in
+    let pre = c .before .before .pre in
     let s = args .src .now in
-    let class-of = c .before .class-of in
     let match = c .match in
-    (pre .0, is-byte 7 64 (getD s (args .at) 0) tt (sym (class-of .ensures) ∙ match .keys7))
+    (pre .0, is-byte 7 64 (getD s (args .at) 0) tt (sym (pre .1) ∙ match .keys7))
 
 hash-at-requires : tie.Need-hash-at-requires
 unfolding only
 hash-at-requires c κs =
-    let args = c .before .before .before .before .args in
-    let pre = c .before .before .before .before .pre in
+    let args = c .before .before .args in
+    let pre = c .before .before .pre in
     let s = args .src .now in
-    let class-of = c .before .class-of in
     let match = c .match in
-    (pre .0, is-byte 8 35 (getD s (args .at) 0) tt (sym (class-of .ensures) ∙ match .keys8))
+    (pre .0, is-byte 8 35 (getD s (args .at) 0) tt (sym (pre .1) ∙ match .keys8))
 
 slash-at-requires : tie.Need-slash-at-requires
 unfolding only
 slash-at-requires c κs =
-    let args = c .before .before .before .before .args in
-    let pre = c .before .before .before .before .pre in
+    let args = c .before .before .args in
+    let pre = c .before .before .pre in
     let s = args .src .now in
-    let class-of = c .before .class-of in
     let match = c .match in
-    (pre .0, is-byte 9 47 (getD s (args .at) 0) tt (sym (class-of .ensures) ∙ match .keys9))
+    (pre .0, is-byte 9 47 (getD s (args .at) 0) tt (sym (pre .1) ∙ match .keys9))
 
 operator-at-requires : tie.Need-operator-at-requires
 operator-at-requires c κs = search needs
 
 error-at-requires : tie.Need-error-at-requires
 error-at-requires c κs =
-    let args = c .before .before .before .before .args in
-    let pre = c .before .before .before .before .pre in
+    let args = c .before .before .args in
+    let pre = c .before .before .pre in
     let s = args .src .now in
-    let class-of = c .before .class-of in
     let match = c .match in
-    (pre .0, no-class (getD s (args .at) 0) (class-of .result) (class-of .ensures) (match .rest))
+    (pre .0, no-class (getD s (args .at) 0) (args .class) (pre .1) (match .rest))
 
 returns : tie.Need-returns
 returns c = search needs
@@ -125,8 +113,6 @@ pub matched-at-spec : {M : Type 1} → statement M
 matched-at-spec =
     tie.close
     (tie.spec
-    shared-slice-read-class-of
-    class-of-requires
     word-at-requires
     number-at-requires
     number-at-requires-2
