@@ -2,16 +2,16 @@
 -- Assumes nothing.
 use mathlib.Core.Path.{_≡_, refl, sym, _∙_, ap}
 use mathlib.Core.Bool.{Bool, true, false, true≢false}
-use mathlib.Core.List.{List, [], _∷_, _++_}
+use mathlib.Core.List.{List, [], _∷_, _++_, append-assoc, append-cancel-right}
 use Prim.Native.Nat.{ℕ, zero, suc, _+_, _-_, _≤_, _<_}
 use native.Mathlib.Omega.{arith}
 use native.Mathlib.Numerals.{add-one}
-use lib.ListN.{length, getD, set, take, drop, length-append, length-drop, take-append-drop, drop-of-length-le, List·getD-append}
+use lib.ListN.{length, getD, set, take, drop, length-append, length-replicate, length-drop, take-append-drop, drop-of-length-le, List·getD-append}
 use lib.Seq.{sets, slice, length-sets, slice-empty, take-suc, drop-append-le, length-slice, length-take-le, getD-take, getD-drop, drop-drop, ext-getD}
 use borrow.Author.Tests.{lt-ltb, le-ltb}
 use Rattle.strings.proofs.Stores.{sets-append}
-use Rattle.blocks.specs.Blocks.{Dash, there, NoBars}
-use Rattle.blocks.specs.Inside.{Says, holds, fails, Dashed, BarsAt, bars, none, StartsAt, starts, differs}
+use Rattle.blocks.specs.Blocks.{Run, stop, more, LineFeed, Dash, there, NoBars}
+use Rattle.blocks.specs.Inside.{Says, holds, fails, Spans, Dashed, BarsAt, bars, none, StartsAt, starts, differs, feeds}
 use Rattle.strings.proofs.Stores.{drop-next}
 
 -- What a test's answer tells.
@@ -92,6 +92,17 @@ module _ (s : List ℕ) (a e i : ℕ) (h : a ≤ e) (g : e ≤ length s) where
       (sym (getD-slice k l) ∙ sym (List·getD-append (slice a e s) r 0 k (omega (arith, length-slice a e s g))) ∙ ap (λ (t : List ℕ). getD t k 0) (sym d)
       ∙ getD-drop i s k 0))
 
+-- Parts of a source.
+pub slice-drop : (s : List ℕ) (a e : ℕ) → a ≤ e → e ≤ length s → slice a e s ++ drop e s ≡ drop a s
+slice-drop s a e h g =
+    sym (drop-append-le a (take e s) (drop e s) (omega (arith, length-take-le e s g))) ∙ ap (drop a) (take-append-drop e s)
+
+pub slice-split : (s : List ℕ) (a m e : ℕ) → a ≤ m → m ≤ e → e ≤ length s → slice a m s ++ slice m e s ≡ slice a e s
+slice-split s a m e h g k =
+    append-cancel-right (slice a m s ++ slice m e s) (slice a e s) (drop e s)
+    (append-assoc (slice a m s) (slice m e s) (drop e s) ∙ ap (λ (t : List ℕ). slice a m s ++ t) (slice-drop s m e g k)
+    ∙ slice-drop s a m h (omega arith) ∙ sym (slice-drop s a e (omega arith) k))
+
 -- A store, and a run of stores, beyond the end of an output leaves it as it was.
 set-beyond : (l : List ℕ) (i v : ℕ) → length l ≤ i → set l i v ≡ l
 set-beyond [] i v h = refl
@@ -132,3 +143,48 @@ module _ {s : List ℕ} {a : ℕ} {out₀ : List ℕ} {at : ℕ} where
 
   pub copied-length : {i : ℕ} {out : List ℕ} {w : ℕ} → Copied s a out₀ at i out w → length out ≡ length out₀
   copied-length {i} d = ap length (d .stored) ∙ length-sets out₀ at (slice a i s)
+
+-- LFs in a row, one more at either end; and a run of LFs is such.
+pub feeds-next : (k : ℕ) → feeds k ++ 0x0A ∷ [] ≡ feeds (k + 1)
+feeds-next k = grown k ∙ ap feeds (sym (add-one k))
+  where
+    grown : (n : ℕ) → feeds n ++ 0x0A ∷ [] ≡ feeds (suc n)
+    grown zero = refl
+    grown (suc n) = ap (λ (t : List ℕ). 0x0A ∷ t) (grown n)
+
+pub feeds-cons : {b : ℕ} {l : List ℕ} (n : ℕ) → b ≡ 0x0A → l ≡ feeds n → b ∷ l ≡ feeds (suc n)
+feeds-cons {l = l} n e f = ap (λ (b : ℕ). b ∷ l) e ∙ ap (λ (t : List ℕ). 0x0A ∷ t) f
+
+pub run-feeds : {s l r : List ℕ} → Run LineFeed s l r → l ≡ feeds (length l)
+run-feeds Run.end = refl
+run-feeds (stop h) = refl
+run-feeds (more {run = run} p d) = feeds-cons (length run) p (run-feeds d)
+
+pub spanned-feeds : {s : List ℕ} {i e : ℕ} → Spans LineFeed s i e → slice i e s ≡ feeds (e - i)
+spanned-feeds {s} {i} {e} d = run-feeds (d .run) ∙ ap feeds (length-slice i e s (d .within))
+
+-- A loop has stored k LFs.
+pub record Fed (out₀ : List ℕ) (at k : ℕ) (out : List ℕ) : Type 0 where
+  pub stored : out ≡ sets out₀ at (feeds k)
+
+module _ {out₀ : List ℕ} {at : ℕ} where
+  pub fed-none : Fed out₀ at 0 out₀
+  fed-none = record { stored = refl }
+
+  pub fed-more : {k : ℕ} {out out₁ : List ℕ} → Fed out₀ at k out → out₁ ≡ set out (at + k) 0x0A → Fed out₀ at (k + 1) out₁
+  fed-more {k} d e = record {
+    stored =
+        e ∙ ap (λ (o : List ℕ). set o (at + k) 0x0A) (d .stored)
+        ∙ sets-append out₀ at (at + k) (feeds k) (0x0A ∷ []) (ap (λ (n : ℕ). at + n) (sym (length-replicate {A = ℕ} k 0x0A)))
+        ∙ ap (sets out₀ at) (feeds-next k);
+  }
+
+  pub fed-length : {k : ℕ} {out : List ℕ} → Fed out₀ at k out → length out ≡ length out₀
+  fed-length {k} d = ap length (d .stored) ∙ length-sets out₀ at (feeds k)
+
+-- What has no room is not stored, however far it goes on.
+pub copied-full : {s : List ℕ} {a : ℕ} {out₀ : List ℕ} {at i : ℕ} {out : List ℕ} {w : ℕ} (e : ℕ) → Copied s a out₀ at i out w → length out ≤ w → i ≤ e → e ≤ length s → out ≡ sets out₀ at (slice a e s)
+copied-full {s} {a} {out₀} {at} {i} {out} {w} e d full h g =
+    sym (ap (sets out₀ at) (sym (slice-split s a i e (d .since) h g))
+    ∙ sym (sets-append out₀ at w (slice a i s) (slice i e s) (omega (arith, d .count, length-slice a i s (d .within))))
+    ∙ ap (λ (o : List ℕ). sets o w (slice i e s)) (sym (d .stored)) ∙ sets-beyond (slice i e s) out w full)

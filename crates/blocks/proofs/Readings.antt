@@ -5,21 +5,18 @@ use mathlib.Core.Bool.{Bool, true, false}
 use mathlib.Core.List.{List, [], _∷_, _++_, append-assoc, append-cancel-right}
 use Prim.Native.Nat.{ℕ, suc, _+_, _-_, _≤_, _<_}
 use native.Mathlib.Omega.{arith}
+use native.Mathlib.Numerals.{add-one}
 use lib.ListN.{length, getD, take, drop, length-append, length-drop, take-append-drop, drop-of-length-le}
 use lib.Seq.{sets, slice, slice-cons, length-slice, length-sets, length-take-le, take-suc, take-at, drop-append-le}
 use Rattle.strings.proofs.Stores.{sets-append}
 use Rattle.blocks.specs.declared.Block.{Block}
 use Rattle.blocks.specs.declared.Block.the-variants.{Good}
 use Rattle.blocks.specs.Blocks.{Run, LineFeed, Blank, InLine, Indent, first, Lines, Other, NoBars, Sought, Found, good, unexpected-end, missing-termination, Closing, closed, blank, failing, Last, another, cut, Body, indented, joined, text}
-use Rattle.blocks.specs.Inside.{Spans, lastEnd, ClosedAt, BodyAt, a-good, a-missing-termination}
+use Rattle.blocks.specs.Inside.{Spans, feeds, lastEnd, ClosedAt, BodyAt, a-good, a-missing-termination}
 use Rattle.strings.proofs.Stores.{drop-next}
 use Rattle.blocks.proofs.Runs.{run-stops, line-feed}
+use Rattle.blocks.proofs.Places.{slice-drop, slice-split, feeds-next, feeds-cons, spanned-feeds}
 use Rattle.blocks.proofs.Texts.{ended, empties, ended-append, joined-ended, joined-after, lines-join, empty-lines, ended-empties, paragraph, paragraph-ended, text-plain}
-
--- Parts of a source.
-slice-drop : (s : List ℕ) (a e : ℕ) → a ≤ e → e ≤ length s → slice a e s ++ drop e s ≡ drop a s
-slice-drop s a e h g =
-    sym (drop-append-le a (take e s) (drop e s) (omega (arith, length-take-le e s g))) ∙ ap (drop a) (take-append-drop e s)
 
 snoc-left : (t u : List ℕ) (x y : ℕ) → t ++ x ∷ [] ≡ u ++ y ∷ [] → t ≡ u
 snoc-left t u x y e =
@@ -33,6 +30,45 @@ slice-before s a e h g =
     let next : e ≡ suc k = omega arith in
     ap (λ (x : ℕ). slice a x s) next ∙ ap (drop a) (take-suc s k 0 (omega arith))
     ∙ drop-append-le a (take k s) (getD s k 0 ∷ []) (omega (arith, length-take-le k s (omega arith)))
+
+last-end-le : (dash : Bool) (e : ℕ) → lastEnd dash e ≤ e
+last-end-le true e = omega arith
+last-end-le false e = omega arith
+
+-- The LF that ends a line and those of the empty lines after it are LFs, and so are all of them but the last.
+module _ {s : List ℕ} {a lf e : ℕ} (line : Spans InLine s a lf) (h : lf < length s) (empty : Spans LineFeed s (lf + 1) e) where
+  all-feeds : slice lf e s ≡ feeds (e - lf)
+  all-feeds =
+      let n : e - lf ≡ suc (e - (lf + 1)) = omega (arith, empty .on) in
+      slice-cons lf e s 0 (omega (arith, empty .on)) (empty .within)
+      ∙ feeds-cons (e - (lf + 1)) (line-feed line h)
+      (ap (λ (k : ℕ). slice k e s) (sym (add-one lf)) ∙ spanned-feeds empty)
+      ∙ ap feeds (sym n)
+
+  last-feeds : (dash : Bool) → slice lf (lastEnd dash e) s ≡ feeds (lastEnd dash e - lf)
+  last-feeds false = all-feeds
+  last-feeds true =
+      let n : e - lf ≡ e - 1 - lf + 1 = omega (arith, empty .on) in
+      snoc-left _ _ (getD s (e - 1) 0) 0x0A
+      (sym (slice-before s lf e (omega (arith, empty .on)) (empty .within)) ∙ all-feeds ∙ ap feeds n ∙ sym (feeds-next (e - 1 - lf)))
+
+  last-after : (dash : Bool) → lf ≤ lastEnd dash e
+  last-after true = omega (arith, empty .on)
+  last-after false = omega (arith, empty .on)
+
+  -- A line stored as it is passed, and its LFs stored behind it, are stored as they stand.
+  pub stored-as :
+      (out : List ℕ) (w : ℕ) {out₁ : List ℕ} (dash : Bool) → out₁ ≡ sets out w (slice a lf s) →
+      sets out₁ (w + (lf - a)) (feeds (lastEnd dash e - lf)) ≡ sets out w (slice a (lastEnd dash e) s)
+  stored-as out w dash o =
+      let end = lastEnd dash e in
+      ap (λ (x : List ℕ). sets x (w + (lf - a)) (feeds (end - lf))) o
+      ∙ ap (sets (sets out w (slice a lf s)) (w + (lf - a))) (sym (last-feeds dash))
+      ∙ sets-append out w (w + (lf - a)) (slice a lf s) (slice lf end s) (ap (λ (k : ℕ). w + k) (sym (length-slice a lf s (line .within))))
+      ∙ ap (sets out w) (slice-split s a lf end (line .on) (last-after dash) (omega (arith, last-end-le dash e, empty .within)))
+
+  pub counted-as : (w : ℕ) (dash : Bool) → w + (lf - a) + (lastEnd dash e - lf) ≡ w + (lastEnd dash e - a)
+  counted-as w dash = omega (arith, line .on, last-after dash)
 
 -- A content line and the empty lines after it stand from place a, after the indent, up to place e.
 pub record Para (s indent : List ℕ) (a e : ℕ) : Type 0 where
@@ -69,10 +105,6 @@ last-part {s} {a = a} {e = e} p before within true ls =
     joined-after ls (p .line) (p .more) ∙ ap (λ (t : List ℕ). ended ls ++ t) (snoc-left _ _ _ _ all)
 last-part p before within false ls =
     text-plain ls (p .line) (p .more) ∙ ended-append ls (p .line ∷ p .more) ∙ ap (λ (t : List ℕ). ended ls ++ t) (p .bytes)
-
-last-end-le : (dash : Bool) (e : ℕ) → lastEnd dash e ≤ e
-last-end-le true e = omega arith
-last-end-le false e = omega arith
 
 -- What the loop over content lines keeps: the lines from the first that is not empty on are read up to a content line, which starts
 -- after the indent at place a, and are stored with their LFs.
@@ -164,9 +196,11 @@ module _ {s : List ℕ} {body head content : ℕ} (empty : Spans LineFeed s body
 
       -- a later line that closes the block, and one that fails to
       pub close-body :
-          {dash : Bool} {x : Block} {n : ℕ} {out₁ : List ℕ} (entry : List ℕ) → a < e → out₀ ≡ sets entry 0 (slice body head s) → w₀ ≡ head - body →
-          i < length s → ClosedAt s i a e dash out w x n out₁ → BodyAt s body dash entry x n out₁
-      close-body {dash = dash} entry before begun place h (ClosedAt.closed k q) =
+          {lf : ℕ} {dash : Bool} {x : Block} {n : ℕ} {out₁ out₂ : List ℕ} (entry : List ℕ) → Spans InLine s a lf → lf < length s → Spans LineFeed s (lf + 1) e →
+          out₁ ≡ sets out w (slice a lf s) → out₀ ≡ sets entry 0 (slice body head s) → w₀ ≡ head - body →
+          i < length s → ClosedAt s i lf e dash out₁ (w + (lf - a)) x n out₂ → BodyAt s body dash entry x n out₂
+      close-body {dash = dash} entry line fed after o begun place h (ClosedAt.closed k q) =
+          let before : a < e = omega (arith, line .on, after .on) in
           let es = slice body head s in
           let ls = p .line ∷ p .more in
           let all = empties es ++ (d .lines ++ ls) in
@@ -189,8 +223,8 @@ module _ {s : List ℕ} {body head content : ℕ} (empty : Spans LineFeed s body
           ∙ ap (λ (o₁ : List ℕ). sets o₁ w₀ (ended (d .lines))) (sym begun) ∙ sym (d .stored)) in
           let found : Body (drop body s) (good all) (drop (i + 3) s) =
           another-body (subst (λ (t : List ℕ). Closing all t (good all) (drop (i + 3) s)) (sym q) closed) in
-          subst₂ (λ (n : ℕ) (o₁ : List ℕ). BodyAt s body dash entry (Good (i + 3)) n o₁) counted written (a-good {j = i + 3} found (omega (arith, length-drop (i + 3) s)))
-      close-body entry before begun place h (ClosedAt.failing {j = j} nb so) =
+          subst₂ (λ (n : ℕ) (o₁ : List ℕ). BodyAt s body dash entry (Good (i + 3)) n o₁) (counted ∙ sym (counted-as line fed after w dash)) (written ∙ sym (stored-as line fed after out w dash o)) (a-good {j = i + 3} found (omega (arith, length-drop (i + 3) s)))
+      close-body entry line fed after o begun place h (ClosedAt.failing {j = j} nb so) =
           let all = empties (slice body head s) ++ (d .lines ++ p .line ∷ p .more) in
           let found : Closing all (drop i s) missing-termination (drop j s) =
           subst (λ (t : List ℕ). Closing all t missing-termination (drop j s)) (sym (drop-next s i h))
@@ -201,8 +235,8 @@ module _ {s : List ℕ} {body head content : ℕ} (empty : Spans LineFeed s body
 pub closed-by :
     {s : List ℕ} {i a e : ℕ} {dash known : Bool} {out : List ℕ} {w n : ℕ} {out₁ : List ℕ} →
     (i + 3 ≤ length s) × (drop i s ≡ 0x7C ∷ 0x7C ∷ 0x7C ∷ drop (i + 3) s) → dash ≡ known → n ≡ w + (lastEnd known e - a) →
-    out₁ ≡ sets out w (slice a (lastEnd known e) s) → ClosedAt s i a e dash out w (Good (i + 3)) n out₁
+    out₁ ≡ sets out w (feeds (lastEnd known e - a)) → ClosedAt s i a e dash out w (Good (i + 3)) n out₁
 closed-by {s} {i} {a} {e} {dash} {out = out} {w = w} bars k c o =
     subst₂ (λ (n : ℕ) (o₁ : List ℕ). ClosedAt s i a e dash out w (Good (i + 3)) n o₁)
-    (ap (λ (x : Bool). w + (lastEnd x e - a)) k ∙ sym c) (ap (λ (x : Bool). sets out w (slice a (lastEnd x e) s)) k ∙ sym o)
+    (ap (λ (x : Bool). w + (lastEnd x e - a)) k ∙ sym c) (ap (λ (x : Bool). sets out w (feeds (lastEnd x e - a))) k ∙ sym o)
     (ClosedAt.closed (bars .0) (bars .1))

@@ -2,12 +2,13 @@
 -- Assumes nothing.
 use mathlib.Core.Path.{_≡_, refl, sym, _∙_, ap, subst}
 use mathlib.Core.List.{List, [], _∷_, _++_}
-use Prim.Native.Nat.{ℕ, zero, suc, _+_, _≤_, _<_}
+use Prim.Native.Nat.{ℕ, zero, suc, _+_, _-_, _≤_, _<_}
 use native.Mathlib.Omega.{arith}
+use native.Mathlib.Numerals.{add-one}
 use native.Mathlib.Decide.{ℕ-discrete}
 use borrow.Author.Count.{below-more}
 use lib.ListN.{length, getD, take, drop, length-append, drop-of-length-le}
-use lib.Seq.{slice}
+use lib.Seq.{slice, slice-cons}
 use Rattle.strings.proofs.Stores.{drop-next}
 use Rattle.blocks.specs.Blocks.{Run, end, stop, more, InLine, NoBars, Sought, here, on}
 use Rattle.blocks.specs.Inside.{Spans, SoughtTo}
@@ -85,6 +86,18 @@ module _ {P : ℕ → Type 0} {s : List ℕ} {i : ℕ} where
 
   pub passed-end : {j : ℕ} → Passed P s i j → length s ≤ j → Spans P s i j
   passed-end {j} d h = record { on = d .on; within = d .within; run = run-between P s i j (d .on) (d .within) (d .all) (λ l. absurd (omega arith)) }
+
+  -- a run that goes on from where the loop stands
+  pub passed-then : {j e : ℕ} → Passed P s i j → Spans P s j e → Spans P s i e
+  passed-then {j} {e} d r = record { on = omega (arith, d .on, r .on); within = r .within; run = back (j - i) i (omega (arith, d .on)) (omega arith) }
+    where
+      back : (n k : ℕ) → k + n ≡ j → i ≤ k → Run P (drop k s) (slice k e s) (drop e s)
+      back zero k q h = let k-is : k ≡ j = omega (arith, q) in subst (λ (m : ℕ). Run P (drop m s) (slice m e s) (drop e s)) (sym k-is) (r .run)
+      back (suc n) k q h =
+          let inside : k < e = omega (arith, q, r .on) in
+          subst (λ (t : List ℕ). Run P t (slice k e s) (drop e s)) (sym (drop-next s k (omega (arith, r .within))))
+          (subst (λ (t : List ℕ). Run P (getD s k 0 ∷ drop (k + 1) s) t (drop e s)) (sym (slice-cons k e s 0 inside (r .within)))
+          (more (d .all k (omega (arith, q)) h) (subst (λ (m : ℕ). Run P (drop (k + 1) s) (slice m e s) (drop e s)) (add-one k) (back n (k + 1) (omega (arith, q)) (omega arith)))))
 
 -- a line's run that ends before the source does ends at an LF
 pub line-feed : {s : List ℕ} {i j : ℕ} → Spans InLine s i j → j < length s → getD s j 0 ≡ 0x0A

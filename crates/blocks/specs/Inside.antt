@@ -5,7 +5,7 @@ use mathlib.Core.Bool.{Bool, true, false}
 use mathlib.Core.List.{List, [], _∷_, _++_}
 use Prim.Native.Nat.{ℕ, _+_, _-_, _≤_}
 use lib.Dec.{ltb}
-use lib.ListN.{length, drop}
+use lib.ListN.{length, drop, replicate}
 use lib.Seq.{sets, slice}
 use Rattle.blocks.specs.Blocks.{Run, Dash, NoBars, Sought, good, unexpected-end, missing-termination, Body, text, BlockText, BlockAt}
 use Rattle.blocks.specs.declared.Block.{Block}
@@ -43,16 +43,20 @@ pub data StartsAt (s : List ℕ) (a e i : ℕ) : Bool → Type 0 where
   starts : i + (e - a) ≤ length s → drop i s ≡ slice a e s ++ drop (i + (e - a)) s → StartsAt s a e i true
   differs : ((r : List ℕ) → drop i s ≡ slice a e s ++ r → ⊥) → StartsAt s a e i false
 
--- What is copied of lines and their LFs up to place e for the last time: `|||-` leaves out the last LF.
+-- So many LFs.
+abbrev pub feeds : ℕ → List ℕ
+feeds n = replicate n 0x0A
+
+-- The last LFs of a text stand up to place e: `|||-` leaves out the last.
 abbrev pub lastEnd : Bool → ℕ → ℕ
 lastEnd true e = e - 1
 lastEnd false e = e
 
--- Behind the blanks of the line after the lines, at place i: with `|||` there the last lines, from a to e, are stored at w.
+-- Behind the blanks of the line after the lines, at place i: with `|||` there the last LFs, from a to e, are stored at w.
 pub data ClosedAt (s : List ℕ) (i a e : ℕ) (dash : Bool) (out : List ℕ) (w : ℕ) : Block → ℕ → List ℕ → Type 0 where
   closed :
       i + 3 ≤ length s → drop i s ≡ 0x7C ∷ 0x7C ∷ 0x7C ∷ drop (i + 3) s →
-      ClosedAt s i a e dash out w (Good (i + 3)) (w + (lastEnd dash e - a)) (sets out w (slice a (lastEnd dash e) s))
+      ClosedAt s i a e dash out w (Good (i + 3)) (w + (lastEnd dash e - a)) (sets out w (feeds (lastEnd dash e - a)))
   failing : {j n : ℕ} {out₁ : List ℕ} → NoBars (drop i s) → SoughtTo s i j → ClosedAt s i a e dash out w (MissingTermination j) n out₁
 
 -- From place i, after the header line: a good block's text is stored, a bad one leaves what it leaves.

@@ -1,11 +1,11 @@
 // Text blocks (string_block.rs): where one ends or what is wrong with it, and its text.
 ghost use mathlib.Core.Path.{_≡_};
-ghost use Prim.Native.Nat.{_+_, _-_, _≤_, _<_};
+ghost use Prim.Native.Nat.{_+_, _-_, _≤_, _<_, _^_};
 ghost use lib.ListN.{length, drop};
 ghost use lib.Seq.{sets, slice};
 ghost use Rattle.strings.specs.Decoding.{Decoding, Missing};
 ghost use Rattle.blocks.specs.Blocks.{LineFeed, HeaderBlank, Blank, InLine, BlockAt, BlockText};
-ghost use Rattle.blocks.specs.Inside.{Says, Spans, Dashed, SoughtTo, BarsAt, StartsAt, ClosedAt, BodyAt, Walked};
+ghost use Rattle.blocks.specs.Inside.{Says, Spans, Dashed, SoughtTo, BarsAt, StartsAt, feeds, ClosedAt, BodyAt, Walked};
 use strings::Decoded;
 
 // What stands after `|||`, and where the lexeme ends.
@@ -167,36 +167,56 @@ fn eat_error(source: &[u8], from: usize) -> usize
     i
 }
 
-// Bytes of the source into the output, as far as it has room; the place after them. Where none has room none is looked at: the count runs on.
-fn copy(source: &[u8], from: usize, to: usize, out: &mut [u8], at: usize) -> usize
-    requires { ⌜ (from ≤ to) × (to ≤ length (now source)) × (at ≤ from) ⌝ }
-    ensures { λ r. ⌜ (now (out .exit) ≡ sets (now (out .entry)) at (slice from to (now (source .entry)))) × (r ≡ at + (to - from)) ⌝ }
+// The place of the line's LF, or the source's end. What stands before it is stored as it is passed, as far as there is room.
+fn copy_line(source: &[u8], from: usize, out: &mut [u8], at: usize) -> usize
+    requires { ⌜ from ≤ length (now source) ⌝ }
+    ensures { λ r. ⌜ Spans InLine (now (source .entry)) from r × (now (out .exit) ≡ sets (now (out .entry)) at (slice from r (now (source .entry)))) ⌝ }
 {
-    if out.len() <= at {
-        return at + (to - from);
-    }
     let mut i = from;
     let mut w = at;
-    while i < to {
-        strings::put(out, w, source[i]);
+    while w < out.len() {
+        if source.len() <= i {
+            return i;
+        }
+        let b = source[i];
+        if b == b'\n' {
+            return i;
+        }
+        out[w] = b;
         w += 1;
         i += 1;
     }
-    w
+    line_end(source, i)
 }
 
-// The line after the lines, behind its blanks. The last lines, from..next, have still to be written: the last LF of a text goes for `|||-`.
+// So many LFs into the output, as far as it has room; the place after them.
+fn put_feeds(out: &mut [u8], at: usize, n: usize) -> usize
+    requires { ⌜ at + n ≤ 2 ^ 63 ⌝ }
+    ensures { λ r. ⌜ (now (out .exit) ≡ sets (now (out .entry)) at (feeds n)) × (r ≡ at + n) ⌝ }
+{
+    if out.len() <= at {
+        return at + n;
+    }
+    let mut k = 0;
+    while k < n {
+        strings::put(out, at + k, b'\n');
+        k += 1;
+    }
+    at + n
+}
+
+// The line after the lines, behind its blanks. The last LFs, lf..next, have still to be written: the last of a text goes for `|||-`.
 fn close(
     source: &[u8],
     i: usize,
-    from: usize,
+    lf: usize,
     next: usize,
     dash: bool,
     out: &mut [u8],
     w: usize,
 ) -> Walk
-    requires { ⌜ (w ≤ from) × (from < next) × (next ≤ i) × (i ≤ length (now source)) ⌝ }
-    ensures { λ r. ⌜ ClosedAt (now (source .entry)) i from next dash (now (out .entry)) w (r .block) (r .text) (now (out .exit)) ⌝ }
+    requires { ⌜ (w ≤ lf) × (lf < next) × (next ≤ i) × (i ≤ length (now source)) ⌝ }
+    ensures { λ r. ⌜ ClosedAt (now (source .entry)) i lf next dash (now (out .entry)) w (r .block) (r .text) (now (out .exit)) ⌝ }
 {
     if !bars_at(source, i) {
         let end = eat_error(source, i);
@@ -206,13 +226,13 @@ fn close(
         };
     }
     if dash {
-        let n = copy(source, from, next - 1, out, w);
+        let n = put_feeds(out, w, next - lf - 1);
         return Walk {
             block: Block::Good(i + 3),
             text: n,
         };
     }
-    let n = copy(source, from, next, out, w);
+    let n = put_feeds(out, w, next - lf);
     Walk {
         block: Block::Good(i + 3),
         text: n,
@@ -220,7 +240,8 @@ fn close(
 }
 
 // From the header line's end on. The first line that is not empty starts at first, and its content, after the indent, at content.
-// A line and the empty lines after it, from..next, are written once the line after them is known to go on with the indent.
+// A line is written as its LF is sought; that LF and those of the empty lines after it, lf..next, once the line after them is known to go on with
+// the indent.
 fn lines(
     source: &[u8],
     body: usize,
@@ -232,21 +253,23 @@ fn lines(
     requires { ⌜ Spans LineFeed (now source) body first × Spans Blank (now source) first content × (first < content) ⌝ }
     ensures { λ r. ⌜ BodyAt (now (source .entry)) body dash (now (out .entry)) (r .block) (r .text) (now (out .exit)) ⌝ }
 {
-    let mut w = copy(source, body, first, out, 0);
+    let mut w = put_feeds(out, 0, first - body);
     let mut from = content;
+    let mut lf = content;
     let mut next = content;
     let mut i = content;
     'lines: loop {
-        let lf = line_end(source, from);
+        lf = copy_line(source, from, out, w);
         if lf == source.len() {
             return Walk {
                 block: Block::UnexpectedEnd(lf),
                 text: 0,
             };
         }
+        w += lf - from;
         next = skip_empty(source, lf + 1);
         if check_whitespace(source, first, content, next) {
-            w = copy(source, from, next, out, w);
+            w = put_feeds(out, w, next - lf);
             from = next + (content - first);
             continue 'lines;
         }
@@ -262,7 +285,7 @@ fn lines(
             text: 0,
         };
     }
-    close(source, i, from, next, dash, out, w)
+    close(source, i, lf, next, dash, out, w)
 }
 
 fn lex_str_block(source: &[u8], at: usize, out: &mut [u8]) -> Walk

@@ -1,9 +1,12 @@
 -- `blocks::close` meets its contract.
 -- Assumes nothing.
+use mathlib.Core.Path.{_≡_, ap, _∙_}
+use Prim.Native.Nat.{ℕ, _+_, _-_}
 use native.Mathlib.Omega.{arith}
+use lib.Seq.{sets}
 use borrow.Author.Needs.{needs}
 use borrow.Author.Tests.{not-true, not-false}
-use Rattle.blocks.specs.Inside.{failing}
+use Rattle.blocks.specs.Inside.{feeds, failing}
 use Rattle.blocks.proofs.Places.{are-bars, no-bars}
 use Rattle.blocks.proofs.Readings.{closed-by}
 use Rattle.blocks.proofs.close.Statement.{statement}
@@ -20,14 +23,17 @@ returns c =
     let bars = c .before .before .bars-at in
     failing (no-bars (bars .ensures) (not-true (bars .result) (c .before .if1 .taken))) (c .eat-error .ensures)
 
-sub-copy : tie.Need-sub-copy
-sub-copy c = search needs
+sub-put-feeds : tie.Need-sub-put-feeds
+sub-put-feeds c = search needs
 
-copy-requires : tie.Need-copy-requires
-copy-requires c κs = search needs
+sub-put-feeds-2 : tie.Need-sub-put-feeds-2
+sub-put-feeds-2 c = search needs
 
-add-t14 : tie.Need-add-t14
-add-t14 c =
+put-feeds-requires : tie.Need-put-feeds-requires
+put-feeds-requires c κs = let start = c .before .before .before .before .before .before in omega (arith, start .pre, start .good)
+
+add-t16 : tie.Need-add-t16
+add-t16 c =
     let found = c .before .before .before .before .before in
     let bars = found .before .bars-at in
     omega (arith, are-bars (bars .ensures) (not-false (bars .result) (found .if1 .left)) .0)
@@ -39,14 +45,20 @@ returns-2 : tie.Need-returns-2
 returns-2 c =
     let tested = c .before .before .before .before in
     let bars = tested .before .before .bars-at in
-    let copied = c .before .before .copy .ensures in
-    closed-by (are-bars (bars .ensures) (not-false (bars .result) (tested .before .if1 .left))) (tested .if2 .taken) (copied .1) (copied .0)
+    let put = c .before .before .put-feeds .ensures in
+    let args = tested .before .before .before .before .before .args in
+    let less : args .next - args .lf - 1 ≡ args .next - 1 - args .lf = omega arith in
+    closed-by (are-bars (bars .ensures) (not-false (bars .result) (tested .before .if1 .left))) (tested .if2 .taken) (put .1 ∙ ap (λ (n : ℕ). args .w + n) less)
+    (put .0 ∙ ap (λ (n : ℕ). sets (args .out .now) (args .w) (feeds n)) less)
 
-copy-requires-2 : tie.Need-copy-requires-2
-copy-requires-2 c κs = search needs
+sub-put-feeds-3 : tie.Need-sub-put-feeds-3
+sub-put-feeds-3 c = search needs
 
-add-t20 : tie.Need-add-t20
-add-t20 c =
+put-feeds-requires-2 : tie.Need-put-feeds-requires-2
+put-feeds-requires-2 c κs = let start = c .before .before .before .before .before .before in omega (arith, start .pre, start .good)
+
+add-t21 : tie.Need-add-t21
+add-t21 c =
     let found = c .before .before .before .before .before in
     let bars = found .before .bars-at in
     omega (arith, are-bars (bars .ensures) (not-false (bars .result) (found .if1 .left)) .0)
@@ -58,8 +70,8 @@ returns-3 : tie.Need-returns-3
 returns-3 c =
     let tested = c .before .before .before .before in
     let bars = tested .before .before .bars-at in
-    let copied = c .before .before .copy2 .ensures in
-    closed-by (are-bars (bars .ensures) (not-false (bars .result) (tested .before .if1 .left))) (tested .if2 .left) (copied .1) (copied .0)
+    let put = c .before .before .put-feeds2 .ensures in
+    closed-by (are-bars (bars .ensures) (not-false (bars .result) (tested .before .if1 .left))) (tested .if2 .left) (put .1) (put .0)
 
 pub close-spec : {M : Type 1} → statement M
 close-spec =
@@ -68,12 +80,14 @@ close-spec =
     bars-at-requires
     eat-error-requires
     returns
-    sub-copy
-    copy-requires
-    add-t14
+    sub-put-feeds
+    sub-put-feeds-2
+    put-feeds-requires
+    add-t16
     same-length
     returns-2
-    copy-requires-2
-    add-t20
+    sub-put-feeds-3
+    put-feeds-requires-2
+    add-t21
     same-length-2
     returns-3)

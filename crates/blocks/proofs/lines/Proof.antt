@@ -1,25 +1,26 @@
 -- `blocks::lines` meets its contract. The invariant of the loop over content lines is `Reading`: the lines before are read and stored.
 -- That of the scan of the terminator line: only blanks have been passed.
 -- Assumes nothing.
-use mathlib.Core.Path.{_≡_, _∙_}
+use mathlib.Core.Path.{_≡_, sym, ap, _∙_}
+use mathlib.Core.Bool.{false}
 use Prim.Native.Nat.{_-_, _<_}
 use native.Mathlib.Omega.{arith}
 use lib.ListN.{length, drop}
-use lib.Seq.{slice}
+use lib.Seq.{sets, slice}
 use borrow.Author.Tests.{not-true, not-false}
 use Rattle.blocks.specs.Blocks.{Blank, Other}
 use Rattle.blocks.specs.Inside.{an-unexpected-end}
 use Rattle.blocks.proofs.Runs.{Passed, passed-none, passed-more, passed-stop, passed-end}
-use Rattle.blocks.proofs.Places.{said, denied, does-start, not-start}
-use Rattle.blocks.proofs.Readings.{Para, para, Reading, reading-start, reading-length, reading-more, other-line, cut-body, blank-body, close-body}
+use Rattle.blocks.proofs.Places.{said, denied, does-start, not-start, spanned-feeds}
+use Rattle.blocks.proofs.Readings.{stored-as, counted-as, Para, para, Reading, reading-start, reading-length, reading-more, other-line, cut-body, blank-body, close-body}
 use Rattle.blocks.proofs.lines.Statement.{statement}
 use Rattle.blocks.proofs.lines.Tie as tie
 
 abbrev Inv-loop : tie.InvT-loop
-Inv-loop source body first content dash out w from next i₀ lf i = Passed Blank source next i
+Inv-loop source body first content dash out w from lf next i₀ i = Passed Blank source next i
 
 abbrev μ-loop : tie.MeasureT-loop
-μ-loop source body first content dash out w from next i₀ lf i = length source - i
+μ-loop source body first content dash out w from lf next i₀ i = length source - i
 
 abbrev Inv-lines : tie.InvT-lines
 Inv-lines source body first content dash out₀ w₀ from₀ next₀ i₀ out w from next i = Reading source first content out₀ w₀ out w from
@@ -36,25 +37,30 @@ start c = c .before .before .before .before .before .before .before
 
 -- the output keeps its length
 kept : (c : Turn) → length (c .lines .out) ≡ length (start c .args .out .now)
-kept c = reading-length (c .lines .inv) ∙ c .before .before .before .copy .kept .1 .1 .1 .0
+kept c = reading-length (c .lines .inv) ∙ c .before .before .before .put-feeds .kept .0
 
 -- Where a content line and the empty lines after it have been passed.
 abbrev After-lines : Type 0
 After-lines = tie.After-skip-empty Inv-loop μ-loop Inv-lines μ-lines
 
+-- where its content line has been stored
+abbrev stored : After-lines → tie.After-copy-line Inv-loop μ-loop Inv-lines μ-lines
+stored c = c .before .before .before .before
+
 abbrev turn : After-lines → Turn
-turn c = c .before .before .before
+turn c = stored c .before .before
+
+fed : (c : After-lines) → stored c .copy-line .result < length (start (turn c) .args .source .now)
+fed c = omega (arith, stored c .copy-line .ensures .0 .within, c .before .if1 .left)
 
 longer : (c : After-lines) → turn c .lines .from < c .skip-empty .result
-longer c = omega (arith, c .before .before .line-end .ensures .on, c .skip-empty .ensures .on)
+longer c = omega (arith, stored c .copy-line .ensures .0 .on, c .skip-empty .ensures .on)
 
 para-at :
     (c : After-lines) →
     let args = start (turn c) .args in
     Para (args .source .now) (slice (args .first) (args .content) (args .source .now)) (turn c .lines .from) (c .skip-empty .result)
-para-at c =
-    let line = c .before .before .line-end .ensures in
-    para _ line (omega (arith, line .within, c .before .if1 .left)) (c .skip-empty .ensures)
+para-at c = para _ (stored c .copy-line .ensures .0) (fed c) (c .skip-empty .ensures)
 
 -- Where the line after them is known not to start with the indent.
 abbrev After-other : Type 0
@@ -67,43 +73,58 @@ other-at :
     Other (slice (args .first) (args .content) (args .source .now)) (drop (after .skip-empty .result) (args .source .now))
 other-at c = other-line (c .before .before .skip-empty .ensures) (not-start (c .before .check-whitespace .ensures) (c .if2 .left))
 
-copy-requires : tie.Need-copy-requires Inv-loop μ-loop Inv-lines μ-lines
-copy-requires c κs =
-    let pre = c .before .before .before .pre in
-    (pre .0 .on, pre .0 .within, omega arith)
+sub-put-feeds : tie.Need-sub-put-feeds Inv-loop μ-loop Inv-lines μ-lines
+sub-put-feeds c = c .before .before .before .pre .0 .on
+
+put-feeds-requires : tie.Need-put-feeds-requires Inv-loop μ-loop Inv-lines μ-lines
+put-feeds-requires c κs = let begun = c .before .before .before in omega (arith, begun .pre .0 .within, begun .good)
 
 lines-holds : tie.Need-lines-holds Inv-loop μ-loop Inv-lines μ-lines
 lines-holds c =
     let pre = c .before .before .before .before .before .before .pre in
-    reading-start _ (pre .1) (omega (arith, c .before .before .copy .ensures .1, pre .1 .on))
+    reading-start _ (pre .1) (omega (arith, c .before .before .put-feeds .ensures .1, pre .1 .on))
 
-line-end-requires : tie.Need-line-end-requires Inv-loop μ-loop Inv-lines μ-lines
-line-end-requires c κs = c .lines .inv .within
+copy-line-requires : tie.Need-copy-line-requires Inv-loop μ-loop Inv-lines μ-lines
+copy-line-requires c κs = c .before .lines .inv .within
 
 same-length : tie.Need-same-length Inv-loop μ-loop Inv-lines μ-lines
-same-length c = kept (c .before .before)
+same-length c = c .before .before .before .copy-line .kept .1 .1 .0 ∙ kept (c .before .before .before .before .before)
 
 returns : tie.Need-returns Inv-loop μ-loop Inv-lines μ-lines
 returns c =
-    let now = c .before .before in
+    let line = c .before .before .before in
+    let now = line .before .before in
     let pre = start now .pre in
-    an-unexpected-end (cut-body (pre .0) (pre .1) (pre .2) (now .lines .inv) (c .before .line-end .ensures) (omega arith)) (c .if1 .taken)
+    an-unexpected-end (cut-body (pre .0) (pre .1) (pre .2) (now .lines .inv) (line .copy-line .ensures .0) (omega arith)) (c .if1 .taken)
+
+sub-w : tie.Need-sub-w Inv-loop μ-loop Inv-lines μ-lines
+sub-w c = c .before .before .before .copy-line .ensures .0 .on
+
+add-w : tie.Need-add-w Inv-loop μ-loop Inv-lines μ-lines
+add-w c =
+    let line = c .before .before .before in
+    let now = line .before .before in
+    omega (arith, line .copy-line .ensures .0 .on, line .copy-line .ensures .0 .within, now .lines .inv .room, start now .good)
 
 add-skip-empty : tie.Need-add-skip-empty Inv-loop μ-loop Inv-lines μ-lines
-add-skip-empty c = omega (arith, c .before .line-end .ensures .within, c .if1 .left, start (c .before .before) .good)
+add-skip-empty c = let line = c .before .before .before in omega (arith, line .copy-line .ensures .0 .within, c .if1 .left, start (line .before .before) .good)
 
 skip-empty-requires : tie.Need-skip-empty-requires Inv-loop μ-loop Inv-lines μ-lines
-skip-empty-requires c κs = omega (arith, c .before .line-end .ensures .within, c .if1 .left)
+skip-empty-requires c κs = omega (arith, c .before .before .before .copy-line .ensures .0 .within, c .if1 .left)
 
 check-whitespace-requires : tie.Need-check-whitespace-requires Inv-loop μ-loop Inv-lines μ-lines
 check-whitespace-requires c κs =
     let pre = start (turn c) .pre in
     (pre .1 .on, pre .1 .within, c .skip-empty .ensures .within)
 
-copy-requires-2 : tie.Need-copy-requires-2 Inv-loop μ-loop Inv-lines μ-lines
-copy-requires-2 c κs =
+sub-put-feeds-2 : tie.Need-sub-put-feeds-2 Inv-loop μ-loop Inv-lines μ-lines
+sub-put-feeds-2 c = omega (arith, c .before .before .before .skip-empty .ensures .on)
+
+put-feeds-requires-2 : tie.Need-put-feeds-requires-2 Inv-loop μ-loop Inv-lines μ-lines
+put-feeds-requires-2 c κs =
     let after = c .before .before .before in
-    (omega (arith, longer after), after .skip-empty .ensures .within, turn after .lines .inv .room)
+    let line = stored after .copy-line .ensures .0 in
+    omega (arith, line .on, after .skip-empty .ensures .on, after .skip-empty .ensures .within, turn after .lines .inv .room, start (turn after) .good)
 
 sub-from : tie.Need-sub-from Inv-loop μ-loop Inv-lines μ-lines
 sub-from c = start (turn (c .before .before .before .before .before .before)) .pre .1 .on
@@ -121,11 +142,15 @@ lines-less c =
 
 lines-again : tie.Need-lines-again Inv-loop μ-loop Inv-lines μ-lines
 lines-again c =
-    let copied = c .before .before .copy2 .ensures in
+    let put = c .before .before .put-feeds2 .ensures in
     let tested = c .before .before .before .before in
     let starts = does-start (tested .before .check-whitespace .ensures) (tested .if2 .taken) in
     let after = tested .before .before in
-    reading-more (turn after .lines .inv) (para-at after) (omega (arith, longer after)) (omega arith) (starts .0) (starts .1) (copied .0) (copied .1)
+    let now = turn after .lines in
+    let line = stored after .copy-line .ensures in
+    reading-more (now .inv) (para-at after) (omega (arith, longer after)) (omega arith) (starts .0) (starts .1)
+    (put .0 ∙ stored-as (line .0) (fed after) (after .skip-empty .ensures) (now .out) (now .w) false (line .1))
+    (put .1 ∙ counted-as (line .0) (fed after) (after .skip-empty .ensures) (now .w) false)
 
 loop-holds : tie.Need-loop-holds Inv-loop μ-loop Inv-lines μ-lines
 loop-holds c = passed-none (c .before .before .skip-empty .ensures .within)
@@ -151,7 +176,7 @@ loop-again c =
     passed-more (scan .before .loop .inv) (scan .loop-test .taken) (said (test .ensures) (not-false (test .result) (c .if3 .left)))
 
 same-length-2 : tie.Need-same-length-2 Inv-loop μ-loop Inv-lines μ-lines
-same-length-2 c = kept (turn (c .before .before .before .before))
+same-length-2 c = let after = c .before .before .before .before in stored after .copy-line .kept .1 .1 .0 ∙ kept (turn after)
 
 returns-2 : tie.Need-returns-2 Inv-loop μ-loop Inv-lines μ-lines
 returns-2 c =
@@ -168,12 +193,14 @@ close-requires : tie.Need-close-requires Inv-loop μ-loop Inv-lines μ-lines
 close-requires c κs =
     let scan = c .before .before .before .before .before in
     let after = scan .before .before .before in
-    (turn after .lines .inv .room, longer after, scan .loop .inv .on, scan .loop .inv .within)
+    let line = stored after .copy-line .ensures .0 in
+    (omega (arith, line .on, turn after .lines .inv .room), omega (arith, after .skip-empty .ensures .on), scan .loop .inv .on, scan .loop .inv .within)
 
 same-length-3 : tie.Need-same-length-3 Inv-loop μ-loop Inv-lines μ-lines
 same-length-3 c =
     let closed = c .before .before in
-    closed .close .kept .1 .1 .1 .1 .1 .0 ∙ kept (turn (closed .before .before .before .before .before .before .before .before .before))
+    let after = closed .before .before .before .before .before .before .before .before .before in
+    closed .close .kept .1 .1 .1 .1 .1 .0 ∙ stored after .copy-line .kept .1 .1 .0 ∙ kept (turn after)
 
 returns-3 : tie.Need-returns-3 Inv-loop μ-loop Inv-lines μ-lines
 returns-3 c =
@@ -184,11 +211,13 @@ returns-3 c =
     let other = scan .before .before in
     let after = other .before .before in
     let now = turn after in
-    let copied = now .before .before .before .copy .ensures in
+    let line = stored after .copy-line .ensures in
+    let put = now .before .before .before .put-feeds .ensures in
+    let entry = start now .args .out .now in
     let pre = start now .pre in
     let blanks = passed-stop (scan .before .loop .inv) (denied (test .ensures) (not-true (test .result) (stopped .if3 .taken))) in
-    close-body (pre .0) (pre .1) (pre .2) (now .lines .inv) (para-at after) (other-at other) blanks (start now .args .out .now)
-    (longer after) (copied .0) (omega (arith, copied .1)) (scan .loop-test .taken) (closed .close .ensures)
+    close-body (pre .0) (pre .1) (pre .2) (now .lines .inv) (para-at after) (other-at other) blanks entry (line .0) (fed after) (after .skip-empty .ensures)
+    (line .1) (put .0 ∙ ap (sets entry 0) (sym (spanned-feeds (pre .0)))) (omega (arith, put .1)) (scan .loop-test .taken) (closed .close .ensures)
 
 pub lines-spec : {M : Type 1} → statement M
 lines-spec =
@@ -198,15 +227,19 @@ lines-spec =
     μ-loop
     Inv-lines
     μ-lines
-    copy-requires
+    sub-put-feeds
+    put-feeds-requires
     lines-holds
-    line-end-requires
+    copy-line-requires
     same-length
     returns
+    sub-w
+    add-w
     add-skip-empty
     skip-empty-requires
     check-whitespace-requires
-    copy-requires-2
+    sub-put-feeds-2
+    put-feeds-requires-2
     sub-from
     add-from
     lines-less
