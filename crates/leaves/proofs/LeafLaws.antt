@@ -8,7 +8,7 @@ use native.Mathlib.Omega.{arith}
 use lib.ListN.{length, take, drop}
 use lib.Seq.{slice, length-slice}
 use Rattle.numerals.specs.Value.{TooLarge}
-use Rattle.lexemes.specs.Kinds.{FLOAT}
+use Rattle.lexemes.specs.Kinds.{COMMA, FLOAT}
 use Rattle.lexemes.specs.Texts.{plain}
 use Rattle.grammar.specs.Trees.{Field, number, span, text}
 use Rattle.grammar.specs.Image.{entry, payload}
@@ -104,6 +104,11 @@ small st k h = let l = lies st in let y = l .some (λ z. omega (arith, k, z)) in
 pub past-stands : {s : List ℕ} {c c₁ : Cursor} → Stands s c → Past s c c₁ → Stands s c₁ × (c .at ≤ c₁ .at)
 past-stands st (past k mv) = (mv .stands, moved-on st mv)
 past-stands {s} {c} st (same h e) = (subst⁻¹ (Stands s) e st, omega (arith, ap (λ (x : Cursor). x .at) e))
+
+-- where one stands
+pub moved-past : {s : List ℕ} {c c₁ : Cursor} → Past s c c₁ → c .kind ≡ COMMA → Moved s c c₁
+moved-past (past k mv) h = mv
+moved-past (same k e) h = absurd (k h)
 
 pub past-comma : {g : ℕ} {s : List ℕ} {d : ℕ} {from : State} {r n e v w : ℕ} {x : List ℕ} {c c₁ : Cursor} {o : List ℕ} → Stands s c → Past s c c₁
     → Seg g s d from e v (state (goto (object-rest-end r x)) n c w o) → Seg g s d from e v (state (goto (object-pattern-close r x)) n c₁ w o)

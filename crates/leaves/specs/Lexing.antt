@@ -7,7 +7,7 @@ use lib.ListN.{length}
 use Rattle.lexemes.specs.Lexeme.{lexeme}
 use Rattle.lexemes.specs.Kept.{NextKept}
 use Rattle.lexemes.specs.Kinds.{EOF, IDENT, ASSIGN, COMMA, L-BRACK, R-BRACK, L-PAREN, L-BRACE, COLON, DOT, QUESTION-MARK, STRING-DOUBLE, STRING-SINGLE, STRING-DOUBLE-VERBATIM, STRING-SINGLE-VERBATIM, STRING-BLOCK}
-use Rattle.lexemes.specs.Kinds.{FOR-KW, LOCAL-KW, IF-KW, FUNCTION-KW, ASSERT-KW, ERROR-KW, IMPORT-KW, IMPORTSTR-KW, IMPORTBIN-KW}
+use Rattle.lexemes.specs.Kinds.{LOCAL-KW, IF-KW, FUNCTION-KW, ASSERT-KW, ERROR-KW, IMPORT-KW, IMPORTSTR-KW, IMPORTBIN-KW}
 use Rattle.grammar.specs.Productions.{exp-object-iteration, exp-null-coaelse}
 use Rattle.grammar.specs.Reading.{has}
 use mathlib.Core.Bool.{Bool, true, false}
@@ -39,13 +39,6 @@ pub data Named (s : List ℕ) (c : Cursor) : ℕ → Type 0 where
   named : {c₁ : Cursor} → c .kind ≡ IDENT → Moved s c c₁ → c₁ .kind ≡ ASSIGN → Named s c 1
   no-name : (c .kind ≡ IDENT → ⊥) → Named s c 0
   no-value : {c₁ : Cursor} → c .kind ≡ IDENT → Moved s c c₁ → (c₁ .kind ≡ ASSIGN → ⊥) → Named s c 0
-
--- `for`, or a comma and `for`: 1; else 0.
-pub data Clauses (s : List ℕ) (c : Cursor) : ℕ → Type 0 where
-  at-for : c .kind ≡ FOR-KW → Clauses s c 1
-  comma-for : {c₁ : Cursor} → c .kind ≡ COMMA → Moved s c c₁ → c₁ .kind ≡ FOR-KW → Clauses s c 1
-  neither : (c .kind ≡ FOR-KW → ⊥) → (c .kind ≡ COMMA → ⊥) → Clauses s c 0
-  comma-alone : {c₁ : Cursor} → c .kind ≡ COMMA → Moved s c c₁ → (c₁ .kind ≡ FOR-KW → ⊥) → Clauses s c 0
 
 -- `[`, a name, `]` and `:`, where setting g has object iteration: 1, and they stand at these cursors; else 0.
 pub data Header (g : ℕ) (s : List ℕ) (c : Cursor) : ℕ → Type 0 where

@@ -3,7 +3,7 @@ ghost use mathlib.Core.Path.{_≡_};
 ghost use Prim.Native.Nat.{_≤_, _<_};
 ghost use lib.ListN.{length};
 ghost use Rattle.lexemes.specs.Kinds.{EOF};
-ghost use Rattle.leaves.specs.Lexing.{Stands, Moved, Named, Clauses, Header, Suffixed};
+ghost use Rattle.leaves.specs.Lexing.{Stands, Moved, Named, Header, Suffixed};
 ghost use Rattle.leaves.specs.Meets.{Eats};
 ghost use Rattle.leaves.specs.declared.Answer.the-variants.{Broken};
 use crate::Answer;
@@ -73,24 +73,6 @@ pub fn named_at(src: &[u8], c: Cursor) -> usize
     }
     let c1 = eat_any(src, c);
     if c1.kind != Kind::ASSIGN {
-        return 0;
-    }
-    1
-}
-
-// expr_basic's arrays: whether clauses stand next, perhaps after a comma, as 1 or 0.
-pub fn clauses_at(src: &[u8], c: Cursor) -> usize
-    requires { ⌜ Stands (now src) c ⌝ }
-    ensures { λ r. ⌜ Clauses (now (src .entry)) c r ⌝ }
-{
-    if c.kind == Kind::FOR_KW {
-        return 1;
-    }
-    if c.kind != Kind::COMMA {
-        return 0;
-    }
-    let c1 = eat_any(src, c);
-    if c1.kind != Kind::FOR_KW {
         return 0;
     }
     1

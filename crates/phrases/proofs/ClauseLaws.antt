@@ -18,10 +18,11 @@ use Rattle.grammar.specs.Lexemes.{Lexeme, Said, says, said, rest, kind-of, word
 use Rattle.grammar.specs.Productions.{Phrase, Body, end, goto, _▸_, eat, sub, deep, close, rule, expression, exp-object-iteration, for-clause, pattern, header, iteration, iteration-value, clauses, more-clauses, if-clause, members, next-member, comprehension, Step, array-first, array-comp, elements}
 use Rattle.grammar.specs.Reading.{has, choose, view, production, Outcome, Reading, gone as read-gone}
 use Rattle.grammar.proofs.Chosen.{pick-yes, pick-no}
-use Rattle.leaves.specs.Lexing.{Stands, Moved, Header, header as is-header, off, no-bracket, no-key, not-closed, no-colon, Colons, none-more, one-more, two-more, Past, past, same, Clauses, at-for, comma-for, neither, comma-alone}
+use Rattle.leaves.specs.Lexing.{Stands, Moved, Header, header as is-header, off, no-bracket, no-key, not-closed, no-colon, Colons, none-more, one-more, two-more, Past, past, same}
 use Rattle.leaves.specs.Meets.{power, State, state, Seg, Breaks, Leads, Takes, Counted, Counts}
 use Rattle.leaves.proofs.LexemeLaws.{lies, Sees, sees, sees-next, sight, seen, name-says, moved-once}
 use Rattle.leaves.proofs.PartLaws.{wrote-lent}
+use Rattle.leaves.proofs.LeafLaws.{moved-past}
 use Rattle.leaves.proofs.Answer.{the-type}
 use Rattle.leaves.proofs.Steps
 use Rattle.leaves.specs.declared.Cursor.{Cursor}
@@ -310,10 +311,9 @@ module _ {g : ℕ} {s : List ℕ} {d : ℕ} {from : State} {f n e v w : ℕ} {c 
   -- past a comma
   pub members-next : Stands s c → Past s c c₁ → c .kind ≡ 33 → Seg g s d from e v (state (goto (members f)) n c w o) → Seg g s d from e v (state (goto (next-member f)) n c₁ w o)
   unfolding rule choose has sight
-  members-next st (past k mv) h p =
-      let q = Steps.taken (omega arith) st mv k (Steps.known (eat 33 ▸ goto (next-member f)) st k (λ xs t. refl) p) in
+  members-next st i k p =
+      let q = Steps.taken (omega arith) st (moved-past i k) k (Steps.known (eat 33 ▸ goto (next-member f)) st k (λ xs t. refl) p) in
       repaid e v (omega (arith, q .onward)) (omega (arith, q .credit)) q
-  members-next st (same k i) h p = absurd (k h)
 
   pub members-last : Stands s c → Past s c c₁ → ¬ (c .kind ≡ 33) → ¬ (c₁ .kind ≡ 83) → Seg g s d from e v (state (goto (members f)) n c w o)
       → Seg g s d from e v (state (close 9 (number n ∷ []) ▸ end) n c₁ w o)
@@ -345,28 +345,23 @@ module _ (g p n : ℕ) (xs : List Lexeme) where
   unfolding production choose rule view has
   first-other a b = rw (a, b) refl
 
-module _ {g : ℕ} {s : List ℕ} {d : ℕ} {from : State} {n e v w : ℕ} {c : Cursor} {o : List ℕ} where
-  -- at its clauses
-  pub array-for : {r : ℕ} {c₁ : Cursor} → Stands s c → Clauses s c r → r ≡ 1 → Past s c c₁ → Seg g s d from e v (state (goto array-first) n c w o)
-      → Seg g s d from e v (state (goto array-comp) n c₁ w o) × (c₁ .kind ≡ 83)
+module _ {g : ℕ} {s : List ℕ} {d : ℕ} {from : State} {n e v w : ℕ} {c c₁ : Cursor} {o : List ℕ} where
+  -- at its clauses, perhaps after a comma
+  pub array-for : Stands s c → Past s c c₁ → c₁ .kind ≡ 83 → Seg g s d from e v (state (goto array-first) n c w o) → Seg g s d from e v (state (goto array-comp) n c₁ w o)
   unfolding rule choose has sight
-  array-for st (at-for k) h (past j mv) p = absurd (omega (arith, k, j))
-  array-for st (at-for k) h (same j z) p = (here-still z (Steps.known (goto array-comp) st k (λ xs t. refl) p), ap (λ (x : Cursor). x .kind) z ∙ k)
-  array-for {c₁ = c₁} st (comma-for {c₁ = c₂} k m k₁) h (past j mv) p =
+  array-for st (past k mv) h p =
       let q =
       Steps.taken (omega arith) st mv k
       (Steps.goes (eat 33 ▸ goto array-comp) st
-      (λ xs y. first-comma g (c .at) n xs (is-not (kind-of xs) 83 (y .kind) (λ z. omega (arith, z, k))) (is (kind-of xs) 33 (y .kind) k) (is (kind-of (rest xs)) 83 (sees-next y m .kind) k₁)) p) in
-      (repaid e v (omega (arith, q .onward)) (omega (arith, q .credit)) q, subst (λ (x : Cursor). x .kind ≡ 83) (moved-once m mv) k₁)
-  array-for st (comma-for k m k₁) h (same j z) p = absurd (j k)
-  array-for st (neither _ _) h i p = absurd (omega (arith, h))
-  array-for st (comma-alone _ _ _) h i p = absurd (omega (arith, h))
+      (λ xs y. first-comma g (c .at) n xs (is-not (kind-of xs) 83 (y .kind) (λ z. omega (arith, z, k))) (is (kind-of xs) 33 (y .kind) k) (is (kind-of (rest xs)) 83 (sees-next y mv .kind) h)) p) in
+      repaid e v (omega (arith, q .onward)) (omega (arith, q .credit)) q
+  array-for st (same j z) h p = here-still z (Steps.known (goto array-comp) st (sym (ap (λ (x : Cursor). x .kind) z) ∙ h) (λ xs t. refl) p)
 
-  -- at no clauses
-  pub array-no-for : {r : ℕ} → Stands s c → Clauses s c r → ¬ (r ≡ 1) → Seg g s d from e v (state (goto array-first) n c w o) → Seg g s d from e v (state (goto elements) n c w o)
-  array-no-for st (at-for k) h p = absurd (h refl)
-  array-no-for st (comma-for _ _ _) h p = absurd (h refl)
-  array-no-for st (neither i j) h p = Steps.goes (goto elements) st (λ xs y. first-other g (c .at) n xs (is-not (kind-of xs) 83 (y .kind) i) (is-not (kind-of xs) 33 (y .kind) j)) p
-  array-no-for st (comma-alone k m i) h p =
+  -- at no clauses: the comma, if there is one, is before an element
+  pub array-no-for : Stands s c → Past s c c₁ → ¬ (c₁ .kind ≡ 83) → Seg g s d from e v (state (goto array-first) n c w o) → Seg g s d from e v (state (goto elements) n c w o)
+  array-no-for st (past k mv) h p =
       Steps.goes (goto elements) st
-      (λ xs y. first-alone g (c .at) n xs (is-not (kind-of xs) 83 (y .kind) (λ z. omega (arith, z, k))) (is (kind-of xs) 33 (y .kind) k) (is-not (kind-of (rest xs)) 83 (sees-next y m .kind) i)) p
+      (λ xs y. first-alone g (c .at) n xs (is-not (kind-of xs) 83 (y .kind) (λ z. omega (arith, z, k))) (is (kind-of xs) 33 (y .kind) k) (is-not (kind-of (rest xs)) 83 (sees-next y mv .kind) h)) p
+  array-no-for st (same j z) h p =
+      let i : ¬ (c .kind ≡ 83) = λ y. h (ap (λ (x : Cursor). x .kind) z ∙ y) in
+      Steps.goes (goto elements) st (λ xs y. first-other g (c .at) n xs (is-not (kind-of xs) 83 (y .kind) i) (is-not (kind-of xs) 33 (y .kind) j)) p

@@ -33,7 +33,6 @@ use leaves::object_pattern_close;
 use leaves::object_rest;
 use leaves::operators;
 use leaves::parser::NAME;
-use leaves::parser::clauses_at;
 use leaves::parser::eat;
 use leaves::parser::eat_any;
 use leaves::parser::error;
@@ -850,8 +849,9 @@ fn array(src: &[u8], out: &mut [u8], c: Cursor, w: usize, left: usize, set: u64)
     let Answer::Done(c1, w1, _) = a else {
         return a;
     };
-    if clauses_at(src, c1) == 1 {
-        let d = specs(src, out, past_comma(src, c1), w1, left, set);
+    let mut next = past_comma(src, c1);
+    if next.kind == Kind::FOR_KW {
+        let d = specs(src, out, next, w1, left, set);
         let WithCount::Done(c2, w2, m) = d else {
             return d;
         };
@@ -864,7 +864,6 @@ fn array(src: &[u8], out: &mut [u8], c: Cursor, w: usize, left: usize, set: u64)
         if cur.kind != Kind::COMMA {
             return array_close(src, out, cur, at, Tag::ARRAY, n);
         }
-        let next = eat_any(src, cur);
         if next.kind == Kind::R_BRACK {
             return array_close(src, out, next, at, Tag::ARRAY, n);
         }
@@ -875,6 +874,7 @@ fn array(src: &[u8], out: &mut [u8], c: Cursor, w: usize, left: usize, set: u64)
         n += 1;
         cur = c2;
         at = w2;
+        next = past_comma(src, c2);
     }
 }
 

@@ -16,19 +16,22 @@ use Rattle.lexemes.specs.Kinds.{R-BRACK, COMMA, FOR-KW}
 use Rattle.grammar.specs.Tags.{ARRAY, ARRAY-COMP}
 use Rattle.grammar.specs.Productions.{Body, goto, eat, sub, _▸_, rule, expression, array, array-first, array-comp, array-comp-end, clauses, elements, next-element}
 use Rattle.grammar.specs.Reading.{choose, has}
-use Rattle.leaves.specs.Lexing.{Stands}
+use Rattle.leaves.specs.Lexing.{Stands, Past}
 use Rattle.leaves.specs.Meets.{state, Seg, bracketed}
 use Rattle.leaves.specs.declared.Cursor.{Cursor}
 use Rattle.phrases.proofs.CountLaws.{step-grows}
 use Rattle.leaves.proofs.LexemeLaws.{sight}
+use Rattle.leaves.proofs.LeafLaws.{past-stands, moved-past}
 use Rattle.phrases.proofs.KeywordLaws.{array-clauses, array-clauses-end}
 use Rattle.phrases.proofs.ClauseLaws.{array-for, array-no-for}
 
+-- `next` is behind the comma at `cur`, if one stands there
 abbrev pub Inv-loop : lts.InvT-loop
-Inv-loop src out₀ w left set w1 cur₀ at₀ n₀ out cur at n = Steps.Turns set src left (goto elements) 1 cur₀ at₀ out₀ (goto elements) n cur at out × (n ≤ cur .at)
+Inv-loop src out₀ w left set w1 next₀ cur₀ at₀ n₀ out next cur at n =
+    Steps.Turns set src left (goto elements) 1 cur₀ at₀ out₀ (goto elements) n cur at out × (n ≤ cur .at) × Past src cur next
 
 abbrev pub μ-loop : lts.MeasureT-loop
-μ-loop src out₀ w left set w1 cur₀ at₀ n₀ out cur at n = length src - cur .at
+μ-loop src out₀ w left set w1 next₀ cur₀ at₀ n₀ out next cur at n = length src - cur .at
 
 module _ (t : ℕ) where
   abbrev Begin : Type 0
@@ -63,38 +66,39 @@ module _ (t : ℕ) where
 
   -- ── A comprehension ─────────────────────────────────────────────────────────────────────────────
   abbrev c₃ : lts.After-past-comma (K t) (P t) Post Inv-loop μ-loop → lts.After-a (K t) (P t) Post Inv-loop μ-loop
-  c₃ c = c .before .before .before .before .before
+  c₃ x = x .before .before
 
-  found : (c : lts.After-past-comma (K t) (P t) Post Inv-loop μ-loop) → let a = c₃ c in
-      So (a₂ a) (goto array-comp) 1 (c .past-comma .result) (a .a .given .0 .1 .0) (x₂ a .expr .last .1 .0) × (c .past-comma .result .kind ≡ FOR-KW)
-  found c = let x = c .before .before in array-for (there (c₃ c)) (x .before .clauses-at .ensures) (x .if2 .taken) (c .past-comma .ensures) (first (c₃ c))
+  found : (c : lts.Then2 (K t) (P t) Post Inv-loop μ-loop) → let x = c .before .before in let a = c₃ x in
+      So (a₂ a) (goto array-comp) 1 (x .past-comma .result) (a .a .given .0 .1 .0) (x₂ a .expr .last .1 .0)
+  found c = let x = c .before .before in array-for (there (c₃ x)) (x .past-comma .ensures) (c .if2 .taken) (first (c₃ x))
 
-  clausal : (c : lts.After-past-comma (K t) (P t) Post Inv-loop μ-loop) → let a = c₃ c in
-      So (a₂ a) (sub clauses ▸ goto array-comp-end) 1 (c .past-comma .result) (a .a .given .0 .1 .0) (x₂ a .expr .last .1 .0)
+  clausal : (c : lts.Then2 (K t) (P t) Post Inv-loop μ-loop) → let x = c .before .before in let a = c₃ x in
+      So (a₂ a) (sub clauses ▸ goto array-comp-end) 1 (x .past-comma .result) (a .a .given .0 .1 .0) (x₂ a .expr .last .1 .0)
   clausal c =
-      let a = a₂ (c₃ c) in
-      let f = c .past-comma .result in
-      Steps.known (sub clauses ▸ goto array-comp-end) (found c .0 .stands (a .pre .1 .stands)) refl (λ xs t. array-clauses (a .args .set) f xs 1 (f .kind) t) (found c .0)
+      let x = c .before .before in
+      let a = a₂ (c₃ x) in
+      let f = x .past-comma .result in
+      Steps.known (sub clauses ▸ goto array-comp-end) (found c .stands (a .pre .1 .stands)) refl (λ xs t. array-clauses (a .args .set) f xs 1 (f .kind) t) (found c)
 
   abbrev x₄ : lts.After-d (K t) (P t) Post Inv-loop μ-loop → lts.After-specs (K t) (P t) Post Inv-loop μ-loop
   x₄ c = c .before .before .before .before
 
   abbrev a₄ : lts.After-d (K t) (P t) Post Inv-loop μ-loop → Begin
-  a₄ c = a₂ (c₃ (x₄ c .before))
+  a₄ c = a₂ (c₃ (x₄ c .before .before .before .before))
 
   -- how many clauses
   abbrev many : lts.After-d (K t) (P t) Post Inv-loop μ-loop → ℕ
   many c = c .d .given .0 .1 .1 .0
 
   listed : (c : lts.After-d (K t) (P t) Post Inv-loop μ-loop) → So (a₄ c) (goto array-comp-end) (1 + many c) (c .d .given .0 .0) (c .d .given .0 .1 .0) (x₄ c .specs .last .1 .0)
-  listed c = Steps.took (Steps.counted (x₄ c .specs .ensures) (c .d .given .1) .0) refl (clausal (x₄ c .before))
+  listed c = Steps.took (Steps.counted (x₄ c .specs .ensures) (c .d .given .1) .0) refl (clausal (x₄ c .before .before))
 
   -- ── Elements ────────────────────────────────────────────────────────────────────────────────────
-  listing : (c : lts.Else2 (K t) (P t) Post Inv-loop μ-loop) → let a = c .before .before .before in So (a₂ a) (goto elements) 1 (a .a .given .0 .0) (a .a .given .0 .1 .0) (x₂ a .expr .last .1 .0)
-  listing c = let a = c .before .before .before in array-no-for (there a) (c .before .clauses-at .ensures) (c .if2 .left) (first a)
+  listing : (c : lts.Else2 (K t) (P t) Post Inv-loop μ-loop) → let a = c₃ (c .before .before) in So (a₂ a) (goto elements) 1 (a .a .given .0 .0) (a .a .given .0 .1 .0) (x₂ a .expr .last .1 .0)
+  listing c = let x = c .before .before in array-no-for (there (c₃ x)) (x .past-comma .ensures) (c .if2 .left) (first (c₃ x))
 
   abbrev a₅ : Turn → Begin
-  a₅ l = a₂ (l .before .before .before .before)
+  a₅ l = a₂ (c₃ (l .before .before .before))
 
   so-far : (l : Turn) → So (a₅ l) (goto elements) (l .loop .n) (l .loop .cur) (l .loop .at) (l .loop .out)
   so-far l = Steps.then (listing (l .before)) (l .loop .inv .0 .seg)
@@ -103,24 +107,28 @@ module _ (t : ℕ) where
   abbrev Go : Turn → ℕ → Body → ℕ → Cursor → ℕ → List ℕ → Type 0
   Go l e b n c w o = let x = a₅ l .args in Seg (x .set) (x .src .now) (x .left) (state (goto elements) (l .loop .n) (l .loop .cur) (l .loop .at) (l .loop .out)) e 0 (state b n c w o)
 
-  abbrev l₁ : lts.After-eat-any (K t) (P t) Post Inv-loop μ-loop → Turn
-  l₁ c = c .before .before .before
+  abbrev l₁ : lts.Else3 (K t) (P t) Post Inv-loop μ-loop → Turn
+  l₁ c = c .before .before
 
-  comma : (c : lts.After-eat-any (K t) (P t) Post Inv-loop μ-loop) → let l = l₁ c .loop in Go (l₁ c) 1 (goto next-element) (l .n) (c .eat-any .result) (l .at) (l .out)
+  comma : (c : lts.Else3 (K t) (P t) Post Inv-loop μ-loop) → let l = l₁ c .loop in Go (l₁ c) 1 (goto next-element) (l .n) (l .next) (l .at) (l .out)
   unfolding rule choose has sight
   comma c =
-      let st = l₁ c .loop .inv .0 .ok .stands in
-      let is = c .before .if3 .left in
-      Steps.taken (lit< tt) st (c .eat-any .ensures) is (Steps.known (eat COMMA ▸ goto next-element) st is (λ xs t. refl) Steps.here)
+      let i = l₁ c .loop .inv in
+      let st = i .0 .ok .stands in
+      let is = c .if3 .left in
+      Steps.taken (lit< tt) st (moved-past (i .2) is) is (Steps.known (eat COMMA ▸ goto next-element) st is (λ xs t. refl) Steps.here)
 
-  shut : (c : lts.Then4 (K t) (P t) Post Inv-loop μ-loop) → let e = c .before .before in let l = l₁ e .loop in Go (l₁ e) 1 (bracketed ARRAY (l .n)) (l .n) (e .eat-any .result) (l .at) (l .out)
+  behind : (l : Turn) → Stands (a₅ l .args .src .now) (l .loop .next)
+  behind l = past-stands (l .loop .inv .0 .ok .stands) (l .loop .inv .2) .0
+
+  shut : (c : lts.Then4 (K t) (P t) Post Inv-loop μ-loop) → let e = c .before .before in let l = l₁ e .loop in Go (l₁ e) 1 (bracketed ARRAY (l .n)) (l .n) (l .next) (l .at) (l .out)
   unfolding rule choose has sight
-  shut c = let e = c .before .before in Steps.known (bracketed ARRAY (l₁ e .loop .n)) (e .eat-any .ensures .stands) (c .if4 .taken) (λ xs t. refl) (comma e)
+  shut c = let e = c .before .before in Steps.known (bracketed ARRAY (l₁ e .loop .n)) (behind (l₁ e)) (c .if4 .taken) (λ xs t. refl) (comma e)
 
   more : (c : lts.Else4 (K t) (P t) Post Inv-loop μ-loop) → let e = c .before .before in let l = l₁ e .loop in
-      Go (l₁ e) 1 (expression ▸ goto elements) (l .n) (e .eat-any .result) (l .at) (l .out)
+      Go (l₁ e) 1 (expression ▸ goto elements) (l .n) (l .next) (l .at) (l .out)
   unfolding rule choose has sight
-  more c = let e = c .before .before in Steps.known (expression ▸ goto elements) (e .eat-any .ensures .stands) refl (λ xs t. simp (ne-eqb _ R-BRACK (c .if4 .left))) (comma e)
+  more c = let e = c .before .before in Steps.known (expression ▸ goto elements) (behind (l₁ e)) refl (λ xs t. simp (ne-eqb _ R-BRACK (c .if4 .left))) (comma e)
 
   abbrev x₃ : lts.After-b (K t) (P t) Post Inv-loop μ-loop → lts.After-expr2 (K t) (P t) Post Inv-loop μ-loop
   x₃ c = c .before .before .before .before
@@ -132,14 +140,11 @@ module _ (t : ℕ) where
   again c = Steps.took (x₃ c .expr2 .ensures) (c .b .given .1) (more (x₃ c .before .before))
 
   -- ── What each call asks ─────────────────────────────────────────────────────────────────────────
-  clauses-at-requires : lts.Need-clauses-at-requires (K t) (P t) Post Inv-loop μ-loop
-  clauses-at-requires c κs = there (c .before)
-
   past-comma-requires : lts.Need-past-comma-requires (K t) (P t) Post Inv-loop μ-loop
-  past-comma-requires c κs = there (c .before .before .before .before)
+  past-comma-requires c κs = there (c .before)
 
   specs-requires : lts.Need-specs-requires (K t) (P t) Post Inv-loop μ-loop
-  specs-requires c κs = let p = a₂ (c₃ c) .pre in (omega (arith, p .0), (Steps.ready (p .1) (lit≤ tt) (found c .0), found c .1))
+  specs-requires c κs = let f = c .before in let p = a₂ (c₃ (f .before .before)) .pre in (omega (arith, p .0), (Steps.ready (p .1) (lit≤ tt) (found f), f .if2 .taken))
 
   array-close-requires-2 : lts.Need-array-close-requires-2 (K t) (P t) Post Inv-loop μ-loop
   array-close-requires-2 c κs = let d = c .before .before in (Steps.ready (a₄ d .pre .1) (lit≤ tt) (listed d), omega (arith, Steps.counted (x₄ d .specs .ensures) (d .d .given .1) .1))
@@ -152,13 +157,19 @@ module _ (t : ℕ) where
 
   -- ── The loop, and what each return owes ─────────────────────────────────────────────────────────
   loop-holds : lts.Need-loop-holds (K t) (P t) Post Inv-loop μ-loop
-  loop-holds c = let a = c .before .before .before in (Steps.begun (Steps.ready (a₂ a .pre .1) (lit≤ tt) (listing c)), omega (arith, step-grows (x₂ a .expr .ensures) (a .a .given .1)))
+  loop-holds c =
+      let x = c .before .before in
+      let a = c₃ x in
+      (Steps.begun (Steps.ready (a₂ a .pre .1) (lit≤ tt) (listing c)), omega (arith, step-grows (x₂ a .expr .ensures) (a .a .given .1)), x .past-comma .ensures)
+
+  past-comma-requires-2 : lts.Need-past-comma-requires-2 (K t) (P t) Post Inv-loop μ-loop
+  past-comma-requires-2 c κs = let b = c .before in again b .stands (l₃ b .loop .inv .0 .ok .stands)
 
   loop-less : lts.Need-loop-less (K t) (P t) Post Inv-loop μ-loop
-  loop-less c = Steps.closer (l₃ (c .before) .loop .inv .0 .ok) (lit≤ tt) (again (c .before))
+  loop-less c = let b = c .before .before in Steps.closer (l₃ b .loop .inv .0 .ok) (lit≤ tt) (again b)
 
   loop-again : lts.Need-loop-again (K t) (P t) Post Inv-loop μ-loop
-  loop-again c = let b = c .before in let i = l₃ b .loop .inv in (Steps.turned (i .0) (lit≤ tt) (again b), omega (arith, i .1, again b .onward))
+  loop-again c = let b = c .before .before in let i = l₃ b .loop .inv in (Steps.turned (i .0) (lit≤ tt) (again b), omega (arith, i .1, again b .onward), c .past-comma2 .ensures)
 
   returns : lts.Need-returns (K t) (P t) Post Inv-loop μ-loop
   unfolding rule choose has sight
@@ -172,7 +183,7 @@ module _ (t : ℕ) where
   returns-2 c = let x = c .before .before .before .before in Steps.passed (Steps.takes-broken (x .expr .ensures) (c .before .match .keys2)) (entered (x .before .before))
 
   returns-3 : lts.Need-returns-3 (K t) (P t) Post Inv-loop μ-loop
-  returns-3 c = let x = c .before .before .before .before in Steps.passed (Steps.counts-broken (x .specs .ensures) (c .before .match2 .keys2)) (clausal (x .before))
+  returns-3 c = let x = c .before .before .before .before in Steps.passed (Steps.counts-broken (x .specs .ensures) (c .before .match2 .keys2)) (clausal (x .before .before))
 
   returns-4 : lts.Need-returns-4 (K t) (P t) Post Inv-loop μ-loop
   returns-4 c =
@@ -202,7 +213,7 @@ module _ (t : ℕ) where
       Steps.passed (Steps.takes-broken (x .expr2 .ensures) (c .before .match3 .keys2)) (Steps.onto (so-far (l₁ (m .before .before))) (more m))
 
   same-length-3 : lts.Need-same-length-3 (K t) (P t) Post Inv-loop μ-loop
-  same-length-3 c = let x = c .before .before .before .before in x .specs .kept .1 .0 ∙ Steps.same (clausal (x .before))
+  same-length-3 c = let x = c .before .before .before .before in x .specs .kept .1 .0 ∙ Steps.same (clausal (x .before .before))
 
   same-length-4 : lts.Need-same-length-4 (K t) (P t) Post Inv-loop μ-loop
   same-length-4 c = let x = c .before .before in x .array-close2 .kept .1 .0 ∙ Steps.same (listed (x .before .before .before))
@@ -219,6 +230,6 @@ module _ (t : ℕ) where
   -- All of them, in the order of the code.
   pub met : {M : Type 1} → lts.Closed (K t) (P t) Post M
   met = lts.spec (K t) (P t) Post Inv-loop μ-loop (λ c κs. search needs) (λ c. search needs) returns (λ c κs. search needs) (λ c. search needs) (λ c. search needs) (λ c. search needs) returns-2
-      clauses-at-requires past-comma-requires specs-requires (λ c. search needs) (λ c. search needs) same-length-3 returns-3 array-close-requires-2 same-length-4 returns-4 loop-holds
-      (λ c κs. search needs) same-length-5 returns-5 (λ c κs. search needs) array-close-requires-4 same-length-6 returns-6 expr-requires-2 (λ c. search needs) (λ c. search needs) same-length-7
-      returns-7 (λ c. search needs) loop-less loop-again
+      past-comma-requires specs-requires (λ c. search needs) (λ c. search needs) same-length-3 returns-3 array-close-requires-2 same-length-4 returns-4 loop-holds (λ c κs. search needs)
+      same-length-5 returns-5 array-close-requires-4 same-length-6 returns-6 expr-requires-2 (λ c. search needs) (λ c. search needs) same-length-7 returns-7 (λ c. search needs)
+      past-comma-requires-2 loop-less loop-again

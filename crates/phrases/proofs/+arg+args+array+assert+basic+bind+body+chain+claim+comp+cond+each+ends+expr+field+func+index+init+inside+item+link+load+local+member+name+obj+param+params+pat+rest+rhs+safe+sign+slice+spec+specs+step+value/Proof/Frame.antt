@@ -147,7 +147,6 @@ use Rattle.leaves.proofs.slice_close.Reads as slice-close-reads
 use Rattle.leaves.proofs.visibility.Reads as visibility-reads
 use Rattle.leaves.proofs.with_member.Reads as with-member-reads
 use Rattle.leaves.proofs.operators.infix.Reads as infix-reads
-use Rattle.leaves.proofs.parser.clauses_at.Reads as clauses-at-reads
 use Rattle.leaves.proofs.parser.eat.Reads as eat-reads
 use Rattle.leaves.proofs.parser.eat_any.Reads as eat-any-reads
 use Rattle.leaves.proofs.parser.error.Reads as error-reads
@@ -506,7 +505,7 @@ abbrev pub args-claims : ℕ → args-lts.Claims
 args-claims t = (call-close-reads.Asked, call-close-reads.Learnt, named-at-reads.Asked, named-at-reads.Learnt, arg-below t, arg.Post, eat-any-reads.Asked, eat-any-reads.Learnt)
 
 abbrev pub array-claims : ℕ → array-lts.Claims
-array-claims t = (array-close-reads.Asked, array-close-reads.Learnt, expr-below t, expr.Post, clauses-at-reads.Asked, clauses-at-reads.Learnt, past-comma-reads.Asked, past-comma-reads.Learnt, specs-below t, specs.Post, eat-any-reads.Asked, eat-any-reads.Learnt)
+array-claims t = (array-close-reads.Asked, array-close-reads.Learnt, expr-below t, expr.Post, past-comma-reads.Asked, past-comma-reads.Learnt, specs-below t, specs.Post)
 
 abbrev pub assert-claims : ℕ → assert-lts.Claims
 assert-claims t = (eat-reads.Asked, eat-reads.Learnt, expr-below t, expr.Post, put-marked-reads.Asked, put-marked-reads.Learnt, eat-any-reads.Asked, eat-any-reads.Learnt)
