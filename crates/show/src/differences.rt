@@ -3,7 +3,7 @@ use crate::places::say_place;
 use crate::refusals::say_line;
 use crate::say::say;
 use crate::say::say_characters;
-use crate::say::say_text;
+use crate::texts::say_text;
 
 // A place of a source under its name, what stands there between words, and its line with carets.
 fn point(name: &[u8], source: &[u8], start: usize, end: usize, before: &[u8], after: &[u8]) {

@@ -1,7 +1,7 @@
 // A bad escape of a string, told from its backslash on: what is wrong with it, and what stands there.
 use crate::say::character_end;
 use crate::say::say;
-use crate::say::say_text;
+use crate::texts::say_text;
 
 // The byte at a place, 0 past the end: 0 is in no escape.
 fn byte_at(escape: &[u8], at: usize) -> u8 {

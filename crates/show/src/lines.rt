@@ -5,8 +5,10 @@ use crate::records::number;
 use crate::records::rest;
 use crate::say::say;
 use crate::say::say_count;
-use crate::say::say_text;
 use crate::say::say_word;
+use crate::texts::lines;
+use crate::texts::say_quoted;
+use crate::texts::say_text;
 use grammar::tags::Tag;
 
 // ` at` the place where the span begins that stands at a place of the payload.
@@ -29,6 +31,18 @@ fn say_named(word: &[u8], name: &[u8]) {
     say_text(b"", name);
 }
 
+// A text of several lines by their count: they follow it line by line.
+fn say_string(p: &[u8]) {
+    say(b"string");
+    let n = lines(p);
+    if n > 1 {
+        say_count(n, b"line");
+        return;
+    }
+    say(b" ");
+    say_quoted(p);
+}
+
 fn say_leaf(tag: u8, p: &[u8], places: &[usize]) {
     match tag {
         Tag::IDENTITY => {
@@ -38,10 +52,7 @@ fn say_leaf(tag: u8, p: &[u8], places: &[usize]) {
         Tag::NULL => say(b"null"),
         Tag::BOOL => say_word(b"false true", byte(p, 0)),
         Tag::NUMBER => say_named(b"number", p),
-        Tag::STRING => {
-            say(b"string ");
-            say_text(b"\"", p);
-        }
+        Tag::STRING => say_string(p),
         _ => {
             say_named(b"variable", rest(p, 4));
             say_at(p, 0, places);

@@ -3,8 +3,8 @@ ghost use Prim.Native.Nat.{_≤_, _<_};
 ghost use lib.ListN.{length};
 use libc::STDOUT_FILENO;
 
-// How many characters of a text are shown.
-const SHOWN: usize = 60;
+// How deep lines are indented; beyond that a line begins with its depth.
+const INDENTED: usize = 24;
 
 pub fn say(text: &[u8]) {
     io::write_all(STDOUT_FILENO, text);
@@ -30,6 +30,10 @@ pub fn say_word(words: &[u8], n: u8) {
     say(lists::field(words, n as usize));
 }
 
+pub fn say_hex(n: u32, digits: usize) {
+    io::print_hex(STDOUT_FILENO, n as u64, digits);
+}
+
 // The same text again and again.
 pub fn say_times(text: &[u8], n: usize) {
     let mut left = n;
@@ -37,6 +41,18 @@ pub fn say_times(text: &[u8], n: usize) {
         say(text);
         left -= 1;
     }
+}
+
+// The start of a line that stands so deep.
+pub fn indent(depth: usize) {
+    if depth <= INDENTED {
+        say_times(b"  ", depth);
+        return;
+    }
+    say_times(b"  ", INDENTED);
+    say(b"[");
+    say_number(depth);
+    say(b"] ");
 }
 
 // One more, short of wrapping.
@@ -138,32 +154,4 @@ pub fn say_characters(text: &[u8]) {
     while i < text.len() {
         i = say_character(text, i);
     }
-}
-
-// A text's first characters; whether that was all of it.
-fn say_start(text: &[u8]) -> bool {
-    let mut left = SHOWN;
-    let mut i = 0;
-    while i < text.len() {
-        if left == 0 {
-            say(b"...");
-            return false;
-        }
-        i = say_character(text, i);
-        left -= 1;
-    }
-    true
-}
-
-// A text between marks, shortened where it is long, and then with its length.
-pub fn say_text(mark: &[u8], text: &[u8]) {
-    say(mark);
-    let all = say_start(text);
-    say(mark);
-    if all {
-        return;
-    }
-    say(b" (");
-    say_number(text.len());
-    say(b" bytes)");
 }

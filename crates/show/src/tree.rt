@@ -3,12 +3,12 @@
 use crate::lines::say_record;
 use crate::records::byte;
 use crate::records::payload;
+use crate::say::indent;
+use crate::say::one_more;
 use crate::say::say;
-use crate::say::say_number;
-use crate::say::say_times;
-
-// How deep lines are indented; beyond that a line begins with its depth.
-const INDENTED: usize = 24;
+use crate::texts::lines;
+use crate::texts::show_lines;
+use grammar::tags::Tag;
 
 // The number at a place of the links; 0 beyond their end.
 fn link(links: &[usize], at: usize) -> usize {
@@ -54,23 +54,19 @@ fn push_children(links: &[usize], of: usize, stack: &mut [usize], top: usize) ->
     n
 }
 
-fn indent(depth: usize) {
-    if depth <= INDENTED {
-        say_times(b"  ", depth);
-        return;
-    }
-    say_times(b"  ", INDENTED);
-    say(b"[");
-    say_number(depth);
-    say(b"] ");
-}
-
 // How deep a record stands: of those shown before it, all but the ones above it stand before its tree in the image.
 fn depth(shown: usize, first: usize) -> usize {
     if shown < first {
         return 0;
     }
     shown - first
+}
+
+// The lines of a text that has several.
+fn show_text(text: &[u8], depth: usize) {
+    if lines(text) > 1 {
+        show_lines(text, depth);
+    }
 }
 
 // The line of a record, and its children on the stack.
@@ -84,9 +80,15 @@ fn show_record(
     shown: usize,
 ) -> usize {
     let at = start_of(links, r);
-    indent(depth(shown, first_of(links, r)));
-    say_record(byte(image, at), payload(image, at), places);
+    let tag = byte(image, at);
+    let p = payload(image, at);
+    let deep = depth(shown, first_of(links, r));
+    indent(deep);
+    say_record(tag, p, places);
     say(b"\n");
+    if tag == Tag::STRING {
+        show_text(p, one_more(deep));
+    }
     push_children(links, r, stack, top)
 }
 

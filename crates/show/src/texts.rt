@@ -1,0 +1,223 @@
+// A text as a person reads it: between quotes, line by line, with escapes for what cannot be seen. Its end is never left out: of a long line
+// the middle is, and how much that is is said.
+ghost use Prim.Native.Nat.{_≤_, _<_};
+ghost use lib.ListN.{length};
+use crate::say::character_end;
+use crate::say::indent;
+use crate::say::is_inside;
+use crate::say::one_more;
+use crate::say::say;
+use crate::say::say_characters;
+use crate::say::say_number;
+use crate::unseen::code_of;
+use crate::unseen::is_unseen;
+use crate::unseen::say_escape_of;
+
+// How many characters of a long line are shown before what is left out, and behind it.
+const FRONT: usize = 80;
+
+const BACK: usize = 40;
+
+// So few bytes are not left out.
+const SPARED: usize = 40;
+
+// The place so many characters from the start, or the end.
+pub fn ahead(text: &[u8], n: usize) -> usize
+    ensures { λ r. ⌜ r ≤ length (now (text .entry)) ⌝ }
+{
+    let mut left = n;
+    let mut i = 0;
+    while i < text.len() {
+        if left == 0 {
+            return i;
+        }
+        i = character_end(text, i);
+        left -= 1;
+    }
+    i
+}
+
+// The place so many characters from the end, or the start.
+pub fn behind(text: &[u8], n: usize) -> usize
+    ensures { λ r. ⌜ r ≤ length (now (text .entry)) ⌝ }
+{
+    let mut left = n;
+    let mut i = text.len();
+    while i > 0 {
+        if left == 0 {
+            return i;
+        }
+        i -= 1;
+        if is_inside(text[i]) {
+            continue;
+        }
+        left -= 1;
+    }
+    i
+}
+
+// Whether a byte stands for itself between quotes.
+fn is_plain(b: u8) -> bool {
+    match b {
+        b'"' => false,
+        b'\\' => false,
+        0x20..=0x7E => true,
+        _ => false,
+    }
+}
+
+// Where a run of such bytes ends.
+fn plain_end(text: &[u8], from: usize) -> usize
+    requires { ⌜ from ≤ length (now text) ⌝ }
+    ensures { λ r. ⌜ (from ≤ r) × (r ≤ length (now (text .entry))) ⌝ }
+{
+    let mut i = from;
+    while i < text.len() {
+        if !is_plain(text[i]) {
+            return i;
+        }
+        i += 1;
+    }
+    i
+}
+
+// One of the others below 128.
+fn say_escaped_byte(b: u8) {
+    match b {
+        b'"' => say(b"\\\""),
+        b'\\' => say(b"\\\\"),
+        b'\n' => say(b"\\n"),
+        b'\r' => say(b"\\r"),
+        b'\t' => say(b"\\t"),
+        _ => say_escape_of(b as u32),
+    }
+}
+
+// One character that is not plain; its end is handed back.
+fn say_escaped(text: &[u8], at: usize) -> usize
+    requires { ⌜ at < length (now text) ⌝ }
+    ensures { λ r. ⌜ (at < r) × (r ≤ length (now (text .entry))) ⌝ }
+{
+    let b = text[at];
+    if b < 0x80 {
+        say_escaped_byte(b);
+        return at + 1;
+    }
+    let end = character_end(text, at);
+    let character = &text[at..end];
+    let code = code_of(character);
+    if is_unseen(code) {
+        say_escape_of(code);
+        return end;
+    }
+    say(character);
+    end
+}
+
+// A text whole, between quotes.
+fn quote(text: &[u8]) {
+    say(b"\"");
+    let mut i = 0;
+    while i < text.len() {
+        let end = plain_end(text, i);
+        say(&text[i..end]);
+        i = end;
+        if i < text.len() {
+            i = say_escaped(text, i);
+        }
+    }
+    say(b"\"");
+}
+
+// A line between quotes; of a long one the middle is left out.
+pub fn say_quoted(line: &[u8]) {
+    let from = ahead(line, FRONT);
+    let to = behind(line, BACK);
+    if to <= from {
+        quote(line);
+        return;
+    }
+    if to - from <= SPARED {
+        quote(line);
+        return;
+    }
+    quote(&line[..from]);
+    say(b" ... ");
+    say_number(to - from);
+    say(b" bytes ... ");
+    quote(&line[to..]);
+}
+
+// Where the line that starts at a place ends, its LF included.
+fn line_end(text: &[u8], from: usize) -> usize
+    requires { ⌜ from < length (now text) ⌝ }
+    ensures { λ r. ⌜ (from < r) × (r ≤ length (now (text .entry))) ⌝ }
+{
+    let mut i = from;
+    while i < text.len() {
+        i += 1;
+        if text[i - 1] == b'\n' {
+            return i;
+        }
+    }
+    i
+}
+
+// How many lines a text has: what stands behind the last LF is one too.
+pub fn lines(text: &[u8]) -> usize {
+    let mut n = 0;
+    let mut i = 0;
+    while i < text.len() {
+        i = line_end(text, i);
+        n = one_more(n);
+    }
+    n
+}
+
+// Whether a text does not end in an LF.
+fn is_open(text: &[u8]) -> bool {
+    if text.len() == 0 {
+        return true;
+    }
+    text[text.len() - 1] != b'\n'
+}
+
+// The lines of a text, a line each; the last one tells that no LF follows it.
+pub fn show_lines(text: &[u8], depth: usize) {
+    let mut i = 0;
+    while i < text.len() {
+        let end = line_end(text, i);
+        let line = &text[i..end];
+        indent(depth);
+        say_quoted(line);
+        if is_open(line) {
+            say(b" and no line feed");
+        }
+        say(b"\n");
+        i = end;
+    }
+}
+
+// How many characters of a name or a lexeme are shown before what is left out, and behind it.
+const START: usize = 40;
+
+const END: usize = 20;
+
+// A name or a lexeme between marks; of a long one the middle is left out, and how much that is is said.
+pub fn say_text(mark: &[u8], text: &[u8]) {
+    say(mark);
+    let from = ahead(text, START);
+    let to = behind(text, END);
+    if to <= from {
+        say_characters(text);
+        say(mark);
+        return;
+    }
+    say_characters(&text[..from]);
+    say(b"...");
+    say_characters(&text[to..]);
+    say(mark);
+    say(b" (");
+    say_number(to - from);
+    say(b" bytes left out)");
+}

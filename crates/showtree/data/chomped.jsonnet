@@ -1,0 +1,7 @@
+{
+  note: |||-
+    Bay 3 waits for the crew.
+    Bay 4 may close.
+    Bay 5 stays open: the inflow needs it.
+  |||,
+}
