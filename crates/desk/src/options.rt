@@ -1,5 +1,8 @@
 // The words that a program is started with. `-s 4` or `-s4` gives a setting, `-o NAME` a file to write and `--image NAME` a file that is an image;
-// behind `--` every word is a file, and `-` is standard input. Words are taken one by one, so that an option holds for the files after it.
+// `--depth N` and `--at LINE:COLUMN` tell how much of a tree is shown, and `--colour` that it has colours. Behind `--` every word is a file, and `-` is
+// standard input. Words are taken one by one, so that an option holds for the files after it.
+ghost use Prim.Native.Nat.{_≤_};
+ghost use lib.ListN.{length};
 use libc::STDERR_FILENO;
 
 // What can be wrong with a word.
@@ -13,7 +16,14 @@ const UNKNOWN: u8 = 3; // the option does not exist
 
 const IMAGE: u8 = 4; // no name stands behind `--image`
 
+const DEPTH: u8 = 5; // no number stands behind `--depth`
+
+const AT: u8 = 6; // no place stands behind `--at`
+
 const NO_SETTING: u64 = u64::MAX;
+
+// Stands for a number where there is none.
+const NO_NUMBER: usize = usize::MAX;
 
 pub struct Options {
     pub setting: u64,
@@ -22,9 +32,14 @@ pub struct Options {
     pub image: bool, // whether that file is an image
     pub output: usize, // which word names the file to write, 0 where none does
     pub output_from: usize, // where in that word its name begins
+    pub depth: usize, // how deep lines are shown
+    pub line: usize, // of the place around which is shown, 0 where all is
+    pub column: usize,
+    pub colours: bool,
+    pub several: bool, // whether more than one file is named
     pub fault: u8, // what is wrong
     writes: bool, // whether the program takes `-o`
-    shows: bool, // whether it takes `--image`
+    shows: bool, // whether it takes the options of trees
     awaited: u8, // the letter of the option that the next word belongs to, or 0
     plain: bool, // whether `--` has stood
 }
@@ -55,6 +70,41 @@ fn setting_of(word: &[u8]) -> u64 {
     tens * 10 + ones
 }
 
+// A number of up to nine digits in decimal.
+fn number_of(word: &[u8]) -> usize {
+    if word.len() == 0 {
+        return NO_NUMBER;
+    }
+    if word.len() > 9 {
+        return NO_NUMBER;
+    }
+    let mut n: u64 = 0;
+    let mut i = 0;
+    while i < word.len() {
+        let d = digit(word[i]);
+        if d > 9 {
+            return NO_NUMBER;
+        }
+        n = n % 100_000_000 * 10 + d;
+        i += 1;
+    }
+    n as usize
+}
+
+// Where a word's first colon stands, or its end.
+fn colon(word: &[u8]) -> usize
+    ensures { λ r. ⌜ r ≤ length (now (word .entry)) ⌝ }
+{
+    let mut i = 0;
+    while i < word.len() {
+        if word[i] == b':' {
+            return i;
+        }
+        i += 1;
+    }
+    i
+}
+
 impl Options {
     pub fn new(writes: bool) -> Self {
         Self {
@@ -64,6 +114,11 @@ impl Options {
             image: false,
             output: 0,
             output_from: 0,
+            depth: NO_NUMBER,
+            line: 0,
+            column: 0,
+            colours: false,
+            several: false,
             fault: NOTHING,
             writes: writes,
             shows: false,
@@ -72,10 +127,11 @@ impl Options {
         }
     }
 
-    // Those of a program that takes images and writes no file.
-    pub fn for_images() -> Self {
+    // Those of a program that shows trees and writes no file.
+    pub fn for_trees(several: bool) -> Self {
         let mut options = Self::new(false);
         options.shows = true;
+        options.several = several;
         options
     }
 
@@ -104,6 +160,37 @@ impl Options {
         let mut options = self.with_file(i);
         options.image = true;
         options
+    }
+
+    fn with_depth(mut self, text: &[u8]) -> Self {
+        let depth = number_of(text);
+        if depth == NO_NUMBER {
+            return self.with_fault(DEPTH);
+        }
+        self.depth = depth;
+        self
+    }
+
+    // `LINE:COLUMN`, both from 1.
+    fn with_place(mut self, text: &[u8]) -> Self {
+        let end = colon(text);
+        if end == text.len() {
+            return self.with_fault(AT);
+        }
+        let line = number_of(crate::front(text, end));
+        let column = number_of(&text[end + 1..]);
+        if line == NO_NUMBER {
+            return self.with_fault(AT);
+        }
+        if column == NO_NUMBER {
+            return self.with_fault(AT);
+        }
+        if line == 0 {
+            return self.with_fault(AT);
+        }
+        self.line = line;
+        self.column = column;
+        self
     }
 
     fn with_output(mut self, i: usize, from: usize) -> Self {
@@ -137,7 +224,37 @@ impl Options {
         if letter == b'i' {
             return self.with_image(i);
         }
+        if letter == b'd' {
+            return self.with_depth(word);
+        }
+        if letter == b'a' {
+            return self.with_place(word);
+        }
         self.with_output(i, 0)
+    }
+
+    // An option of trees, by its word.
+    fn with_long(mut self, word: &[u8]) -> Self {
+        if !self.shows {
+            return self.with_fault(UNKNOWN);
+        }
+        if check::same(word, b"--image") {
+            self.awaited = b'i';
+            return self;
+        }
+        if check::same(word, b"--depth") {
+            self.awaited = b'd';
+            return self;
+        }
+        if check::same(word, b"--at") {
+            self.awaited = b'a';
+            return self;
+        }
+        if check::same(word, b"--colour") {
+            self.colours = true;
+            return self;
+        }
+        self.with_fault(UNKNOWN)
     }
 
     // The next word, the i-th.
@@ -158,9 +275,8 @@ impl Options {
             self.plain = true;
             return self;
         }
-        if self.shows && check::same(word, b"--image") {
-            self.awaited = b'i';
-            return self;
+        if word[1] == b'-' {
+            return self.with_long(word);
         }
         self.with_letter(i, word[1], &word[2..])
     }
@@ -175,6 +291,12 @@ impl Options {
         }
         if self.awaited == b'i' {
             return self.with_fault(IMAGE);
+        }
+        if self.awaited == b'd' {
+            return self.with_fault(DEPTH);
+        }
+        if self.awaited == b'a' {
+            return self.with_fault(AT);
         }
         self
     }
@@ -192,6 +314,12 @@ impl Options {
             }
             IMAGE => {
                 io::write_all(STDERR_FILENO, b": --image takes the name of a file\n");
+            }
+            DEPTH => {
+                io::write_all(STDERR_FILENO, b": --depth takes a number\n");
+            }
+            AT => {
+                io::write_all(STDERR_FILENO, b": --at takes a place, LINE:COLUMN\n");
             }
             _ => {
                 io::write_all(

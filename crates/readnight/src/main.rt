@@ -180,8 +180,11 @@ fn tell(n: Night, i: usize, source: &[u8], answer: &[u64]) -> Night {
     if answer.len() < 5 {
         return n;
     }
+    let mut page = io::buffer();
+    show::page::begin(&mut page, false);
     if answer[0] == 0 {
-        show::refusals::tell_read(&word[..length]);
+        show::refusals::tell_read(&mut page, &word[..length]);
+        show::page::flush(&mut page);
         return n.with_read();
     }
     let refusal = Refusal {
@@ -191,7 +194,8 @@ fn tell(n: Night, i: usize, source: &[u8], answer: &[u64]) -> Night {
         detail: answer[3],
         length: answer[4],
     };
-    show::refusals::tell_in_a_line(&word[..length], refusal, source);
+    show::refusals::tell_in_a_line(&mut page, &word[..length], refusal, source);
+    show::page::flush(&mut page);
     n.with_refused()
 }
 

@@ -73,8 +73,11 @@ fn take_file(name: &[u8], source: &mut [u8]) -> Source {
 
 // Where the files part, by both names.
 fn tell(a: &[u8], left: &[u8], l: Lexeme, b: &[u8], right: &[u8], m: Lexeme) -> u8 {
-    show::differences::tell_first(a, left, l.start, l.end);
-    show::differences::tell_second(b, right, m.start, m.end);
+    let mut page = io::buffer();
+    show::page::begin(&mut page, false);
+    show::differences::tell_first(&mut page, a, left, l.start, l.end);
+    show::differences::tell_second(&mut page, b, right, m.start, m.end);
+    show::page::flush(&mut page);
     1
 }
 

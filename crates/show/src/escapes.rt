@@ -1,6 +1,6 @@
 // A bad escape of a string, told from its backslash on: what is wrong with it, and what stands there.
+use crate::page::say;
 use crate::say::character_end;
-use crate::say::say;
 use crate::texts::say_text;
 
 // The byte at a place, 0 past the end: 0 is in no escape.
@@ -35,25 +35,28 @@ fn digits_end(escape: &[u8]) -> usize {
 }
 
 // Four digits are bad where they spell a half: from D800 to DBFF it is the high one.
-fn say_half(escape: &[u8]) {
+fn say_half(page: &mut [u8], escape: &[u8]) {
     match byte_at(escape, 3) {
-        b'C'..=b'F' => say(b"the low half of a surrogate pair stands alone"),
-        b'c'..=b'f' => say(b"the low half of a surrogate pair stands alone"),
-        _ => say(b"the high half of a surrogate pair has no low half after it"),
+        b'C'..=b'F' => say(page, b"the low half of a surrogate pair stands alone"),
+        b'c'..=b'f' => say(page, b"the low half of a surrogate pair stands alone"),
+        _ => say(
+            page,
+            b"the high half of a surrogate pair has no low half after it",
+        ),
     }
 }
 
-fn say_wrong(escape: &[u8], digits: usize) {
+fn say_wrong(page: &mut [u8], escape: &[u8], digits: usize) {
     match byte_at(escape, 1) {
-        b'x' => say(b"an escape \\x has fewer than two hex digits"),
+        b'x' => say(page, b"an escape \\x has fewer than two hex digits"),
         b'u' => {
             if digits < 6 {
-                say(b"an escape \\u has fewer than four hex digits");
+                say(page, b"an escape \\u has fewer than four hex digits");
                 return;
             }
-            say_half(escape);
+            say_half(page, escape);
         }
-        _ => say(b"a string has an escape with an unknown letter"),
+        _ => say(page, b"a string has an escape with an unknown letter"),
     }
 }
 
@@ -71,13 +74,13 @@ fn shown_end(escape: &[u8], digits: usize) -> usize {
     }
 }
 
-pub fn say_escape(escape: &[u8]) {
+pub fn say_escape(page: &mut [u8], escape: &[u8]) {
     let digits = digits_end(escape);
-    say_wrong(escape, digits);
+    say_wrong(page, escape, digits);
     let end = shown_end(escape, digits);
     if end <= escape.len() {
-        say(b"; ");
-        say_text(b"`", &escape[..end]);
-        say(b" stands there");
+        say(page, b"; ");
+        say_text(page, b"`", &escape[..end]);
+        say(page, b" stands there");
     }
 }

@@ -1,12 +1,12 @@
-// An answer as a person reads it: a tree as indented lines, a refusal as a sentence with its place.
-mod escapes; // what is wrong with an escape
+// What a person reads: a refusal as a sentence with its place, and what trees are shown with.
+mod bad_blocks; // text blocks with a line at fault
 pub mod differences; // two sources that part
-mod lines; // a record as a line
+mod escapes; // what is wrong with an escape
+pub mod page; // where it is written
 pub mod places; // places as a person counts them
-mod records; // the image's records
+pub mod records; // the image's records
 pub mod refusals; // a refusal as a sentence
-mod say; // what is written
-mod texts; // texts, whose ends are never left out
-pub mod tree; // the records in a person's order
+pub mod say; // words, numbers and characters
+pub mod texts; // texts, whose ends are never left out
 mod unseen; // characters that cannot be seen
-pub mod unread; // why an image is not shown
+mod within; // what stands open before a place

@@ -1,7 +1,7 @@
 // Places in a source as a person counts them.
+use crate::page::say;
 use crate::say::is_inside;
 use crate::say::one_more;
-use crate::say::say;
 use crate::say::say_number;
 
 // A line, and a character in it, both from 1.
@@ -39,15 +39,15 @@ fn place_of(source: &[u8], at: usize) -> Place {
     p
 }
 
-fn say_line_and_column(p: Place) {
-    say_number(p.line);
-    say(b":");
-    say_number(p.column);
+fn say_line_and_column(page: &mut [u8], p: Place) {
+    say_number(page, p.line);
+    say(page, b":");
+    say_number(page, p.column);
 }
 
 // `LINE:COLUMN`.
-pub fn say_place(source: &[u8], at: usize) {
-    say_line_and_column(place_of(source, at));
+pub fn say_place(page: &mut [u8], source: &[u8], at: usize) {
+    say_line_and_column(page, place_of(source, at));
 }
 
 // The places of all bytes of a source and of its end, two numbers each, as far as there is room: found once, for a tree has many places.
@@ -65,15 +65,43 @@ pub fn find_places(source: &[u8], places: &mut [usize]) {
     }
 }
 
+// Whether a place comes by a line and a column.
+fn is_by(line: usize, column: usize, by_line: usize, by_column: usize) -> bool {
+    if line == by_line {
+        return column <= by_column;
+    }
+    line < by_line
+}
+
+// The byte at a line and a column, of so many: the last one that comes by them.
+pub fn byte_at(places: &[usize], count: usize, line: usize, column: usize) -> usize {
+    let mut found = 0;
+    let mut i = 0;
+    while i < places.len() / 2 {
+        if count < i {
+            return found;
+        }
+        if !is_by(places[i * 2], places[i * 2 + 1], line, column) {
+            return found;
+        }
+        found = i;
+        i += 1;
+    }
+    found
+}
+
 // `LINE:COLUMN`; `byte N` of an image that came without its source.
-pub fn say_found(places: &[usize], at: usize) {
+pub fn say_found(page: &mut [u8], places: &[usize], at: usize) {
     if places.len() / 2 <= at {
-        say(b"byte ");
-        say_number(at);
+        say(page, b"byte ");
+        say_number(page, at);
         return;
     }
-    say_line_and_column(Place {
-        line: places[at * 2],
-        column: places[at * 2 + 1],
-    });
+    say_line_and_column(
+        page,
+        Place {
+            line: places[at * 2],
+            column: places[at * 2 + 1],
+        },
+    );
 }

@@ -1,58 +1,75 @@
-// What is written on standard output: words, numbers, and text as a person reads it.
+// What is written: words, numbers, and characters as a person reads them.
 ghost use Prim.Native.Nat.{_≤_, _<_};
 ghost use lib.ListN.{length};
-use libc::STDOUT_FILENO;
+use crate::page::say;
+use crate::unseen::code_of;
+use crate::unseen::is_unseen;
+use crate::unseen::say_code_point;
 
 // How deep lines are indented; beyond that a line begins with its depth.
 const INDENTED: usize = 24;
 
-pub fn say(text: &[u8]) {
-    io::write_all(STDOUT_FILENO, text);
-}
-
-pub fn say_number(n: usize) {
-    io::print_decimal(STDOUT_FILENO, n as u64);
+// The digits of a number.
+pub fn say_number(page: &mut [u8], n: usize) {
+    let mut digits = [0u8; 20];
+    let k = io::decimal(n as u64, &mut digits);
+    say(page, &digits[..k]);
 }
 
 // `, 1 thing` or `, 2 things`.
-pub fn say_count(n: usize, thing: &[u8]) {
-    say(b", ");
-    say_number(n);
-    say(b" ");
-    say(thing);
+pub fn say_count(page: &mut [u8], n: usize, thing: &[u8]) {
+    say(page, b", ");
+    say_number(page, n);
+    say(page, b" ");
+    say(page, thing);
     if n != 1 {
-        say(b"s");
+        say(page, b"s");
     }
 }
 
 // One of some words, counted from 0.
-pub fn say_word(words: &[u8], n: u8) {
-    say(lists::field(words, n as usize));
+pub fn say_word(page: &mut [u8], words: &[u8], n: u8) {
+    say(page, lists::field(words, n as usize));
 }
 
-pub fn say_hex(n: u32, digits: usize) {
-    io::print_hex(STDOUT_FILENO, n as u64, digits);
+pub fn say_hex(page: &mut [u8], n: u32, width: usize) {
+    let mut digits = [0u8; 16];
+    let k = io::hex(n as u64, width, &mut digits);
+    say(page, &digits[..k]);
 }
 
 // The same text again and again.
-pub fn say_times(text: &[u8], n: usize) {
+pub fn say_times(page: &mut [u8], text: &[u8], n: usize) {
     let mut left = n;
     while left > 0 {
-        say(text);
+        say(page, text);
         left -= 1;
     }
 }
 
+// The first bytes of a text, as many as it has.
+pub fn front(text: &[u8], n: usize) -> &[u8] {
+    if text.len() < n {
+        return text;
+    }
+    &text[..n]
+}
+
 // The start of a line that stands so deep.
-pub fn indent(depth: usize) {
+pub fn indent(page: &mut [u8], depth: usize) {
     if depth <= INDENTED {
-        say_times(b"  ", depth);
+        say(
+            page,
+            front(
+                b"                                                ",
+                depth * 2,
+            ),
+        );
         return;
     }
-    say_times(b"  ", INDENTED);
-    say(b"[");
-    say_number(depth);
-    say(b"] ");
+    say(page, b"                                                [");
+    say_number(page, depth);
+    say(page, b"] ");
 }
 
 // One more, short of wrapping.
@@ -68,19 +85,33 @@ pub fn is_inside(b: u8) -> bool {
     b / 64 == 2
 }
 
-// How many characters a text has.
-pub fn characters(text: &[u8]) -> usize {
+// How many columns a text takes where it is shown character by character.
+pub fn columns(text: &[u8]) -> usize {
     let mut n = 0;
     let mut i = 0;
     while i < text.len() {
-        let b = text[i];
-        i += 1;
-        if is_inside(b) {
-            continue;
-        }
-        n = one_more(n);
+        let end = character_end(text, i);
+        n = n % 1_000_000 + column_count(&text[i..end]);
+        i = end;
     }
     n
+}
+
+// How many columns a character takes: one, or those of `<U+00a0>` and `<U+e0001>`.
+fn column_count(character: &[u8]) -> usize
+    ensures { λ r. ⌜ r ≤ 9 ⌝ }
+{
+    if character.len() < 2 {
+        return 1;
+    }
+    let code = code_of(character);
+    if !is_unseen(code) {
+        return 1;
+    }
+    if code > 0xFFFF {
+        return 9;
+    }
+    8
 }
 
 // How many bytes a character has, by its first.
@@ -108,50 +139,43 @@ pub fn character_end(text: &[u8], at: usize) -> usize
 }
 
 // A character that begins with a byte below 128: a control character is shown by the picture that Unicode has for it.
-fn say_ascii(b: u8) {
+fn say_ascii(page: &mut [u8], b: u8) {
     if b < 0x20 {
-        say(&[0xE2, 0x90, 0x80 + b]);
+        say(page, &[0xE2, 0x90, 0x80 + b]);
         return;
     }
     if b == 0x7F {
-        say(&[0xE2, 0x90, 0xA1]);
+        say(page, &[0xE2, 0x90, 0xA1]);
         return;
     }
-    say(&[b]);
-}
-
-// Whether a character is one of the control characters from 128 on.
-fn is_late_control(text: &[u8]) -> bool {
-    if text.len() != 2 {
-        return false;
-    }
-    text[0] == 0xC2 && text[1] < 0xA0
+    say(page, &[b]);
 }
 
 // One character, shown so that none moves the cursor; its end is handed back.
-fn say_character(text: &[u8], at: usize) -> usize
+fn say_character(page: &mut [u8], text: &[u8], at: usize) -> usize
     requires { ⌜ at < length (now text) ⌝ }
     ensures { λ r. ⌜ (at < r) × (r ≤ length (now (text .entry))) ⌝ }
 {
     let b = text[at];
     if b < 0x80 {
-        say_ascii(b);
+        say_ascii(page, b);
         return at + 1;
     }
     let end = character_end(text, at);
     let character = &text[at..end];
-    if is_late_control(character) {
-        say(&[0xEF, 0xBF, 0xBD]);
+    let code = code_of(character);
+    if is_unseen(code) {
+        say_code_point(page, code);
         return end;
     }
-    say(character);
+    say(page, character);
     end
 }
 
 // A text whole.
-pub fn say_characters(text: &[u8]) {
+pub fn say_characters(page: &mut [u8], text: &[u8]) {
     let mut i = 0;
     while i < text.len() {
-        i = say_character(text, i);
+        i = say_character(page, text, i);
     }
 }

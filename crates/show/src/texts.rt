@@ -2,11 +2,12 @@
 // the middle is, and how much that is is said.
 ghost use Prim.Native.Nat.{_≤_, _<_};
 ghost use lib.ListN.{length};
+use crate::page::say;
 use crate::say::character_end;
+use crate::say::front;
 use crate::say::indent;
 use crate::say::is_inside;
 use crate::say::one_more;
-use crate::say::say;
 use crate::say::say_characters;
 use crate::say::say_number;
 use crate::unseen::code_of;
@@ -82,74 +83,74 @@ fn plain_end(text: &[u8], from: usize) -> usize
 }
 
 // One of the others below 128.
-fn say_escaped_byte(b: u8) {
+fn say_escaped_byte(page: &mut [u8], b: u8) {
     match b {
-        b'"' => say(b"\\\""),
-        b'\\' => say(b"\\\\"),
-        b'\n' => say(b"\\n"),
-        b'\r' => say(b"\\r"),
-        b'\t' => say(b"\\t"),
-        _ => say_escape_of(b as u32),
+        b'"' => say(page, b"\\\""),
+        b'\\' => say(page, b"\\\\"),
+        b'\n' => say(page, b"\\n"),
+        b'\r' => say(page, b"\\r"),
+        b'\t' => say(page, b"\\t"),
+        _ => say_escape_of(page, b as u32),
     }
 }
 
 // One character that is not plain; its end is handed back.
-fn say_escaped(text: &[u8], at: usize) -> usize
+fn say_escaped(page: &mut [u8], text: &[u8], at: usize) -> usize
     requires { ⌜ at < length (now text) ⌝ }
     ensures { λ r. ⌜ (at < r) × (r ≤ length (now (text .entry))) ⌝ }
 {
     let b = text[at];
     if b < 0x80 {
-        say_escaped_byte(b);
+        say_escaped_byte(page, b);
         return at + 1;
     }
     let end = character_end(text, at);
     let character = &text[at..end];
     let code = code_of(character);
     if is_unseen(code) {
-        say_escape_of(code);
+        say_escape_of(page, code);
         return end;
     }
-    say(character);
+    say(page, character);
     end
 }
 
 // A text whole, between quotes.
-fn quote(text: &[u8]) {
-    say(b"\"");
+fn quote(page: &mut [u8], text: &[u8]) {
+    say(page, b"\"");
     let mut i = 0;
     while i < text.len() {
         let end = plain_end(text, i);
-        say(&text[i..end]);
+        say(page, &text[i..end]);
         i = end;
         if i < text.len() {
-            i = say_escaped(text, i);
+            i = say_escaped(page, text, i);
         }
     }
-    say(b"\"");
+    say(page, b"\"");
 }
 
 // A line between quotes; of a long one the middle is left out.
-pub fn say_quoted(line: &[u8]) {
+pub fn say_quoted(page: &mut [u8], line: &[u8]) {
     let from = ahead(line, FRONT);
     let to = behind(line, BACK);
     if to <= from {
-        quote(line);
+        quote(page, line);
         return;
     }
     if to - from <= SPARED {
-        quote(line);
+        quote(page, line);
         return;
     }
-    quote(&line[..from]);
-    say(b" ... ");
-    say_number(to - from);
-    say(b" bytes ... ");
-    quote(&line[to..]);
+    quote(page, &line[..from]);
+    say(page, b" ... ");
+    say_number(page, to - from);
+    say(page, b" bytes ... ");
+    quote(page, &line[to..]);
 }
 
 // Where the line that starts at a place ends, its LF included.
-fn line_end(text: &[u8], from: usize) -> usize
+pub fn line_end(text: &[u8], from: usize) -> usize
     requires { ⌜ from < length (now text) ⌝ }
     ensures { λ r. ⌜ (from < r) × (r ≤ length (now (text .entry))) ⌝ }
 {
@@ -182,18 +183,23 @@ fn is_open(text: &[u8]) -> bool {
     text[text.len() - 1] != b'\n'
 }
 
+fn say_end(page: &mut [u8], is_open: bool) {
+    if is_open {
+        say(page, b" and no line feed\n");
+        return;
+    }
+    say(page, b"\n");
+}
+
 // The lines of a text, a line each; the last one tells that no LF follows it.
-pub fn show_lines(text: &[u8], depth: usize) {
+pub fn show_lines(page: &mut [u8], text: &[u8], depth: usize) {
     let mut i = 0;
     while i < text.len() {
         let end = line_end(text, i);
         let line = &text[i..end];
-        indent(depth);
-        say_quoted(line);
-        if is_open(line) {
-            say(b" and no line feed");
-        }
-        say(b"\n");
+        indent(page, depth);
+        say_quoted(page, line);
+        say_end(page, is_open(line));
         i = end;
     }
 }
@@ -203,21 +209,31 @@ const START: usize = 40;
 
 const END: usize = 20;
 
+// How much of it is left out.
+fn say_left_out(page: &mut [u8], n: usize) {
+    say(page, b" (");
+    say_number(page, n);
+    say(page, b" bytes left out)");
+}
+
+fn say_whole(page: &mut [u8], mark: &[u8], text: &[u8]) {
+    say(page, mark);
+    say_characters(page, text);
+    say(page, mark);
+}
+
 // A name or a lexeme between marks; of a long one the middle is left out, and how much that is is said.
-pub fn say_text(mark: &[u8], text: &[u8]) {
-    say(mark);
+pub fn say_text(page: &mut [u8], mark: &[u8], text: &[u8]) {
     let from = ahead(text, START);
     let to = behind(text, END);
     if to <= from {
-        say_characters(text);
-        say(mark);
+        say_whole(page, mark, text);
         return;
     }
-    say_characters(&text[..from]);
-    say(b"...");
-    say_characters(&text[to..]);
-    say(mark);
-    say(b" (");
-    say_number(to - from);
-    say(b" bytes left out)");
+    say(page, mark);
+    say_characters(page, front(text, from));
+    say(page, b"...");
+    say_characters(page, &text[to..]);
+    say(page, mark);
+    say_left_out(page, to - from);
 }

@@ -1,5 +1,5 @@
 // Shows files to a person: an accepted one as an indented tree, a refused one as a sentence with its place.
-// Arguments: files, `-s SETTING` for those after it, and `--image FILE` for a file that is an image itself.
+// Arguments: files, and the options that desk/src/options.rt tells of.
 use desk::Fields;
 use desk::input::take;
 use desk::options;
@@ -29,7 +29,7 @@ struct Turn {
     status: u8,
 }
 
-fn tell(name: &[u8], f: Fields, source: &[u8]) {
+fn tell(page: &mut [u8], name: &[u8], f: Fields, source: &[u8]) {
     let refusal = Refusal {
         number: f.number,
         start: f.start,
@@ -37,13 +37,47 @@ fn tell(name: &[u8], f: Fields, source: &[u8]) {
         detail: f.detail,
         length: f.length,
     };
-    show::refusals::tell(name, refusal, source);
+    show::refusals::tell(page, name, refusal, source);
 }
 
-// The tree of an image, with the places that its spans tell of.
-fn show_image(
+// The tree of an image, or its records around a place of the source, which is so long, with the places that its spans tell of.
+fn show_records(
+    page: &mut [u8],
     name: &[u8],
+    options: Options,
     image: &[u8],
+    length: usize,
+    places: &[usize],
+    links: &[usize],
+    stack: &mut [usize],
+    count: usize,
+) {
+    if options.line == 0 {
+        trees::tree::show(page, image, places, links, stack, count, options.depth);
+        return;
+    }
+    let at = show::places::byte_at(places, length, options.line, options.column);
+    if trees::around::show(page, image, places, links, count, at) {
+        return;
+    }
+    trees::around::tell_none(page, name);
+}
+
+// Which file a tree is of, where there are several.
+fn tell_name(page: &mut [u8], name: &[u8], options: Options) {
+    if !options.several {
+        return;
+    }
+    trees::tree::tell_name(page, name);
+}
+
+// An image, under its name where there are several files.
+fn show_image(
+    page: &mut [u8],
+    name: &[u8],
+    options: Options,
+    image: &[u8],
+    length: usize,
     places: &[usize],
     links: &mut [usize],
     stack: &mut [usize],
@@ -51,35 +85,57 @@ fn show_image(
     let answer = images::back(image, links);
     let Answer::Tree(count) = answer else {
         let f = images::numbers(answer);
-        show::unread::tell(name, f.number, f.offset);
+        trees::unread::tell(page, name, f.number, f.offset);
         return status::REFUSED;
     };
-    show::tree::show(image, places, links, stack, count);
+    tell_name(page, name, options);
+    show_records(
+        page,
+        name,
+        options,
+        image,
+        length,
+        places,
+        links,
+        stack,
+        count,
+    );
     status::GOOD
 }
 
 fn show_source(
+    page: &mut [u8],
     name: &[u8],
-    setting: u64,
+    options: Options,
     source: &[u8],
     output: &mut [u8],
     places: &mut [usize],
     links: &mut [usize],
     stack: &mut [usize],
 ) -> u8 {
-    let f = desk::answer(setting, source, output);
+    let f = desk::answer(options.setting, source, output);
     if f.number != 0 {
-        tell(name, f, source);
+        tell(page, name, f, source);
         return status::REFUSED;
     }
     show::places::find_places(source, places);
-    show_image(name, desk::image(f, output), places, links, stack)
+    show_image(
+        page,
+        name,
+        options,
+        desk::image(f, output),
+        source.len(),
+        places,
+        links,
+        stack,
+    )
 }
 
 fn show_source_from(
+    page: &mut [u8],
     fd: i32,
     name: &[u8],
-    setting: u64,
+    options: Options,
     source: &mut [u8],
     output: &mut [u8],
     places: &mut [usize],
@@ -93,14 +149,26 @@ fn show_source_from(
     }
     let n = taken.length;
     status::forget_errors();
-    let status = show_source(name, setting, &source[..n], output, places, links, stack);
+    let status = show_source(
+        page,
+        name,
+        options,
+        &source[..n],
+        output,
+        places,
+        links,
+        stack,
+    );
+    show::page::flush(page);
     status::if_written(status)
 }
 
 // An image's spans are told as bytes of the source that it came from.
 fn show_image_from(
+    page: &mut [u8],
     fd: i32,
     name: &[u8],
+    options: Options,
     buffer: &mut [u8],
     places: &[usize],
     links: &mut [usize],
@@ -114,14 +182,26 @@ fn show_image_from(
     let n = taken.length;
     status::forget_errors();
     if n == buffer.len() {
-        show::unread::tell(name, 24, n as u64);
+        trees::unread::tell(page, name, 24, n as u64);
+        show::page::flush(page);
         return status::if_written(status::REFUSED);
     }
-    let status = show_image(name, &buffer[..n], &places[..0], links, stack);
+    let status = show_image(
+        page,
+        name,
+        options,
+        &buffer[..n],
+        0,
+        &places[..0],
+        links,
+        stack,
+    );
+    show::page::flush(page);
     status::if_written(status)
 }
 
 fn show_from(
+    page: &mut [u8],
     fd: i32,
     name: &[u8],
     options: Options,
@@ -132,12 +212,13 @@ fn show_from(
     stack: &mut [usize],
 ) -> u8 {
     if options.image {
-        return show_image_from(fd, name, output, places, links, stack);
+        return show_image_from(page, fd, name, options, output, places, links, stack);
     }
     show_source_from(
+        page,
         fd,
         name,
-        options.setting,
+        options,
         source,
         output,
         places,
@@ -155,8 +236,11 @@ fn show_file(
     links: &mut [usize],
     stack: &mut [usize],
 ) -> u8 {
+    let mut page = io::buffer();
+    show::page::begin(&mut page, options.colours);
     if options::is_standard_input(name) {
         return show_from(
+            &mut page,
             STDIN_FILENO,
             b"standard input",
             options,
@@ -172,7 +256,17 @@ fn show_file(
         os::fail(name);
         return status::FAILED;
     }
-    let status = show_from(fd, name, options, source, output, places, links, stack);
+    let status = show_from(
+        &mut page,
+        fd,
+        name,
+        options,
+        source,
+        output,
+        places,
+        links,
+        stack,
+    );
     libc::close(fd);
     status
 }
@@ -225,6 +319,35 @@ fn end_arguments(
     show_file(b"-", options, source, output, places, links, stack)
 }
 
+fn with_argument(options: Options, i: usize) -> Options {
+    let mut word = io::buffer();
+    let n = os::arg(i, &mut word);
+    options.with(i, &word[..n])
+}
+
+// Whether more than one file is named.
+fn are_several() -> bool {
+    let count = os::arg_count();
+    let mut options = Options::for_trees(false);
+    let mut i = status::first_argument();
+    while i < count {
+        options = with_argument(options, i);
+        if options.more {
+            return true;
+        }
+        i += 1;
+    }
+    false
+}
+
+// How all stands before the first argument.
+fn first_turn() -> Turn {
+    Turn {
+        options: Options::for_trees(are_several()),
+        status: status::GOOD,
+    }
+}
+
 fn take_arguments(
     source: &mut [u8],
     output: &mut [u8],
@@ -233,10 +356,7 @@ fn take_arguments(
     stack: &mut [usize],
 ) -> Turn {
     let count = os::arg_count();
-    let mut turn = Turn {
-        options: Options::for_images(),
-        status: status::GOOD,
-    };
+    let mut turn = first_turn();
     let mut i = status::first_argument();
     while i < count {
         turn = take_argument(i, turn, source, output, places, links, stack);

@@ -16,8 +16,8 @@ abbrev μ-loop : tie.MeasureT-loop
 arg-count-requires : tie.Need-arg-count-requires Inv-loop μ-loop
 arg-count-requires c κs = search needs
 
-for-images-requires : tie.Need-for-images-requires Inv-loop μ-loop
-for-images-requires c κs = search needs
+first-turn-requires : tie.Need-first-turn-requires Inv-loop μ-loop
+first-turn-requires c κs = search needs
 
 first-argument-requires : tie.Need-first-argument-requires Inv-loop μ-loop
 first-argument-requires c κs = search needs
@@ -80,7 +80,7 @@ take-arguments-spec =
     Inv-loop
     μ-loop
     arg-count-requires
-    for-images-requires
+    first-turn-requires
     first-argument-requires
     loop-holds
     take-argument-requires

@@ -1,7 +1,8 @@
 -- `show::escapes::say_escape` is safe and ends.
 -- Assumes nothing.
-use lib.ListN.{length-take}
 use native.Mathlib.Omega.{arith}
+use lib.ListN.{length-take}
+use borrow.Author.Needs.{needs}
 use borrow.Author.Needs.{needs}
 use Rattle.show.proofs.escapes.say_escape.Statement.{statement}
 use Rattle.show.proofs.escapes.say_escape.Tie as tie
@@ -36,8 +37,14 @@ slice-aggregate-say-2 c = search needs
 say-requires-2 : tie.Need-say-requires-2
 say-requires-2 c κs = search needs
 
+same-length : tie.Need-same-length
+same-length c = search needs
+
 returns : tie.Need-returns
 returns c = search needs
+
+same-length-2 : tie.Need-same-length-2
+same-length-2 c = search needs
 
 returns-2 : tie.Need-returns-2
 returns-2 c = search needs
@@ -56,5 +63,7 @@ say-escape-spec =
     say-text-requires
     slice-aggregate-say-2
     say-requires-2
+    same-length
     returns
+    same-length-2
     returns-2)

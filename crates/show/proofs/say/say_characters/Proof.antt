@@ -3,14 +3,15 @@
 use lib.ListN.{length}
 use borrow.Author.Needs.{needs}
 use Prim.Native.Nat.{_-_}
+use mathlib.Core.Path.{_≡_}
 use Rattle.show.proofs.say.say_characters.Statement.{statement}
 use Rattle.show.proofs.say.say_characters.Tie as tie
 
 abbrev Inv-loop : tie.InvT-loop
-Inv-loop text i₀ i = Unit {0}
+Inv-loop page₀ text i₀ page i = length page ≡ length page₀
 
 abbrev μ-loop : tie.MeasureT-loop
-μ-loop text i₀ i = length text - i
+μ-loop page₀ text i₀ page i = length text - i
 
 loop-holds : tie.Need-loop-holds Inv-loop μ-loop
 loop-holds c = search needs
@@ -24,10 +25,21 @@ loop-less c = search needs
 loop-again : tie.Need-loop-again Inv-loop μ-loop
 loop-again c = search needs
 
+same-length : tie.Need-same-length Inv-loop μ-loop
+same-length c = search needs
+
 returns : tie.Need-returns Inv-loop μ-loop
 returns c = search needs
 
 pub say-characters-spec : {M : Type 1} → statement M
 say-characters-spec =
     tie.close
-    (tie.spec Inv-loop μ-loop loop-holds say-character-requires loop-less loop-again returns)
+    (tie.spec
+    Inv-loop
+    μ-loop
+    loop-holds
+    say-character-requires
+    loop-less
+    loop-again
+    same-length
+    returns)

@@ -3,14 +3,15 @@
 use lib.ListN.{length}
 use borrow.Author.Needs.{needs}
 use Prim.Native.Nat.{_≤_, _-_}
+use mathlib.Core.Path.{_≡_}
 use Rattle.show.proofs.texts.quote.Statement.{statement}
 use Rattle.show.proofs.texts.quote.Tie as tie
 
 abbrev Inv-loop : tie.InvT-loop
-Inv-loop text i₀ t5 i = i ≤ length text
+Inv-loop page₀ text i₀ t6 page i = (length page ≡ length page₀) × (i ≤ length text)
 
 abbrev μ-loop : tie.MeasureT-loop
-μ-loop text i₀ t5 i = length text - i
+μ-loop page₀ text i₀ t6 page i = length text - i
 
 slice-aggregate-say : tie.Need-slice-aggregate-say Inv-loop μ-loop
 slice-aggregate-say c = search needs
@@ -57,6 +58,9 @@ slice-aggregate-say-2 c = search needs
 say-requires-3 : tie.Need-say-requires-3 Inv-loop μ-loop
 say-requires-3 c κs = search needs
 
+same-length : tie.Need-same-length Inv-loop μ-loop
+same-length c = search needs
+
 returns : tie.Need-returns Inv-loop μ-loop
 returns c = search needs
 
@@ -81,4 +85,5 @@ quote-spec =
     loop-again-2
     slice-aggregate-say-2
     say-requires-3
+    same-length
     returns)

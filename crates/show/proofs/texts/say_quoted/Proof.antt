@@ -16,6 +16,9 @@ behind-requires c κs = search needs
 quote-requires : tie.Need-quote-requires
 quote-requires c κs = search needs
 
+same-length : tie.Need-same-length
+same-length c = search needs
+
 returns : tie.Need-returns
 returns c = search needs
 
@@ -24,6 +27,9 @@ sub-if2 c = search needs
 
 quote-requires-2 : tie.Need-quote-requires-2
 quote-requires-2 c κs = search needs
+
+same-length-2 : tie.Need-same-length-2
+same-length-2 c = search needs
 
 returns-2 : tie.Need-returns-2
 returns-2 c = search needs
@@ -64,6 +70,9 @@ part-quote-end c = search needs
 quote-requires-4 : tie.Need-quote-requires-4
 quote-requires-4 c κs = search needs
 
+same-length-3 : tie.Need-same-length-3
+same-length-3 c = search needs
+
 returns-3 : tie.Need-returns-3
 returns-3 c = search needs
 
@@ -74,9 +83,11 @@ say-quoted-spec =
     ahead-requires
     behind-requires
     quote-requires
+    same-length
     returns
     sub-if2
     quote-requires-2
+    same-length-2
     returns-2
     slice-aggregate-quote
     quote-requires-3
@@ -90,4 +101,5 @@ say-quoted-spec =
     part-quote-start
     part-quote-end
     quote-requires-4
+    same-length-3
     returns-3)

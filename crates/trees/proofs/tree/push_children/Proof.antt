@@ -1,16 +1,16 @@
--- `show::tree::push_children` is safe and ends.
+-- `trees::tree::push_children` is safe and ends.
 -- Assumes nothing.
 use lib.ListN.{length}
 use borrow.Author.Needs.{needs}
 use mathlib.Core.Path.{_≡_}
-use Rattle.show.proofs.tree.push_children.Statement.{statement}
-use Rattle.show.proofs.tree.push_children.Tie as tie
+use Rattle.trees.proofs.tree.push_children.Statement.{statement}
+use Rattle.trees.proofs.tree.push_children.Tie as tie
 
 abbrev Inv-loop : tie.InvT-loop
-Inv-loop links of stack₀ top first r₀ n₀ stack r n = length stack ≡ length stack₀
+Inv-loop links of shape stack₀ top depth first how₀ skipped₀ c₀ n₀ stack how skipped c n = length stack ≡ length stack₀
 
 abbrev μ-loop : tie.MeasureT-loop
-μ-loop links of stack₀ top first r₀ n₀ stack r n = r
+μ-loop links of shape stack₀ top depth first how₀ skipped₀ c₀ n₀ stack how skipped c n = c
 
 first-of-requires : tie.Need-first-of-requires Inv-loop μ-loop
 first-of-requires c κs = search needs
@@ -18,35 +18,29 @@ first-of-requires c κs = search needs
 loop-holds : tie.Need-loop-holds Inv-loop μ-loop
 loop-holds c = search needs
 
+sub-child : tie.Need-sub-child Inv-loop μ-loop
+sub-child c = search needs
+
+first-of-requires-2 : tie.Need-first-of-requires-2 Inv-loop μ-loop
+first-of-requires-2 c κs = search needs
+
 same-length : tie.Need-same-length Inv-loop μ-loop
 same-length c = search needs
 
 returns : tie.Need-returns Inv-loop μ-loop
 returns c = search needs
 
-sub-stack : tie.Need-sub-stack Inv-loop μ-loop
-sub-stack c = search needs
-
-mul-stack : tie.Need-mul-stack Inv-loop μ-loop
-mul-stack c = search needs
-
-slice-write-stack : tie.Need-slice-write-stack Inv-loop μ-loop
-slice-write-stack c = search needs
-
-add-n : tie.Need-add-n Inv-loop μ-loop
-add-n c = search needs
-
-sub-first-of : tie.Need-sub-first-of Inv-loop μ-loop
-sub-first-of c = search needs
-
-first-of-requires-2 : tie.Need-first-of-requires-2 Inv-loop μ-loop
-first-of-requires-2 c κs = search needs
+is-last-pushed-requires : tie.Need-is-last-pushed-requires Inv-loop μ-loop
+is-last-pushed-requires c κs = search needs
 
 same-length-2 : tie.Need-same-length-2 Inv-loop μ-loop
 same-length-2 c = search needs
 
 returns-2 : tie.Need-returns-2 Inv-loop μ-loop
 returns-2 c = search needs
+
+push-child-requires : tie.Need-push-child-requires Inv-loop μ-loop
+push-child-requires c κs = search needs
 
 loop-less : tie.Need-loop-less Inv-loop μ-loop
 loop-less c = search needs
@@ -68,16 +62,14 @@ push-children-spec =
     μ-loop
     first-of-requires
     loop-holds
+    sub-child
+    first-of-requires-2
     same-length
     returns
-    sub-stack
-    mul-stack
-    slice-write-stack
-    add-n
-    sub-first-of
-    first-of-requires-2
+    is-last-pushed-requires
     same-length-2
     returns-2
+    push-child-requires
     loop-less
     loop-again
     same-length-3

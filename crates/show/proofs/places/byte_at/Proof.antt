@@ -1,0 +1,80 @@
+-- `show::places::byte_at` is safe and ends.
+-- Assumes nothing.
+use lib.ListN.{length}
+use borrow.Author.Needs.{needs}
+use Prim.Native.Nat.{_-_}
+use Rattle.show.proofs.places.byte_at.Statement.{statement}
+use Rattle.show.proofs.places.byte_at.Tie as tie
+
+abbrev Inv-loop : tie.InvT-loop
+Inv-loop places count line column found₀ i₀ found i = Unit {0}
+
+abbrev μ-loop : tie.MeasureT-loop
+μ-loop places count line column found₀ i₀ found i = length places - i
+
+loop-holds : tie.Need-loop-holds Inv-loop μ-loop
+loop-holds c = search needs
+
+returns : tie.Need-returns Inv-loop μ-loop
+returns c = search needs
+
+mul-is-by : tie.Need-mul-is-by Inv-loop μ-loop
+mul-is-by c = search needs
+
+mul-is-by-2 : tie.Need-mul-is-by-2 Inv-loop μ-loop
+mul-is-by-2 c = search needs
+
+shared-slice-read-is-by : tie.Need-shared-slice-read-is-by Inv-loop μ-loop
+shared-slice-read-is-by c = search needs
+
+mul-is-by-3 : tie.Need-mul-is-by-3 Inv-loop μ-loop
+mul-is-by-3 c = search needs
+
+add-is-by : tie.Need-add-is-by Inv-loop μ-loop
+add-is-by c = search needs
+
+mul-is-by-4 : tie.Need-mul-is-by-4 Inv-loop μ-loop
+mul-is-by-4 c = search needs
+
+shared-slice-read-is-by-2 : tie.Need-shared-slice-read-is-by-2 Inv-loop μ-loop
+shared-slice-read-is-by-2 c = search needs
+
+is-by-requires : tie.Need-is-by-requires Inv-loop μ-loop
+is-by-requires c κs = search needs
+
+returns-2 : tie.Need-returns-2 Inv-loop μ-loop
+returns-2 c = search needs
+
+add-i : tie.Need-add-i Inv-loop μ-loop
+add-i c = search needs
+
+loop-less : tie.Need-loop-less Inv-loop μ-loop
+loop-less c = search needs
+
+loop-again : tie.Need-loop-again Inv-loop μ-loop
+loop-again c = search needs
+
+returns-3 : tie.Need-returns-3 Inv-loop μ-loop
+returns-3 c = search needs
+
+pub byte-at-spec : {M : Type 1} → statement M
+byte-at-spec =
+    tie.close
+    (tie.spec
+    Inv-loop
+    μ-loop
+    loop-holds
+    returns
+    mul-is-by
+    mul-is-by-2
+    shared-slice-read-is-by
+    mul-is-by-3
+    add-is-by
+    mul-is-by-4
+    shared-slice-read-is-by-2
+    is-by-requires
+    returns-2
+    add-i
+    loop-less
+    loop-again
+    returns-3)

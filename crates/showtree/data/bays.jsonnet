@@ -1,0 +1,4 @@
+{
+  bays: [1, 2,
+  level: -3 * factor,
+}

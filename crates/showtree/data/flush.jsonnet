@@ -1,0 +1,5 @@
+{
+  note: |||
+Bay 3 waits for the crew.
+  |||,
+}

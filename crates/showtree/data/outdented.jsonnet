@@ -1,0 +1,6 @@
+{
+  note: |||
+    Bay 3 waits for the crew.
+  Bay 4 may close.
+  |||,
+}
