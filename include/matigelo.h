@@ -92,6 +92,26 @@ typedef struct {
    PTRDIFF_MAX / 8. Nothing else is asked: all bytes have an answer, at any length, and nothing recurses. */
 void matigelo_back(const uint8_t *image, size_t image_length, size_t *links, size_t links_length, matigelo_back_answer *answer);
 
+/* A listing of matigelo_mass: the object's offset in the image; 1 where it raises mass and not depth, 2 where depth and not mass, 0 where that is undecided;
+   the bytes of the source in which the name of the first such field stands, 0 and 0 where it is undecided. */
+typedef struct {
+    size_t offset;
+    size_t what;
+    size_t start;
+    size_t end;
+} matigelo_listing;
+
+/* The planner's list: each object of an image that has a fixed field mass marked plus and no such field depth, or the other way round, and each that has a
+   computed field marked plus, in the order of the image. The answer is that of matigelo_back, but for
+
+   the number, listed                              offset; count
+    0  listed                                      count of the listings
+   21  the list is too short                       count of the listings
+
+   Four numbers are stored for each listing, in the order of matigelo_listing; what is behind them is cleared, and all is where the number is not 0. The links
+   are for working, and are cleared. What is said of pointers above holds here too, and list_length is at most PTRDIFF_MAX / 8. */
+void matigelo_mass(const uint8_t *image, size_t image_length, size_t *links, size_t links_length, size_t *list, size_t list_length, matigelo_back_answer *answer);
+
 #ifdef __cplusplus
 }
 #endif

@@ -61,6 +61,7 @@ BACK_NUMBERS = {
     14: "a length, a flag or an enum byte is wrong",
     15: "children are missing, or trees are left over",
     16: "no source gives this text, name, shape, root or span",
+    21: "the list is too short",
     24: "the array for the links is too short",
 }
 
@@ -106,6 +107,9 @@ RECORDS = {
 }
 INFIX = 13
 
+# What an object of the planner's list raises.
+RAISES = ("undecided", "mass", "depth")
+
 
 @dataclass(frozen=True)
 class Refusal:
@@ -130,6 +134,15 @@ class BadImage:
 
     def __str__(self) -> str:
         return f"{self.number}: {BACK_NUMBERS[self.number]}, at byte {self.offset}"
+
+
+@dataclass(frozen=True)
+class Listing:
+    """An object by its record's offset in the image, what it raises, and where the name of the first such field stands in the source."""
+
+    offset: int
+    raises: str
+    span: tuple[int, int]
 
 
 @dataclass
@@ -165,6 +178,8 @@ def _library() -> ctypes.CDLL:
     library.matigelo_read.argtypes = [ctypes.c_uint64, ctypes.c_char_p, ctypes.c_size_t, ctypes.c_void_p, ctypes.c_size_t, ctypes.POINTER(ctypes.c_uint64 * 5)]
     library.matigelo_back.restype = None
     library.matigelo_back.argtypes = [ctypes.c_char_p, ctypes.c_size_t, ctypes.c_void_p, ctypes.c_size_t, ctypes.POINTER(ctypes.c_uint64 * 3)]
+    library.matigelo_mass.restype = None
+    library.matigelo_mass.argtypes = library.matigelo_back.argtypes[:4] + [ctypes.c_void_p, ctypes.c_size_t, ctypes.POINTER(ctypes.c_uint64 * 3)]
     return library
 
 
@@ -250,3 +265,23 @@ def _record(read_image: bytes, at: int, children: list[Tree]) -> Tree:
     if tag == INFIX and end == at + 4:  # from before it had a span
         layout = "operator:b"
     return Tree(tag, name, _parts(read_image[at + 3 : end], layout), children)
+
+
+def listings(read_image: bytes, room: int) -> tuple[tuple[int, int, int], list[int]]:
+    """The three numbers, and a list of so many numbers as it is left: four for each listing."""
+    array = (ctypes.c_size_t * (len(read_image) // 3 * 2))()
+    numbers_list = (ctypes.c_size_t * room)()
+    ctypes.memset(numbers_list, 0xAA, ctypes.sizeof(numbers_list))
+    numbers = (ctypes.c_uint64 * 3)()
+    _LIBRARY.matigelo_mass(read_image, len(read_image), array, len(array), numbers_list, room, ctypes.byref(numbers))
+    return tuple(numbers), list(numbers_list)
+
+
+def mass(read_image: bytes) -> Union[list[Listing], BadImage]:
+    """The planner's list: the objects that raise mass without depth, or depth without mass, or of which that is undecided."""
+    read_image = bytes(read_image)
+    numbers, _ = listings(read_image, 0)
+    if numbers[0] == 21:
+        numbers, found = listings(read_image, 4 * numbers[2])
+        return [Listing(found[i], RAISES[found[i + 1]], (found[i + 2], found[i + 3])) for i in range(0, len(found), 4)]
+    return [] if numbers[0] == 0 else BadImage(*numbers[:2])

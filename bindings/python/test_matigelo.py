@@ -55,6 +55,13 @@ class Answers(unittest.TestCase):
         self.assertEqual(matigelo.links(old, 15), ((24, 0, 16), [0] * 15))
         self.assertEqual(str(matigelo.back(b"")), "15: children are missing, or trees are left over, at byte 0")
 
+    def test_the_planners_list(self) -> None:
+        image = matigelo.image(b"[{mass+:1},{[a]+:1},{mass+:1,depth+:2}]")
+        self.assertEqual([(l.raises, l.span) for l in matigelo.mass(image)], [("mass", (2, 6)), ("undecided", (0, 0))])
+        self.assertEqual(matigelo.mass(matigelo.image(b"{}")), [])
+        self.assertEqual(matigelo.mass(b""), matigelo.BadImage(15, 0))
+        self.assertEqual(matigelo.listings(image, 7), ((21, 0, 2), [0] * 7))
+
     def test_null_with_length_0(self) -> None:
         numbers = (ctypes.c_uint64 * 5)()
         matigelo._LIBRARY.matigelo_read(0, None, 0, None, 0, ctypes.byref(numbers))

@@ -47,6 +47,15 @@ mod entry {
             links_length: usize,
             answer: *mut [u64; 3],
         );
+        pub fn matigelo_mass(
+            image: *const u8,
+            image_length: usize,
+            links: *mut usize,
+            links_length: usize,
+            list: *mut usize,
+            list_length: usize,
+            answer: *mut [u64; 3],
+        );
     }
 }
 
@@ -220,16 +229,17 @@ back_numbers! {
     14 Malformed "a length, a flag or an enum byte is wrong"
     15 Children "children are missing, or trees are left over"
     16 Underived "no source gives this text, name, shape, root or span"
+    21 ListShort "the list is too short"
     24 Short "the array for the links is too short"
 }
 
-/// An image that is no tree's, or an array that is too short for its links.
+/// An image that is no tree's, an array that is too short for its links, or a list that is too short for its listings.
 #[derive(Clone, Debug, PartialEq, Eq, Hash)]
 pub struct BadImage {
     pub fault: Fault,
-    /// The offset of the first bad record; the image's length where the fault is seen at its end; 0 for `Fault::Short`.
+    /// The offset of the first bad record; the image's length where the fault is seen at its end; 0 for `Fault::Short` and `Fault::ListShort`.
     pub offset: usize,
-    /// For `Fault::Short` how many numbers are needed, else 0.
+    /// For `Fault::Short` how many numbers are needed, for `Fault::ListShort` how many listings there are, else 0.
     pub needed: usize,
 }
 
@@ -237,12 +247,24 @@ impl fmt::Display for BadImage {
     fn fmt(&self, f: &mut fmt::Formatter<'_>) -> fmt::Result {
         match self.fault {
             Fault::Short => write!(f, "{}: {} numbers are needed", self.fault.words(), self.needed),
+            Fault::ListShort => {
+                write!(f, "{}: there are {} listings", self.fault.words(), self.needed)
+            }
             _ => write!(f, "{}, at byte {}", self.fault.words(), self.offset),
         }
     }
 }
 
 impl Error for BadImage {}
+
+impl BadImage {
+    fn of([number, offset, count]: [u64; 3]) -> BadImage {
+        let fault = Fault::of(number).unwrap_or_else(|| {
+            panic!("the linked library gives number {number}, which this crate does not know")
+        });
+        BadImage { fault, offset: offset as usize, needed: count as usize }
+    }
+}
 
 /// How many links an image of so many bytes needs: two for every three bytes.
 pub const fn links_for(image_length: usize) -> usize {
@@ -303,12 +325,65 @@ pub fn back<'l>(image: &[u8], links: &'l mut [usize]) -> Result<Records<'l>, Bad
             &mut answer,
         );
     }
-    let [number, offset, count] = answer;
+    let [number, _, count] = answer;
     if number == 0 {
         return Ok(Records { links: &links[..2 * count as usize] });
     }
-    let fault = Fault::of(number).unwrap_or_else(|| {
-        panic!("the linked library gives number {number}, which this crate does not know")
-    });
-    Err(BadImage { fault, offset: offset as usize, needed: count as usize })
+    Err(BadImage::of(answer))
+}
+
+/// What an object raises by its own fields that are marked plus.
+#[derive(Clone, Copy, Debug, PartialEq, Eq, Hash)]
+pub enum Raises {
+    /// A computed field is added, whose name nobody knows.
+    Undecided,
+    /// `mass` and not `depth`.
+    Mass,
+    /// `depth` and not `mass`.
+    Depth,
+}
+
+/// An object that raises one of the two without the other, or of which that is undecided.
+#[derive(Clone, Debug, PartialEq, Eq, Hash)]
+pub struct Listing {
+    /// Where the object's record stands in the image.
+    pub offset: usize,
+    pub raises: Raises,
+    /// Where the name of the first such field stands in the source; empty at 0 where it is undecided.
+    pub place: Range<usize>,
+}
+
+/// The planner's list of an image, in the order of its records, over a lent list of four numbers for each listing; the links are for working and are zero
+/// afterwards. After a refusal all of the list is zero.
+pub fn mass<'l>(
+    image: &[u8],
+    links: &mut [usize],
+    list: &'l mut [usize],
+) -> Result<impl Iterator<Item = Listing> + 'l, BadImage> {
+    let mut answer = [0u64; 3];
+    // SAFETY: as for `back`; the list is another slice that is borrowed mutably.
+    unsafe {
+        entry::matigelo_mass(
+            image.as_ptr(),
+            image.len(),
+            links.as_mut_ptr(),
+            links.len(),
+            list.as_mut_ptr(),
+            list.len(),
+            &mut answer,
+        );
+    }
+    let [number, _, count] = answer;
+    if number != 0 {
+        return Err(BadImage::of(answer));
+    }
+    Ok(list[..4 * count as usize].chunks_exact(4).map(|four| Listing {
+        offset: four[0],
+        raises: match four[1] {
+            1 => Raises::Mass,
+            2 => Raises::Depth,
+            _ => Raises::Undecided,
+        },
+        place: four[2]..four[3],
+    }))
 }

@@ -1,5 +1,5 @@
 //! Parts of the judge's lists of answers (vectors/sources.txt, vectors/back.txt), and what the types promise beside them.
-use matigelo::{back, links_for, read, read_to_vec, BadImage, Fault, Why};
+use matigelo::{back, links_for, mass, read, read_to_vec, BadImage, Fault, Listing, Raises, Why};
 use std::error::Error;
 
 fn bytes(hex: &str) -> Vec<u8> {
@@ -121,4 +121,19 @@ fn a_bad_image_is_an_error() {
     let short = back(&[2, 0, 0], &mut [1]).unwrap_err();
     assert_eq!(short, BadImage { fault: Fault::Short, offset: 0, needed: 2 });
     assert_eq!(back(&[], &mut []).unwrap_err().fault, Fault::Children);
+}
+
+#[test]
+fn the_planners_list() {
+    let image = read_to_vec(0, b"[{mass+:1},{[a]+:1}]").unwrap();
+    let mut links = vec![0; links_for(image.len())];
+    let mut list = [7; 9];
+    let listings: Vec<Listing> = mass(&image, &mut links, &mut list).unwrap().collect();
+    assert_eq!(
+        listings.iter().map(|l| (l.raises, l.place.clone())).collect::<Vec<_>>(),
+        [(Raises::Mass, 2..6), (Raises::Undecided, 0..0)]
+    );
+    assert!(listings.iter().all(|l| image[l.offset] == 9));
+    let short = mass(&image, &mut links, &mut list[..7]).map(|_| ()).unwrap_err();
+    assert_eq!(short, BadImage { fault: Fault::ListShort, offset: 0, needed: 2 });
 }

@@ -5,7 +5,7 @@ use crate::text::put_field;
 use crate::text::put_number;
 
 // Anything but zeros, so that what is left untouched is seen.
-fn smear_links(links: &mut [usize]) {
+pub fn smear_links(links: &mut [usize]) {
     let mut i = 0;
     while i < links.len() {
         links[i] = 0xAAAA;
@@ -14,7 +14,7 @@ fn smear_links(links: &mut [usize]) {
 }
 
 // Whether all numbers from a place on are zero.
-fn is_unlinked(links: &[usize], from: usize) -> bool {
+pub fn is_unlinked(links: &[usize], from: usize) -> bool {
     let mut i = from;
     while i < links.len() {
         if links[i] != 0 {

@@ -1,6 +1,7 @@
 // What the desk's programs share.
 mod backs; // an image read back, as the judge asks for it
 pub mod input; // a file taken whole
+mod masses; // the planner's list, as the judge asks for it
 mod nights; // a night's files, as the judge asks for them
 pub mod options; // the words that a program is started with
 pub mod questions; // the judge's lines: a question, and the answer to it

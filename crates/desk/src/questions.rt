@@ -2,10 +2,12 @@
 //     SETTING OUTLEN HEXSOURCE
 //     night SETTING ENDS OUTENDS OUTLEN ANSWERLEN HEXSOURCES
 //     back HEXIMAGE
+//     mass LISTLEN HEXIMAGE
 ghost use Prim.Native.Nat.{_≤_};
 ghost use Rattle.io.specs.Counts.{Counts};
 use crate::Fields;
 use crate::backs;
+use crate::masses;
 use crate::nights;
 use crate::text::put;
 use crate::text::put_field;
@@ -40,6 +42,8 @@ const NIGHT_FORM: u64 = 0x6E_6967_6874;
 
 const BACK_FORM: u64 = 0x6261_636B;
 
+const MASS_FORM: u64 = 0x6D61_7373;
+
 // The field that a question has come to.
 const WORD: u8 = 0; // in the form's word
 
@@ -51,7 +55,7 @@ const PARTS: u8 = 3; // in the ends of their parts
 
 const ROOM: u8 = 4; // in the output's length
 
-const COUNT: u8 = 5; // in the length of the list for the answers
+const COUNT: u8 = 5; // in the length of the list for the answers or the listings
 
 const BYTES: u8 = 6; // in the hex of the sources or the image
 
@@ -118,6 +122,13 @@ fn next(form: u64, stage: u8) -> u8 {
     if form == BACK_FORM {
         return match stage {
             WORD => BYTES,
+            _ => BAD,
+        };
+    }
+    if form == MASS_FORM {
+        return match stage {
+            WORD => COUNT,
+            COUNT => BYTES,
             _ => BAD,
         };
     }
@@ -469,11 +480,35 @@ fn answer_back(q: Question, image: &[u8], links: &mut [usize], text: &mut [u8]) 
     backs::answer_into(image, &mut links[..needed], text)
 }
 
+// The answer's line for the planner's list, whose array has just as many numbers as the image needs.
+fn answer_mass(
+    q: Question,
+    image: &[u8],
+    links: &mut [usize],
+    list: &mut [usize],
+    text: &mut [u8],
+) -> usize
+    ensures { λ r. ⌜ Counts r (now (text .exit)) ⌝ }
+{
+    let needed = image.len() / 3 * 2;
+    let count = q.count as usize;
+    if q.is_cut {
+        return say_bad(text);
+    }
+    if links.len() < needed {
+        return say_bad(text);
+    }
+    if list.len() < count {
+        return say_bad(text);
+    }
+    masses::answer_into(image, &mut links[..needed], &mut list[..count], text)
+}
+
 // The answer's line for a question; `bad` for a line that asks nothing, and for one that the buffers are too short for.
 pub fn answer(
     q: Question,
     source: &[u8],
-    lists: &[usize],
+    lists: &mut [usize],
     output: &mut [u8],
     answers: &mut [u64],
     links: &mut [usize],
@@ -504,6 +539,9 @@ pub fn answer(
     }
     if q.form == BACK_FORM {
         return answer_back(q, &source[..length], links, text);
+    }
+    if q.form == MASS_FORM {
+        return answer_mass(q, &source[..length], links, lists, text);
     }
     answer_into(q.setting, &source[..length], &mut output[..room], text)
 }

@@ -3,7 +3,7 @@ ghost use lib.ListN.{length};
 ghost use Rattle.grammar.specs.Source.{Reads01};
 ghost use Rattle.reader.specs.Five.{five as five01};
 ghost use Rattle.night.specs.Night.{Night};
-ghost use Rattle.matigelo.specs.Three.{three as three02, Back02};
+ghost use Rattle.matigelo.specs.Three.{three as three02, Back02, Mass02};
 
 // Reads a source under a setting into a lent output. The answer's five numbers: number, start, end, detail, length.
 #[no_mangle]
@@ -44,6 +44,23 @@ pub extern "C" fn matigelo_back(image: &[u8], links: &mut [usize], answer: &mut 
 {
     let back = images::back(image, links);
     let f = images::numbers(back);
+    let three = [f.number, f.offset, f.count];
+    *answer = three;
+}
+
+// The planner's list: of each object of an image that raises mass without depth, or depth without mass, or of which that is undecided, four numbers
+// in the list. The array is for working. The answer's three numbers: number, offset, count.
+#[no_mangle]
+pub extern "C" fn matigelo_mass(
+    image: &[u8],
+    links: &mut [usize],
+    list: &mut [usize],
+    answer: &mut [u64; 3],
+)
+    ensures { λ _. ⌜ Mass02 (now (image .entry)) (length (now (links .entry))) (length (now (list .entry))) (three02 (now (answer .exit))) (now (links .exit)) (now (list .exit)) ⌝ }
+{
+    let listed = mass::list(image, links, list);
+    let f = mass::numbers(listed);
     let three = [f.number, f.offset, f.count];
     *answer = three;
 }

@@ -1,5 +1,7 @@
 //! Request 2's limit: which literals are too large for a double.
 
+use std::sync::LazyLock;
+
 /// Whether the value of a literal `(0|[1-9][0-9]*)(\.[0-9]+)?([eE][+-]?[0-9]+)?` is at least
 /// 2^1024 - 2^970, compared digit by digit.
 pub fn too_large(literal: &str) -> bool {
@@ -16,12 +18,12 @@ pub fn too_large(literal: &str) -> bool {
         return !exponent.starts_with('-');
     };
     let power = exponent + whole.len() as i64 - leading as i64;
-    let limit = limit();
+    let limit = &*LIMIT;
     if power != limit.len() as i64 {
         return power > limit.len() as i64;
     }
     let value = significant.bytes().map(|digit| digit - b'0').chain(std::iter::repeat(0));
-    value.take(limit.len()).ge(limit)
+    value.take(limit.len()).ge(limit.iter().copied())
 }
 
 /// An exponent, unless it outweighs all digits that a literal can have.
@@ -34,8 +36,9 @@ fn small(exponent: &str) -> Option<i64> {
     Some(if exponent.starts_with('-') { -value } else { value })
 }
 
-/// The digits of 2^1024 - 2^970 = 2^970 * (2^54 - 1).
-pub fn limit() -> Vec<u8> {
+/// The digits of 2^1024 - 2^970 = 2^970 * (2^54 - 1), found once: every number of an image is held
+/// to them.
+pub static LIMIT: LazyLock<Vec<u8>> = LazyLock::new(|| {
     let mut digits: Vec<u8> = ((1u64 << 54) - 1).to_string().bytes().map(|b| b - b'0').collect();
     for _ in 0..970 {
         let mut carry = 0;
@@ -49,4 +52,4 @@ pub fn limit() -> Vec<u8> {
         }
     }
     digits
-}
+});

@@ -6,6 +6,7 @@ pub mod exhaustive;
 pub mod generate;
 pub mod hex;
 pub mod layers;
+pub mod mass;
 pub mod night;
 pub mod reader;
 pub mod readings;

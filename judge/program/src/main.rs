@@ -7,10 +7,10 @@ use std::{
     process::ExitCode,
 };
 
-use judge::{back, exhaustive, generate, layers, night, reader, stack};
+use judge::{back, exhaustive, generate, layers, mass, night, reader, stack};
 
-const USAGE: &str = "usage: judge [strings|blocks|lexemes|sources|night|back]
-       judge generate strings|blocks|lexemes|sources|night|numbers|back SEED COUNT
+const USAGE: &str = "usage: judge [strings|blocks|lexemes|sources|night|back|mass]
+       judge generate strings|blocks|lexemes|sources|night|numbers|back|mass SEED COUNT
        judge generate long
        judge exhaustive";
 
@@ -34,6 +34,7 @@ fn run(arguments: &[String]) -> Result<(), String> {
         ["lexemes"] => answer_lines(layers::lexemes),
         ["night"] => answer_lines(night::line),
         ["back"] => answer_lines(back::line),
+        ["mass"] => answer_lines(mass::line),
         ["generate", what, seed, count] => {
             let seed = seed.parse().map_err(|e| format!("seed: {e}"))?;
             let count = count.parse().map_err(|e| format!("count: {e}"))?;

@@ -29,7 +29,7 @@ fn written_down() {
 fn too_large() {
     assert_eq!(answer("0400053165333038", BEFORE), "0 0 1 0 0");
     assert_eq!(answer("0400053165333039", BEFORE), "16 0 0 0 0");
-    let limit: String = doubles::limit().iter().map(|digit| digit.to_string()).collect();
+    let limit: String = doubles::LIMIT.iter().map(|digit| digit.to_string()).collect();
     assert_eq!(limit.len(), 309);
     assert!(limit.starts_with("1797693134862315807937289714053034150799"));
     assert!(limit.ends_with("42880177904174497792"));

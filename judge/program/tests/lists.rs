@@ -3,7 +3,7 @@
 
 use std::{collections::BTreeSet, fs};
 
-use judge::{back, generate, layers, night, reader, stack};
+use judge::{back, generate, layers, mass, night, reader, stack};
 
 /// Compares a list whose input is the first `words` words of each line.
 fn check(name: &str, words: usize, answer: fn(&str) -> Result<String, String>) {
@@ -45,6 +45,11 @@ fn nights() {
 #[test]
 fn images() {
     check("back", 2, back::line);
+}
+
+#[test]
+fn masses() {
+    check("mass", 3, mass::line);
 }
 
 /// Only closers and the like are ever wanted, number 10 never comes, and neither do some kinds.

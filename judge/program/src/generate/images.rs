@@ -131,6 +131,17 @@ pub fn random(rng: &mut Rng) -> String {
     line(&image)
 }
 
+/// An image with one damage.
+pub fn damaged(rng: &mut Rng, image: &[u8]) -> Vec<u8> {
+    let mut records = split(image);
+    whole(rng, &mut records);
+    let mut image = joined(&records);
+    if rng.once_in(6) {
+        damage::bytes(rng, &mut image);
+    }
+    image
+}
+
 /// Where the spans of a payload stand.
 fn spans(tag: u8, length: usize) -> &'static [usize] {
     match tag {

@@ -6,6 +6,7 @@ mod damage;
 mod grammar;
 mod images;
 mod lexemes;
+mod mass;
 mod nights;
 mod numbers;
 mod rng;
@@ -53,6 +54,7 @@ pub fn lines(what: &str, seed: u64, count: usize) -> Result<Vec<String>, String>
         "night" => (nights::fixed, nights::random),
         "numbers" => (numbers::fixed, numbers::random),
         "back" => (images::fixed, images::random),
+        "mass" => (mass::fixed, mass::random),
         _ => return Err(format!("nothing to generate for {what}")),
     };
     let mut lines = Lines::default();

@@ -57,6 +57,9 @@ same-length-5 c = search needs
 same-length-6 : tie.Need-same-length-6
 same-length-6 c = search needs
 
+same-length-7 : tie.Need-same-length-7
+same-length-7 c = search needs
+
 returns-4 : tie.Need-returns-4
 returns-4 c = search needs
 
@@ -66,14 +69,32 @@ slice-aggregate-answer-back c = simp length-take (omega arith)
 answer-back-requires : tie.Need-answer-back-requires
 answer-back-requires c κs = search needs
 
-same-length-7 : tie.Need-same-length-7
-same-length-7 c = search needs
-
 same-length-8 : tie.Need-same-length-8
 same-length-8 c = search needs
 
+same-length-9 : tie.Need-same-length-9
+same-length-9 c = search needs
+
 returns-5 : tie.Need-returns-5
 returns-5 c = search needs
+
+slice-aggregate-answer-mass : tie.Need-slice-aggregate-answer-mass
+slice-aggregate-answer-mass c = simp length-take (omega arith)
+
+answer-mass-requires : tie.Need-answer-mass-requires
+answer-mass-requires c κs = search needs
+
+same-length-10 : tie.Need-same-length-10
+same-length-10 c = search needs
+
+same-length-11 : tie.Need-same-length-11
+same-length-11 c = search needs
+
+same-length-12 : tie.Need-same-length-12
+same-length-12 c = search needs
+
+returns-6 : tie.Need-returns-6
+returns-6 c = search needs
 
 slice-aggregate-answer-into : tie.Need-slice-aggregate-answer-into
 slice-aggregate-answer-into c = simp length-take (omega arith)
@@ -87,14 +108,14 @@ slice-aggregate-answer-into-2 c = simp length-take (omega arith)
 answer-into-requires : tie.Need-answer-into-requires
 answer-into-requires c κs = search needs
 
-same-length-9 : tie.Need-same-length-9
-same-length-9 c = search needs
+same-length-13 : tie.Need-same-length-13
+same-length-13 c = search needs
 
-same-length-10 : tie.Need-same-length-10
-same-length-10 c = search needs
+same-length-14 : tie.Need-same-length-14
+same-length-14 c = search needs
 
-returns-6 : tie.Need-returns-6
-returns-6 c = search needs
+returns-7 : tie.Need-returns-7
+returns-7 c = search needs
 
 pub answer-spec : {M : Type 1} → statement M
 answer-spec =
@@ -117,16 +138,23 @@ answer-spec =
     same-length-4
     same-length-5
     same-length-6
+    same-length-7
     returns-4
     slice-aggregate-answer-back
     answer-back-requires
-    same-length-7
     same-length-8
+    same-length-9
     returns-5
+    slice-aggregate-answer-mass
+    answer-mass-requires
+    same-length-10
+    same-length-11
+    same-length-12
+    returns-6
     slice-aggregate-answer-into
     slice-relend-prefix-answer-into
     slice-aggregate-answer-into-2
     answer-into-requires
-    same-length-9
-    same-length-10
-    returns-6)
+    same-length-13
+    same-length-14
+    returns-7)

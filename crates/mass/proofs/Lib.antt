@@ -1,0 +1,13 @@
+pub mod StandLaws
+pub mod FieldLaws
+pub mod MemberLaws
+pub mod ObjectLaws
+pub mod ListLaws
+pub mod PlaceLaws
+pub mod FillLaws
+pub mod AnswerLaws
+pub mod Sole
+pub mod RowLaws
+pub mod Demands
+pub mod Decided
+pub mod Minutes

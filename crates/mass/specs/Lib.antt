@@ -1,0 +1,4 @@
+pub mod Mass
+pub mod Minutes
+pub mod Numbers
+pub mod Inner
