@@ -4,22 +4,21 @@ use mathlib.Core.Path.{_≡_, refl, sym, _∙_, ap, subst}
 use mathlib.Core.Bool.{Bool, true, false, not, _&&_, _||_}
 use mathlib.Core.List.{List, [], _∷_, _++_}
 use mathlib.Core.Logic.{_⊎_, inl, inr, ⊎-elim}
-use Prim.Native.Nat.{ℕ, zero, suc, _+_, _-_, _≤_, _<_}
+use Prim.Native.Nat.{ℕ, zero, suc, _+_, _-_, _*_, _≤_, _<_}
 use native.Mathlib.Omega.{arith}
 use native.Mathlib.Nat.{add-zero}
-use native.Mathlib.Decide.{decLt, ℕ-discrete}
-use lib.Dec.{T, leb, leb→le, ltb, ltb→lt, lt→ltb, eqb, eqb→eq, eqb-refl}
+use lib.Dec.{T, leb, leb→le, ltb, ltb→lt, eqb, eqb→eq, eqb-refl}
 use lib.ListN.{length, getD, take, drop, length-take, length-drop, take-append-drop}
 use lib.Seq.{getD-take, getD-drop}
 use Rattle.regex.specs.Regex.{Re, _·_, eps, one, Star, stop, more, Rule, _⇒_, Match, Takes, inClass}
-use Rattle.regex.proofs.Bools.{and, and-left, and-right, every, Each, each, ask, asked, all, all-at, implies, implied, refuted}
+use Rattle.regex.proofs.Bools.{and, and-left, and-right, every, Each, each, ask, asked, all, all-at, refuted, refutes}
 use Rattle.regex.proofs.Tables.{left, Among, accepts, steps, steps-eq, gives, silent, silent-eq, takes-forth, takes-back, append-to, append-from}
 use Rattle.lexemes.specs.Kinds.{IDENT, TAILSTRICT-KW, ASSERT-KW}
 use Rattle.lexemes.specs.Letters.{text, letter, next}
 use Rattle.lexemes.specs.Rules.{rules, alpha, alnum}
 use Rattle.lexemes.specs.Lexeme.{Beats, Ruled, longest}
 use Rattle.lexemes.specs.Scan.{classOf, asciiClass, Ran, Best}
-use Rattle.lexemes.specs.Words.{wordBytes, wordFrom, wordKind, wordNext, wordText, FirstWord, Spells, KeywordAt}
+use Rattle.lexemes.specs.Words.{wordBytes, wordFrom, wordKind, wordText, Spells, Makes, KeywordAt}
 use Rattle.lexemes.proofs.Letters.{sound}
 use Rattle.lexemes.proofs.Moves.{Sees, is, is-to, is-from, plain, notIn, Rest, at-rest, go}
 use Rattle.lexemes.proofs.Classes.{covers, classed, between, run-stop}
@@ -355,78 +354,154 @@ word-scanned s at e c ran w = longest (keyword-wins s at ident w)
         go (classed s 1 1 (inClass alpha) (omega arith) alpha-class at (omega (arith, c)) (omega (arith, c)))
         (run-stop s 1 3 (inClass alnum) (omega arith) alnum-classes (at + 1) e ran identTail ident-more IDENT ident-over ident-gives) ident-first
 
--- The search for a keyword: which word is the first with a letter, which the next with the same.
-skips : ℕ → ℕ → Bool
-skips w v = ask (ltb w v && ltb v (getD wordNext w 0)) (λ u. not (eqb (letterOf v) (letterOf w)))
+-- ── Words as numbers ─────────────────────────────────────────────────────────────────────────────
 
-abbrev chained : ℕ → List Bool
-chained w = ltb w (getD wordNext w 0) ∷ all (skips w) 18 ∷ ask (ltb (getD wordNext w 0) 18) (λ u. eqb (letterOf (getD wordNext w 0)) (letterOf w)) ∷ []
+-- A text as a number, its first byte lowest.
+value : List ℕ → ℕ
+value [] = 0
+value (b ∷ bs) = b + 256 * value bs
 
-all-chained : T (all (λ w. every (chained w)) 18)
-unfolding all skips wordNext wordText wordBytes wordFrom
-all-chained = tt
+-- Bytes that make a number, one, two or four of them and then more.
+module _ (s : List ℕ) (i a : ℕ) where
+  pub one-below : Makes s i 1 a → a < 256
+  unfolding Makes
+  one-below m = omega (arith, m .1, m .2, m .3)
 
-is-chained : (w : ℕ) → w < 18 → Each (chained w)
-is-chained w h = each (chained w) (all-at (λ w. every (chained w)) 18 all-chained w h)
+  pub two-below : Makes s i 2 a → a < 65536
+  unfolding Makes
+  two-below m = omega (arith, m .1, m .2 .1, m .2 .2, m .2 .3, m .3)
 
-pub next-up : (w : ℕ) → w < 18 → w < getD wordNext w 0
-next-up w h = ltb→lt w (getD wordNext w 0) (is-chained w h .0)
+  pub four-below : Makes s i 4 a → a < 4294967296
+  unfolding Makes
+  four-below m =
+      let x = m .2 in
+      let y = x .2 in
+      let z = y .2 in
+      omega (arith, m .1, m .3, x .1, x .3, y .1, y .3, z .1, z .2, z .3)
 
--- No word before w is spelled, and w begins as the text does.
-pub record Seeking (s : List ℕ) (at e w : ℕ) : Type 0 where
-  pub none : (v : ℕ) → v < w → v < 18 → Spells s (wordText v) at e → ⊥
-  pub begins : w < 18 → letterOf w ≡ getD s at 0
+  module _ (n b : ℕ) where
+    pub one-more : Makes s i 1 a → Makes s (i + 1) n b → Makes s i (suc n) (a + b * 256)
+    unfolding Makes
+    one-more m k = (b, m .1, k, omega (arith, m .2, m .3))
 
-module _ {s : List ℕ} {at e : ℕ} where
-  pub seek-first : {w : ℕ} → FirstWord (getD s at 0) w → Seeking s at e w
-  seek-first f = record { none = λ v l h m. f .before v l h (sym (first-byte s v at e h m)); begins = f .begins }
+    pub two-more : Makes s i 2 a → Makes s (i + 2) n b → Makes s i (suc (suc n)) (a + b * 65536)
+    unfolding Makes
+    two-more m k =
+        let x = m .2 in
+        let k′ : Makes s (i + 1 + 1) n b = subst (λ (j : ℕ). Makes s j n b) (omega arith) k in
+        (getD s (i + 1) 0 + 256 * b, m .1, (b, x .1, k′, refl), omega (arith, m .3, x .2, x .3))
 
-  pub seek-next : {w n : ℕ} → Seeking s at e w → w < 18 → (Spells s (wordText w) at e → ⊥) → n ≡ getD wordNext w 0 → Seeking s at e n
-  unfolding skips
-  seek-next {w} {n} f h un q =
-      subst (λ (x : ℕ). Seeking s at e x) (sym q)
-      record {
-        none = λ v l g m. by v l g m (decLt v w) (ℕ-discrete v w);
-        begins = λ l. eqb→eq (letterOf (getD wordNext w 0)) (letterOf w) (asked (ltb (getD wordNext w 0) 18) (λ u. eqb (letterOf (getD wordNext w 0)) (letterOf w)) (is-chained w h .1 .1 .0) (lt→ltb (getD wordNext w 0) 18 l)) ∙ f .begins h;
-      }
-    where
-      by : (v : ℕ) → v < getD wordNext w 0 → v < 18 → Spells s (wordText v) at e → Dec (v < w) → Dec (v ≡ w) → ⊥
-      by v l g m (yes a) d = f .none v a g m
-      by v l g m (no a) (yes d) = un (subst (λ (x : ℕ). Spells s (wordText x) at e) d m)
-      by v l g m (no a) (no d) =
-          refuted (eqb (letterOf v) (letterOf w))
-          (asked (ltb w v && ltb v (getD wordNext w 0)) (λ u. not (eqb (letterOf v) (letterOf w))) (all-at (skips w) 18 (is-chained w h .1 .0) v g)
-          (and (ltb w v) (ltb v (getD wordNext w 0)) (lt→ltb w v (omega arith)) (lt→ltb v (getD wordNext w 0) l)))
-          (subst (λ (x : ℕ). T (eqb (letterOf v) x)) (sym (first-byte s v at e g m) ∙ sym (f .begins h)) (eqb-refl (letterOf v)))
+    pub four-more : Makes s i 4 a → Makes s (i + 4) n b → Makes s i (suc (suc (suc (suc n)))) (a + b * 4294967296)
+    unfolding Makes
+    four-more m k =
+        let x = m .2 in
+        let y = x .2 in
+        let z = y .2 in
+        let k′ : Makes s (i + 1 + 1 + 1 + 1) n b = subst (λ (j : ℕ). Makes s j n b) (omega arith) k in
+        let c₃ : ℕ = getD s (i + 1 + 1 + 1) 0 + 256 * b in
+        let c₂ : ℕ = getD s (i + 1 + 1) 0 + 256 * c₃ in
+        let c₁ : ℕ = getD s (i + 1) 0 + 256 * c₂ in
+        (c₁, m .1, (c₂, x .1, (c₃, y .1, (b, z .1, k′, refl), refl), refl), omega (arith, m .3, x .3, y .3, z .2, z .3))
 
-  pub seek-end : {w : ℕ} → Seeking s at e w → 18 ≤ w → KeywordAt s at e IDENT
-  seek-end f h = inr (refl, λ v g m. f .none v (omega arith) g m)
+module _ (s : List ℕ) where
+  -- Bytes make the number of a text exactly where they spell it.
+  made-spells : (t : List ℕ) (i r : ℕ) → T (plains t) → Makes s i (length t) r → r ≡ value t → Spells s t i (i + length t)
+  unfolding Makes Spells plains value
+  made-spells [] i r p m e = omega arith
+  made-spells (b ∷ bs) i r p m e =
+      let low : b ≤ 127 = leb→le b 127 (and-right (leb 1 b) (leb b 127) (and-left (plain b) (plains bs) p)) in (
+        omega (arith, low, m .1, m .3, e),
+        subst (λ (j : ℕ). Spells s bs (i + 1) j) (omega arith) (made-spells bs (i + 1) (m .0) (and-right (plain b) (plains bs) p) (m .2) (omega (arith, low, m .1, m .3, e))),
+      )
 
--- The first word with a letter, by a test of all words.
-abbrev firsts : ℕ → ℕ → List Bool
-firsts b r = all (λ v. ask (ltb v r) (λ u. not (eqb (letterOf v) b))) 18 ∷ ask (ltb r 18) (λ u. eqb (letterOf r) b) ∷ []
+  spells-made : (t : List ℕ) (i j r : ℕ) → Makes s i (length t) r → Spells s t i j → r ≡ value t
+  unfolding Makes Spells value
+  spells-made [] i j r m f = m
+  spells-made (b ∷ bs) i j r m f = omega (arith, m .3, f .0, spells-made bs (i + 1) j (m .0) (m .2) (f .1))
 
-unfoldable pub is-first : ℕ → ℕ → Bool
+-- The keyword w has n bytes, the number v and the kind k; the keywords of n bytes have no other numbers than these; they are no others than
+-- these; there are no other lengths than these.
+unfoldable pub has : ℕ → ℕ → ℕ → ℕ → Bool
+unfolding value wordText wordBytes wordFrom wordKind
+has w n v k = every (ltb w 18 ∷ eqb (length (wordText w)) n ∷ eqb v (value (wordText w)) ∷ eqb (getD wordKind w 0) k ∷ [])
+
+unfoldable pub numbered : ℕ → List ℕ → Bool
+unfolding all value wordText wordBytes wordFrom
+numbered n vs = all (λ w. ask (eqb (length (wordText w)) n) (λ u. not (notIn vs (value (wordText w))))) 18
+
+unfoldable pub sized : ℕ → List ℕ → Bool
 unfolding all wordText wordBytes wordFrom
-is-first b r = every (firsts b r)
+sized n ws = all (λ w. ask (eqb (length (wordText w)) n) (λ u. not (notIn ws w))) 18
 
-pub first-word : (b r : ℕ) → T (is-first b r) → FirstWord b r
-unfolding is-first
-first-word b r t =
-    let f = each (firsts b r) t in
-    record {
-      before = λ v l h e.
-          refuted (eqb (letterOf v) b) (asked (ltb v r) (λ u. not (eqb (letterOf v) b)) (all-at (λ v. ask (ltb v r) (λ u. not (eqb (letterOf v) b))) 18 (f .0) v h) (lt→ltb v r l))
-          (subst (λ (x : ℕ). T (eqb (letterOf v) x)) e (eqb-refl (letterOf v)));
-      begins = λ l. eqb→eq (letterOf r) b (asked (ltb r 18) (λ u. eqb (letterOf r) b) (f .1 .0) (lt→ltb r 18 l));
-    }
+abbrev pub lengths : List ℕ
+lengths = 10 ∷ 9 ∷ 8 ∷ 6 ∷ 5 ∷ 4 ∷ 3 ∷ 2 ∷ []
 
--- No word begins with another letter.
-no-first : T (implies 256 (notIn (116 ∷ 115 ∷ 110 ∷ 108 ∷ 105 ∷ 102 ∷ 101 ∷ 97 ∷ [])) (λ b. is-first b 18))
-unfolding implies is-first
-no-first = tt
+all-sized : T (all (λ w. not (notIn lengths (length (wordText w)))) 18)
+unfolding all wordText wordBytes wordFrom
+all-sized = tt
 
-pub no-word : (b : ℕ) → b < 256 → Rest (116 ∷ 115 ∷ 110 ∷ 108 ∷ 105 ∷ 102 ∷ 101 ∷ 97 ∷ []) b → FirstWord b 18
-no-word b h r =
-    first-word b 18
-    (implied 256 (notIn (116 ∷ 115 ∷ 110 ∷ 108 ∷ 105 ∷ 102 ∷ 101 ∷ 97 ∷ [])) (λ b. is-first b 18) no-first b h (at-rest (116 ∷ 115 ∷ 110 ∷ 108 ∷ 105 ∷ 102 ∷ 101 ∷ 97 ∷ []) b r))
+-- None of the keywords ws is spelled.
+abbrev pub Unspelled : List ℕ → ℕ → ℕ → List ℕ → Type 0
+Unspelled s i j [] = Unit {0}
+Unspelled s i j (w ∷ ws) = (Spells s (wordText w) i j → ⊥) × Unspelled s i j ws
+
+module _ (s : List ℕ) (i : ℕ) where
+  -- A text of n bytes has n bytes.
+  same-length : (t : List ℕ) (n : ℕ) → Spells s t i (i + n) → length t ≡ n
+  same-length t n m = omega (arith, spells-to s t i (i + n) m .0)
+
+  pub is-keyword : (w n v k : ℕ) → T (has w n v k) → (r : ℕ) → Makes s i n r → r ≡ v → KeywordAt s i (i + n) k
+  unfolding has
+  is-keyword w n v k t r m e =
+      let h = each (ltb w 18 ∷ eqb (length (wordText w)) n ∷ eqb v (value (wordText w)) ∷ eqb (getD wordKind w 0) k ∷ []) t in
+      let l : w < 18 = ltb→lt w 18 (h .0) in
+      let q : length (wordText w) ≡ n = eqb→eq (length (wordText w)) n (h .1 .0) in
+      let m′ : Makes s i (length (wordText w)) r = subst (λ (x : ℕ). Makes s i x r) (sym q) m in
+      inl (
+        w,
+        l,
+        sym (eqb→eq (getD wordKind w 0) k (h .1 .1 .1 .0)),
+        subst (λ (x : ℕ). Spells s (wordText w) i (i + x)) q (made-spells s (wordText w) i r (is-good w l .0) m′ (e ∙ eqb→eq v (value (wordText w)) (h .1 .1 .0))),
+      )
+
+  pub no-keyword : (n : ℕ) (vs : List ℕ) → T (numbered n vs) → (r : ℕ) → Makes s i n r → Rest vs r → KeywordAt s i (i + n) IDENT
+  unfolding numbered
+  no-keyword n vs t r m rest = inr (refl, not-one)
+    where
+      not-one : (w : ℕ) → w < 18 → Spells s (wordText w) i (i + n) → ⊥
+      not-one w h f =
+          let q = same-length (wordText w) n f in
+          let e : r ≡ value (wordText w) = spells-made s (wordText w) i (i + n) r (subst (λ (x : ℕ). Makes s i x r) (sym q) m) f in
+          refuted (notIn vs (value (wordText w)))
+          (asked (eqb (length (wordText w)) n) (λ u. not (notIn vs (value (wordText w))))
+          (all-at (λ w. ask (eqb (length (wordText w)) n) (λ u. not (notIn vs (value (wordText w))))) 18 t w h)
+          (subst (λ (x : ℕ). T (eqb (length (wordText w)) x)) q (eqb-refl (length (wordText w)))))
+          (subst (λ (x : ℕ). T (notIn vs x)) e (at-rest vs r rest))
+
+  among : (n : ℕ) (ws : List ℕ) → Unspelled s i (i + n) ws → (w : ℕ) → Spells s (wordText w) i (i + n) → T (notIn ws w)
+  among n [] u w f = tt
+  among n (x ∷ ws) u w f =
+      and (not (eqb w x)) (notIn ws w)
+      (refutes (eqb w x) (λ e. u .0 (subst (λ (y : ℕ). Spells s (wordText y) i (i + n)) (eqb→eq w x e) f)))
+      (among n ws (u .1) w f)
+
+  pub no-long-keyword : (n : ℕ) (ws : List ℕ) → T (sized n ws) → Unspelled s i (i + n) ws → KeywordAt s i (i + n) IDENT
+  unfolding sized
+  no-long-keyword n ws t un =
+      inr (
+        refl,
+        λ w h f.
+            refuted (notIn ws w)
+            (asked (eqb (length (wordText w)) n) (λ u. not (notIn ws w)) (all-at (λ w. ask (eqb (length (wordText w)) n) (λ u. not (notIn ws w))) 18 t w h)
+            (subst (λ (x : ℕ). T (eqb (length (wordText w)) x)) (same-length (wordText w) n f) (eqb-refl (length (wordText w)))))
+            (among n ws un w f),
+      )
+
+  pub no-length : (n : ℕ) → Rest lengths n → KeywordAt s i (i + n) IDENT
+  no-length n rest =
+      inr (
+        refl,
+        λ w h f.
+            refuted (notIn lengths (length (wordText w))) (all-at (λ w. not (notIn lengths (length (wordText w)))) 18 all-sized w h)
+            (subst (λ (x : ℕ). T (notIn lengths x)) (sym (same-length (wordText w) n f)) (at-rest lengths n rest)),
+      )

@@ -6,7 +6,7 @@ ghost use lib.ListN.{length, getD};
 ghost use Rattle.lexemes.specs.Scan.{classOf, Says};
 ghost use Rattle.lexemes.specs.Lexeme.{Ruled};
 ghost use Rattle.lexemes.specs.Texts.{TellsKeyword};
-ghost use Rattle.lexemes.specs.Words.{FirstWord, Spells, KeywordAt, wordBytes, wordFrom, wordKind, wordNext, wordText};
+ghost use Rattle.lexemes.specs.Words.{Spells, Makes, KeywordAt, wordBytes, wordFrom, wordText};
 use super::Matched;
 use super::bytes;
 use super::kinds::Kind;
@@ -22,7 +22,7 @@ fn word_byte(text: &[u8; 95], i: usize) -> u8
     text[i]
 }
 
-// Where the keyword w starts; its kind; the next that has the same first letter. Matches, which are compiled to tables that stand ready.
+// Where the keyword w starts: a match, which is compiled to a table that stands ready.
 fn word_from(w: usize) -> usize
     requires { ⌜ w < 19 ⌝ }
     ensures { λ r. ⌜ r ≡ getD wordFrom w 0 ⌝ }
@@ -50,75 +50,6 @@ fn word_from(w: usize) -> usize
     }
 }
 
-fn word_kind(w: usize) -> u8
-    requires { ⌜ w < 18 ⌝ }
-    ensures { λ r. ⌜ r ≡ getD wordKind w 0 ⌝ }
-{
-    match w {
-        0 => Kind::TAILSTRICT_KW,
-        1 => Kind::LOCAL_KW,
-        2 => Kind::IMPORTSTR_KW,
-        3 => Kind::IMPORTBIN_KW,
-        4 => Kind::IMPORT_KW,
-        5 => Kind::IF_KW,
-        6 => Kind::THEN_KW,
-        7 => Kind::ELSE_KW,
-        8 => Kind::FUNCTION_KW,
-        9 => Kind::ERROR_KW,
-        10 => Kind::IN_KW,
-        11 => Kind::NULL_KW,
-        12 => Kind::TRUE_KW,
-        13 => Kind::FALSE_KW,
-        14 => Kind::SELF_KW,
-        15 => Kind::SUPER_KW,
-        16 => Kind::FOR_KW,
-        _ => Kind::ASSERT_KW,
-    }
-}
-
-fn word_next(w: usize) -> usize
-    requires { ⌜ w < 18 ⌝ }
-    ensures { λ r. ⌜ r ≡ getD wordNext w 0 ⌝ }
-{
-    match w {
-        0 => 6,
-        1 => 18,
-        2 => 3,
-        3 => 4,
-        4 => 5,
-        5 => 10,
-        6 => 12,
-        7 => 9,
-        8 => 13,
-        9 => 18,
-        10 => 18,
-        11 => 18,
-        12 => 18,
-        13 => 16,
-        14 => 15,
-        15 => 18,
-        16 => 18,
-        _ => 18,
-    }
-}
-
-// The first keyword that begins with b; 18 where none does.
-fn first_word(b: u8) -> usize
-    ensures { λ r. ⌜ FirstWord b r ⌝ }
-{
-    match b {
-        b'a' => 17,
-        b'e' => 7,
-        b'f' => 8,
-        b'i' => 2,
-        b'l' => 1,
-        b'n' => 11,
-        b's' => 14,
-        b't' => 0,
-        _ => 18,
-    }
-}
-
 // Whether the bytes from `at` to `end` are the keyword w.
 fn is_word(src: &[u8], at: usize, end: usize, w: usize) -> bool
     requires { ⌜ (at ≤ end) × (end ≤ length (now src)) × (w < 18) ⌝ }
@@ -141,19 +72,179 @@ fn is_word(src: &[u8], at: usize, end: usize, w: usize) -> bool
     true
 }
 
-// The kind of the word from `at` to `end`.
+// So many bytes of the source as one number, the first one lowest: the processor loads them at once, and a word is compared at once.
+fn one(src: &[u8], at: usize) -> u64
+    requires { ⌜ at + 1 ≤ length (now src) ⌝ }
+    ensures { λ r. ⌜ Makes (now (src .entry)) at 1 r ⌝ }
+{
+    wide(src[at])
+}
+
+fn wide(b: u8) -> u64
+    ensures { λ r. ⌜ (r ≡ b) × (b < 256) ⌝ }
+{
+    b as u64
+}
+
+fn two(src: &[u8], at: usize) -> u64
+    requires { ⌜ at + 2 ≤ length (now src) ⌝ }
+    ensures { λ r. ⌜ Makes (now (src .entry)) at 2 r ⌝ }
+{
+    one(src, at) + one(src, at + 1) * 0x100
+}
+
+fn three(src: &[u8], at: usize) -> u64
+    requires { ⌜ at + 3 ≤ length (now src) ⌝ }
+    ensures { λ r. ⌜ Makes (now (src .entry)) at 3 r ⌝ }
+{
+    two(src, at) + one(src, at + 2) * 0x10000
+}
+
+fn four(src: &[u8], at: usize) -> u64
+    requires { ⌜ at + 4 ≤ length (now src) ⌝ }
+    ensures { λ r. ⌜ Makes (now (src .entry)) at 4 r ⌝ }
+{
+    two(src, at) + two(src, at + 2) * 0x10000
+}
+
+fn five(src: &[u8], at: usize) -> u64
+    requires { ⌜ at + 5 ≤ length (now src) ⌝ }
+    ensures { λ r. ⌜ Makes (now (src .entry)) at 5 r ⌝ }
+{
+    four(src, at) + one(src, at + 4) * 0x100000000
+}
+
+fn six(src: &[u8], at: usize) -> u64
+    requires { ⌜ at + 6 ≤ length (now src) ⌝ }
+    ensures { λ r. ⌜ Makes (now (src .entry)) at 6 r ⌝ }
+{
+    four(src, at) + two(src, at + 4) * 0x100000000
+}
+
+fn eight(src: &[u8], at: usize) -> u64
+    requires { ⌜ at + 8 ≤ length (now src) ⌝ }
+    ensures { λ r. ⌜ Makes (now (src .entry)) at 8 r ⌝ }
+{
+    four(src, at) + four(src, at + 4) * 0x100000000
+}
+
+// The kind of a word of two bytes, and so on: of so many bytes as a number has room for.
+fn of_two(src: &[u8], at: usize) -> u8
+    requires { ⌜ at + 2 ≤ length (now src) ⌝ }
+    ensures { λ r. ⌜ KeywordAt (now (src .entry)) at (at + 2) r ⌝ }
+{
+    let v = two(src, at);
+    match v {
+        0x6669 => Kind::IF_KW, // if
+        0x6E69 => Kind::IN_KW, // in
+        _ => Kind::IDENT,
+    }
+}
+
+fn of_three(src: &[u8], at: usize) -> u8
+    requires { ⌜ at + 3 ≤ length (now src) ⌝ }
+    ensures { λ r. ⌜ KeywordAt (now (src .entry)) at (at + 3) r ⌝ }
+{
+    let v = three(src, at);
+    match v {
+        0x726F66 => Kind::FOR_KW, // for
+        _ => Kind::IDENT,
+    }
+}
+
+fn of_four(src: &[u8], at: usize) -> u8
+    requires { ⌜ at + 4 ≤ length (now src) ⌝ }
+    ensures { λ r. ⌜ KeywordAt (now (src .entry)) at (at + 4) r ⌝ }
+{
+    let v = four(src, at);
+    match v {
+        0x6E656874 => Kind::THEN_KW, // then
+        0x65736C65 => Kind::ELSE_KW, // else
+        0x6C6C756E => Kind::NULL_KW, // null
+        0x65757274 => Kind::TRUE_KW, // true
+        0x666C6573 => Kind::SELF_KW, // self
+        _ => Kind::IDENT,
+    }
+}
+
+fn of_five(src: &[u8], at: usize) -> u8
+    requires { ⌜ at + 5 ≤ length (now src) ⌝ }
+    ensures { λ r. ⌜ KeywordAt (now (src .entry)) at (at + 5) r ⌝ }
+{
+    let v = five(src, at);
+    match v {
+        0x6C61636F6C => Kind::LOCAL_KW, // local
+        0x726F727265 => Kind::ERROR_KW, // error
+        0x65736C6166 => Kind::FALSE_KW, // false
+        0x7265707573 => Kind::SUPER_KW, // super
+        _ => Kind::IDENT,
+    }
+}
+
+fn of_six(src: &[u8], at: usize) -> u8
+    requires { ⌜ at + 6 ≤ length (now src) ⌝ }
+    ensures { λ r. ⌜ KeywordAt (now (src .entry)) at (at + 6) r ⌝ }
+{
+    let v = six(src, at);
+    match v {
+        0x74726F706D69 => Kind::IMPORT_KW, // import
+        0x747265737361 => Kind::ASSERT_KW, // assert
+        _ => Kind::IDENT,
+    }
+}
+
+fn of_eight(src: &[u8], at: usize) -> u8
+    requires { ⌜ at + 8 ≤ length (now src) ⌝ }
+    ensures { λ r. ⌜ KeywordAt (now (src .entry)) at (at + 8) r ⌝ }
+{
+    let v = eight(src, at);
+    match v {
+        0x6E6F6974636E7566 => Kind::FUNCTION_KW, // function
+        _ => Kind::IDENT,
+    }
+}
+
+// The kind of a longer one: of nine bytes, of ten.
+fn of_nine(src: &[u8], at: usize) -> u8
+    requires { ⌜ at + 9 ≤ length (now src) ⌝ }
+    ensures { λ r. ⌜ KeywordAt (now (src .entry)) at (at + 9) r ⌝ }
+{
+    if is_word(src, at, at + 9, 2) {
+        return Kind::IMPORTSTR_KW;
+    }
+    if is_word(src, at, at + 9, 3) {
+        return Kind::IMPORTBIN_KW;
+    }
+    Kind::IDENT
+}
+
+fn of_ten(src: &[u8], at: usize) -> u8
+    requires { ⌜ at + 10 ≤ length (now src) ⌝ }
+    ensures { λ r. ⌜ KeywordAt (now (src .entry)) at (at + 10) r ⌝ }
+{
+    if is_word(src, at, at + 10, 0) {
+        return Kind::TAILSTRICT_KW;
+    }
+    Kind::IDENT
+}
+
+// The kind of the word from `at` to `end`, by its length.
 fn keyword(src: &[u8], at: usize, end: usize) -> u8
     requires { ⌜ (at < end) × (end ≤ length (now src)) ⌝ }
     ensures { λ r. ⌜ KeywordAt (now (src .entry)) at end r ⌝ }
 {
-    let mut w = first_word(src[at]);
-    while w < 18 {
-        if is_word(src, at, end, w) {
-            return word_kind(w);
-        }
-        w = word_next(w);
+    let n = end - at;
+    match n {
+        2 => of_two(src, at),
+        3 => of_three(src, at),
+        4 => of_four(src, at),
+        5 => of_five(src, at),
+        6 => of_six(src, at),
+        8 => of_eight(src, at),
+        9 => of_nine(src, at),
+        10 => of_ten(src, at),
+        _ => Kind::IDENT,
     }
-    Kind::IDENT
 }
 
 // Whether a text is a keyword.

@@ -1,85 +1,116 @@
--- `lexemes::words::keyword` meets its contract. The loop's invariant: no word before w stands there.
+-- `lexemes::words::keyword` meets its contract: each length has its function.
 -- Assumes nothing.
-use mathlib.Core.Path.{_≡_}
-use mathlib.Core.Logic.{inl}
-use Prim.Native.Nat.{_-_}
+use mathlib.Core.Path.{_≡_, subst}
+use Prim.Native.Nat.{ℕ, _+_, _-_, _<_}
 use native.Mathlib.Omega.{arith}
 use borrow.Author.Needs.{needs}
-use Rattle.lexemes.proofs.Numerals.{said, denied}
-use Rattle.lexemes.proofs.Keywords.{Seeking, seek-first, seek-next, seek-end, next-up}
+use Rattle.lexemes.specs.Words.{KeywordAt}
+use Rattle.lexemes.proofs.Keywords.{no-length}
 use Rattle.lexemes.proofs.words.keyword.Statement.{statement}
 use Rattle.lexemes.proofs.words.keyword.Tie as tie
 
-abbrev Inv-loop : tie.InvT-loop
-Inv-loop src at end w₀ w = Seeking src at end w
+up-again : {a e : ℕ} → a < e → a + (e - a) ≡ e
+up-again h = omega arith
 
-abbrev μ-loop : tie.MeasureT-loop
-μ-loop src at end w₀ w = 18 - w
+sub-n : tie.Need-sub-n
+sub-n c = search needs
 
-shared-slice-read-first-word : tie.Need-shared-slice-read-first-word Inv-loop μ-loop
-shared-slice-read-first-word c = search needs
+of-two-requires : tie.Need-of-two-requires
+of-two-requires c κs = omega (arith, c .match .keys1)
 
-first-word-requires : tie.Need-first-word-requires Inv-loop μ-loop
-first-word-requires c κs = search needs
-
-loop-holds : tie.Need-loop-holds Inv-loop μ-loop
-loop-holds c =
-    let first-word = c .first-word in
-    seek-first (first-word .ensures)
-
-is-word-requires : tie.Need-is-word-requires Inv-loop μ-loop
-is-word-requires c κs = search needs
-
-word-kind-requires : tie.Need-word-kind-requires Inv-loop μ-loop
-word-kind-requires c κs = search needs
-
-returns : tie.Need-returns Inv-loop μ-loop
+returns : tie.Need-returns
 returns c =
-    let loop = c .before .before .before .before .loop in
-    let loop-test = c .before .before .before .loop-test in
-    let word-kind = c .word-kind in
-    let if1 = c .before .if1 in
-    let is-word = c .before .before .is-word in
-    inl (loop .w, loop-test .taken, word-kind .ensures, said (if1 .taken) (is-word .ensures))
+    let args = c .before .before .before .args in
+    let told = c .of-two in
+    subst (λ (e : ℕ). KeywordAt (args .src .now) (args .at) e (told .result)) (omega (arith, c .before .match .keys1)) (told .ensures)
 
-word-next-requires : tie.Need-word-next-requires Inv-loop μ-loop
-word-next-requires c κs = search needs
+of-three-requires : tie.Need-of-three-requires
+of-three-requires c κs = omega (arith, c .match .keys2)
 
-loop-less : tie.Need-loop-less Inv-loop μ-loop
-loop-less c =
-    let word-next = c .word-next in
-    let loop = c .before .before .before .before .loop in
-    let loop-test = c .before .before .before .loop-test in
-    omega (arith, word-next .ensures, next-up (loop .w) (loop-test .taken))
-
-loop-again : tie.Need-loop-again Inv-loop μ-loop
-loop-again c =
-    let loop = c .before .before .before .before .loop in
-    let loop-test = c .before .before .before .loop-test in
-    let if1 = c .before .if1 in
-    let is-word = c .before .before .is-word in
-    let word-next = c .word-next in
-    seek-next (loop .inv) (loop-test .taken) (denied (if1 .left) (is-word .ensures)) (word-next .ensures)
-
-returns-2 : tie.Need-returns-2 Inv-loop μ-loop
+returns-2 : tie.Need-returns-2
 returns-2 c =
-    let loop = c .before .loop in
-    let loop-test = c .loop-test in
-    seek-end (loop .inv) (loop-test .left)
+    let args = c .before .before .before .args in
+    let told = c .of-three in
+    subst (λ (e : ℕ). KeywordAt (args .src .now) (args .at) e (told .result)) (omega (arith, c .before .match .keys2)) (told .ensures)
+
+of-four-requires : tie.Need-of-four-requires
+of-four-requires c κs = omega (arith, c .match .keys3)
+
+returns-3 : tie.Need-returns-3
+returns-3 c =
+    let args = c .before .before .before .args in
+    let told = c .of-four in
+    subst (λ (e : ℕ). KeywordAt (args .src .now) (args .at) e (told .result)) (omega (arith, c .before .match .keys3)) (told .ensures)
+
+of-five-requires : tie.Need-of-five-requires
+of-five-requires c κs = omega (arith, c .match .keys4)
+
+returns-4 : tie.Need-returns-4
+returns-4 c =
+    let args = c .before .before .before .args in
+    let told = c .of-five in
+    subst (λ (e : ℕ). KeywordAt (args .src .now) (args .at) e (told .result)) (omega (arith, c .before .match .keys4)) (told .ensures)
+
+of-six-requires : tie.Need-of-six-requires
+of-six-requires c κs = omega (arith, c .match .keys5)
+
+returns-5 : tie.Need-returns-5
+returns-5 c =
+    let args = c .before .before .before .args in
+    let told = c .of-six in
+    subst (λ (e : ℕ). KeywordAt (args .src .now) (args .at) e (told .result)) (omega (arith, c .before .match .keys5)) (told .ensures)
+
+of-eight-requires : tie.Need-of-eight-requires
+of-eight-requires c κs = omega (arith, c .match .keys6)
+
+returns-6 : tie.Need-returns-6
+returns-6 c =
+    let args = c .before .before .before .args in
+    let told = c .of-eight in
+    subst (λ (e : ℕ). KeywordAt (args .src .now) (args .at) e (told .result)) (omega (arith, c .before .match .keys6)) (told .ensures)
+
+of-nine-requires : tie.Need-of-nine-requires
+of-nine-requires c κs = omega (arith, c .match .keys7)
+
+returns-7 : tie.Need-returns-7
+returns-7 c =
+    let args = c .before .before .before .args in
+    let told = c .of-nine in
+    subst (λ (e : ℕ). KeywordAt (args .src .now) (args .at) e (told .result)) (omega (arith, c .before .match .keys7)) (told .ensures)
+
+of-ten-requires : tie.Need-of-ten-requires
+of-ten-requires c κs = omega (arith, c .match .keys8)
+
+returns-8 : tie.Need-returns-8
+returns-8 c =
+    let args = c .before .before .before .args in
+    let told = c .of-ten in
+    subst (λ (e : ℕ). KeywordAt (args .src .now) (args .at) e (told .result)) (omega (arith, c .before .match .keys8)) (told .ensures)
+
+returns-9 : tie.Need-returns-9
+returns-9 c =
+    let args = c .before .before .args in
+    subst (λ (e : ℕ). KeywordAt (args .src .now) (args .at) e 55) (up-again (c .before .before .pre .0)) (no-length (args .src .now) (args .at) (args .end - args .at) (c .match .rest))
 
 pub keyword-spec : {M : Type 1} → statement M
 keyword-spec =
     tie.close
     (tie.spec
-    Inv-loop
-    μ-loop
-    shared-slice-read-first-word
-    first-word-requires
-    loop-holds
-    is-word-requires
-    word-kind-requires
+    sub-n
+    of-two-requires
+    of-three-requires
+    of-four-requires
+    of-five-requires
+    of-six-requires
+    of-eight-requires
+    of-nine-requires
+    of-ten-requires
     returns
-    word-next-requires
-    loop-less
-    loop-again
-    returns-2)
+    returns-2
+    returns-3
+    returns-4
+    returns-5
+    returns-6
+    returns-7
+    returns-8
+    returns-9)
