@@ -11,7 +11,7 @@ use lib.Dec.{T, leb, leb→le, ltb, ltb→lt, eqb, eqb→eq, eqb-refl}
 use lib.ListN.{length, getD, take, drop, length-take, length-drop, take-append-drop}
 use lib.Seq.{getD-take, getD-drop}
 use Rattle.regex.specs.Regex.{Re, _·_, eps, one, Star, stop, more, Rule, _⇒_, Match, Takes, inClass}
-use Rattle.regex.proofs.Bools.{and, and-left, and-right, every, Each, each, ask, asked, all, all-at, refuted, refutes}
+use Rattle.regex.proofs.Bools.{and, and-left, and-right, every, Each, each, ask, asked, all, all-at, refuted}
 use Rattle.regex.proofs.Tables.{left, Among, accepts, steps, steps-eq, gives, silent, silent-eq, takes-forth, takes-back, append-to, append-from}
 use Rattle.lexemes.specs.Kinds.{IDENT, TAILSTRICT-KW, ASSERT-KW}
 use Rattle.lexemes.specs.Letters.{text, letter, next}
@@ -88,17 +88,6 @@ module _ (s : List ℕ) where
 
   -- The keyword w, byte by byte.
   module _ (w i j : ℕ) (h : w < 18) where
-    pub is-spelled : j ≡ i + wordLength w → ((k : ℕ) → 0 ≤ k → k < wordLength w → getD s (i + k) 0 ≡ getD wordBytes (getD wordFrom w 0 + k) 0) → Spells s (wordText w) i j
-    is-spelled e f =
-        spells-from (wordText w) i j (omega (arith, text-length w h))
-        (λ k l. let l′ : k < wordLength w = omega (arith, text-length w h) in f k (omega arith) l′ ∙ sym (text-at w k l′))
-
-    pub other-length : (j ≡ i + wordLength w → ⊥) → Spells s (wordText w) i j → ⊥
-    other-length n m = n (omega (arith, spells-to (wordText w) i j m .0, text-length w h))
-
-    pub other-byte : (k : ℕ) → k < wordLength w → (getD s (i + k) 0 ≡ getD wordBytes (getD wordFrom w 0 + k) 0 → ⊥) → Spells s (wordText w) i j → ⊥
-    other-byte k l n m = n (spells-to (wordText w) i j m .1 k (omega (arith, text-length w h)) ∙ text-at w k l)
-
     pub first-byte : Spells s (wordText w) i j → getD s i 0 ≡ getD (wordText w) 0 0
     first-byte m =
         subst (λ (x : ℕ). getD s x 0 ≡ getD (wordText w) 0 0) (add-zero i) (spells-to (wordText w) i j m .1 0 (omega (arith, text-length w h, from-up w h .0)))
@@ -361,47 +350,28 @@ value : List ℕ → ℕ
 value [] = 0
 value (b ∷ bs) = b + 256 * value bs
 
--- Bytes that make a number, one, two or four of them and then more.
-module _ (s : List ℕ) (i a : ℕ) where
-  pub one-below : Makes s i 1 a → a < 256
-  unfolding Makes
-  one-below m = omega (arith, m .1, m .2, m .3)
+-- A number so many bytes further up.
+unfoldable pub shift : ℕ → ℕ → ℕ
+shift zero b = b
+shift (suc n) b = 256 * shift n b
 
-  pub two-below : Makes s i 2 a → a < 65536
-  unfolding Makes
-  two-below m = omega (arith, m .1, m .2 .1, m .2 .2, m .2 .3, m .3)
+-- What bytes make, and more bytes behind them; how large it is at most.
+pub join : (s : List ℕ) (m n k i a b : ℕ) → k ≡ m + n → Makes s i m a → Makes s (i + m) n b → Makes s i k (a + shift m b)
+unfolding Makes shift
+join s zero n k i a b e f g =
+    let p : i + 0 ≡ i = omega arith in
+    let q : n ≡ k = omega arith in
+    let r : b ≡ a + b = omega (arith, f) in
+    subst (λ (x : ℕ). Makes s i k x) r (subst (λ (x : ℕ). Makes s i x b) q (subst (λ (j : ℕ). Makes s j n b) p g))
+join s (suc m) n zero i a b e f g = absurd (omega arith)
+join s (suc m) n (suc k) i a b e f g =
+    let p : i + suc m ≡ i + 1 + m = omega arith in
+    (f .0 + shift m b, f .1, join s m n k (i + 1) (f .0) b (omega arith) (f .2) (subst (λ (j : ℕ). Makes s j n b) p g), omega (arith, f .3))
 
-  pub four-below : Makes s i 4 a → a < 4294967296
-  unfolding Makes
-  four-below m =
-      let x = m .2 in
-      let y = x .2 in
-      let z = y .2 in
-      omega (arith, m .1, m .3, x .1, x .3, y .1, y .3, z .1, z .2, z .3)
-
-  module _ (n b : ℕ) where
-    pub one-more : Makes s i 1 a → Makes s (i + 1) n b → Makes s i (suc n) (a + b * 256)
-    unfolding Makes
-    one-more m k = (b, m .1, k, omega (arith, m .2, m .3))
-
-    pub two-more : Makes s i 2 a → Makes s (i + 2) n b → Makes s i (suc (suc n)) (a + b * 65536)
-    unfolding Makes
-    two-more m k =
-        let x = m .2 in
-        let k′ : Makes s (i + 1 + 1) n b = subst (λ (j : ℕ). Makes s j n b) (omega arith) k in
-        (getD s (i + 1) 0 + 256 * b, m .1, (b, x .1, k′, refl), omega (arith, m .3, x .2, x .3))
-
-    pub four-more : Makes s i 4 a → Makes s (i + 4) n b → Makes s i (suc (suc (suc (suc n)))) (a + b * 4294967296)
-    unfolding Makes
-    four-more m k =
-        let x = m .2 in
-        let y = x .2 in
-        let z = y .2 in
-        let k′ : Makes s (i + 1 + 1 + 1 + 1) n b = subst (λ (j : ℕ). Makes s j n b) (omega arith) k in
-        let c₃ : ℕ = getD s (i + 1 + 1 + 1) 0 + 256 * b in
-        let c₂ : ℕ = getD s (i + 1 + 1) 0 + 256 * c₃ in
-        let c₁ : ℕ = getD s (i + 1) 0 + 256 * c₂ in
-        (c₁, m .1, (c₂, x .1, (c₃, y .1, (b, z .1, k′, refl), refl), refl), omega (arith, m .3, x .3, y .3, z .2, z .3))
+pub below : (s : List ℕ) (m i a : ℕ) → Makes s i m a → a < shift m 1
+unfolding Makes shift
+below s zero i a f = omega (arith, f)
+below s (suc m) i a f = omega (arith, f .1, f .3, below s m (i + 1) (f .0) (f .2))
 
 module _ (s : List ℕ) where
   -- Bytes make the number of a text exactly where they spell it.
@@ -419,8 +389,7 @@ module _ (s : List ℕ) where
   spells-made [] i j r m f = m
   spells-made (b ∷ bs) i j r m f = omega (arith, m .3, f .0, spells-made bs (i + 1) j (m .0) (m .2) (f .1))
 
--- The keyword w has n bytes, the number v and the kind k; the keywords of n bytes have no other numbers than these; they are no others than
--- these; there are no other lengths than these.
+-- The keyword w has n bytes, the number v and the kind k; the keywords of n bytes have no other numbers than these; there are no other lengths.
 unfoldable pub has : ℕ → ℕ → ℕ → ℕ → Bool
 unfolding value wordText wordBytes wordFrom wordKind
 has w n v k = every (ltb w 18 ∷ eqb (length (wordText w)) n ∷ eqb v (value (wordText w)) ∷ eqb (getD wordKind w 0) k ∷ [])
@@ -429,21 +398,12 @@ unfoldable pub numbered : ℕ → List ℕ → Bool
 unfolding all value wordText wordBytes wordFrom
 numbered n vs = all (λ w. ask (eqb (length (wordText w)) n) (λ u. not (notIn vs (value (wordText w))))) 18
 
-unfoldable pub sized : ℕ → List ℕ → Bool
-unfolding all wordText wordBytes wordFrom
-sized n ws = all (λ w. ask (eqb (length (wordText w)) n) (λ u. not (notIn ws w))) 18
-
 abbrev pub lengths : List ℕ
 lengths = 10 ∷ 9 ∷ 8 ∷ 6 ∷ 5 ∷ 4 ∷ 3 ∷ 2 ∷ []
 
 all-sized : T (all (λ w. not (notIn lengths (length (wordText w)))) 18)
 unfolding all wordText wordBytes wordFrom
 all-sized = tt
-
--- None of the keywords ws is spelled.
-abbrev pub Unspelled : List ℕ → ℕ → ℕ → List ℕ → Type 0
-Unspelled s i j [] = Unit {0}
-Unspelled s i j (w ∷ ws) = (Spells s (wordText w) i j → ⊥) × Unspelled s i j ws
 
 module _ (s : List ℕ) (i : ℕ) where
   -- A text of n bytes has n bytes.
@@ -477,25 +437,6 @@ module _ (s : List ℕ) (i : ℕ) where
           (all-at (λ w. ask (eqb (length (wordText w)) n) (λ u. not (notIn vs (value (wordText w))))) 18 t w h)
           (subst (λ (x : ℕ). T (eqb (length (wordText w)) x)) q (eqb-refl (length (wordText w)))))
           (subst (λ (x : ℕ). T (notIn vs x)) e (at-rest vs r rest))
-
-  among : (n : ℕ) (ws : List ℕ) → Unspelled s i (i + n) ws → (w : ℕ) → Spells s (wordText w) i (i + n) → T (notIn ws w)
-  among n [] u w f = tt
-  among n (x ∷ ws) u w f =
-      and (not (eqb w x)) (notIn ws w)
-      (refutes (eqb w x) (λ e. u .0 (subst (λ (y : ℕ). Spells s (wordText y) i (i + n)) (eqb→eq w x e) f)))
-      (among n ws (u .1) w f)
-
-  pub no-long-keyword : (n : ℕ) (ws : List ℕ) → T (sized n ws) → Unspelled s i (i + n) ws → KeywordAt s i (i + n) IDENT
-  unfolding sized
-  no-long-keyword n ws t un =
-      inr (
-        refl,
-        λ w h f.
-            refuted (notIn ws w)
-            (asked (eqb (length (wordText w)) n) (λ u. not (notIn ws w)) (all-at (λ w. ask (eqb (length (wordText w)) n) (λ u. not (notIn ws w))) 18 t w h)
-            (subst (λ (x : ℕ). T (eqb (length (wordText w)) x)) (same-length (wordText w) n f) (eqb-refl (length (wordText w)))))
-            (among n ws un w f),
-      )
 
   pub no-length : (n : ℕ) → Rest lengths n → KeywordAt s i (i + n) IDENT
   no-length n rest =

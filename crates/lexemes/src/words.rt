@@ -3,74 +3,13 @@ ghost use mathlib.Core.Path.{_≡_};
 ghost use mathlib.Core.List.{List};
 ghost use Prim.Native.Nat.{ℕ, _+_, _≤_, _<_};
 ghost use lib.ListN.{length, getD};
-ghost use Rattle.lexemes.specs.Scan.{classOf, Says};
+ghost use Rattle.lexemes.specs.Scan.{classOf};
 ghost use Rattle.lexemes.specs.Lexeme.{Ruled};
 ghost use Rattle.lexemes.specs.Texts.{TellsKeyword};
-ghost use Rattle.lexemes.specs.Words.{Spells, Makes, KeywordAt, wordBytes, wordFrom, wordText};
+ghost use Rattle.lexemes.specs.Words.{Makes, KeywordAt};
 use super::Matched;
 use super::bytes;
 use super::kinds::Kind;
-
-// The keywords in the order of their kinds, one after the other. The text is handed down, since a constant is set up anew wherever it is named.
-const BYTES: [u8; 95] =
-    *b"tailstrictlocalimportstrimportbinimportifthenelsefunctionerrorinnulltruefalseselfsuperforassert";
-
-fn word_byte(text: &[u8; 95], i: usize) -> u8
-    requires { ⌜ (i < 95) × (now text ≡ wordBytes) ⌝ }
-    ensures { λ r. ⌜ r ≡ getD wordBytes i 0 ⌝ }
-{
-    text[i]
-}
-
-// Where the keyword w starts: a match, which is compiled to a table that stands ready.
-fn word_from(w: usize) -> usize
-    requires { ⌜ w < 19 ⌝ }
-    ensures { λ r. ⌜ r ≡ getD wordFrom w 0 ⌝ }
-{
-    match w {
-        0 => 0,
-        1 => 10,
-        2 => 15,
-        3 => 24,
-        4 => 33,
-        5 => 39,
-        6 => 41,
-        7 => 45,
-        8 => 49,
-        9 => 57,
-        10 => 62,
-        11 => 64,
-        12 => 68,
-        13 => 72,
-        14 => 77,
-        15 => 81,
-        16 => 86,
-        17 => 89,
-        _ => 95,
-    }
-}
-
-// Whether the bytes from `at` to `end` are the keyword w.
-fn is_word(src: &[u8], at: usize, end: usize, w: usize) -> bool
-    requires { ⌜ (at ≤ end) × (end ≤ length (now src)) × (w < 18) ⌝ }
-    ensures { λ r. ⌜ Says r (Spells (now (src .entry)) (wordText w) at end) ⌝ }
-{
-    let from = word_from(w);
-    let n = word_from(w + 1) - from;
-    if end - at != n {
-        return false;
-    }
-    let text = BYTES;
-    let mut k = 0;
-    while k < n {
-        let b = src[at + k];
-        if b != word_byte(&text, from + k) {
-            return false;
-        }
-        k += 1;
-    }
-    true
-}
 
 // So many bytes of the source as one number, the first one lowest: the processor loads them at once, and a word is compared at once.
 fn one(src: &[u8], at: usize) -> u64
@@ -204,16 +143,26 @@ fn of_eight(src: &[u8], at: usize) -> u8
     }
 }
 
-// The kind of a longer one: of nine bytes, of ten.
+// The kind of a longer one, of nine bytes or ten: the first eight, and the rest.
 fn of_nine(src: &[u8], at: usize) -> u8
     requires { ⌜ at + 9 ≤ length (now src) ⌝ }
     ensures { λ r. ⌜ KeywordAt (now (src .entry)) at (at + 9) r ⌝ }
 {
-    if is_word(src, at, at + 9, 2) {
-        return Kind::IMPORTSTR_KW;
+    let v = eight(src, at);
+    let last = one(src, at + 8);
+    if v == 0x747374726F706D69 {
+        // importst
+        if last == 0x72 {
+            return Kind::IMPORTSTR_KW;
+        }
+        return Kind::IDENT;
     }
-    if is_word(src, at, at + 9, 3) {
-        return Kind::IMPORTBIN_KW;
+    if v == 0x696274726F706D69 {
+        // importbi
+        if last == 0x6E {
+            return Kind::IMPORTBIN_KW;
+        }
+        return Kind::IDENT;
     }
     Kind::IDENT
 }
@@ -222,8 +171,14 @@ fn of_ten(src: &[u8], at: usize) -> u8
     requires { ⌜ at + 10 ≤ length (now src) ⌝ }
     ensures { λ r. ⌜ KeywordAt (now (src .entry)) at (at + 10) r ⌝ }
 {
-    if is_word(src, at, at + 10, 0) {
-        return Kind::TAILSTRICT_KW;
+    let v = eight(src, at);
+    let rest = two(src, at + 8);
+    if v == 0x697274736C696174 {
+        // tailstri
+        if rest == 0x7463 {
+            return Kind::TAILSTRICT_KW;
+        }
+        return Kind::IDENT;
     }
     Kind::IDENT
 }
