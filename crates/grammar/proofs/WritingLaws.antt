@@ -6,7 +6,7 @@ use Prim.Native.Nat.{ℕ, zero, suc, _+_, _≤_, _<_}
 use native.Mathlib.Omega.{arith}
 use native.Mathlib.Numerals.{add-one}
 use lib.ListN.{length, getD, set, take, length-append}
-use lib.Seq.{sets, length-sets, length-take-le, take-suc}
+use lib.Seq.{sets, set-out, length-sets, length-take-le, take-suc}
 use Rattle.strings.proofs.Stores.{sets-append}
 use Rattle.grammar.specs.Image.{two}
 use Rattle.grammar.specs.Writing.{Wrote}
@@ -22,6 +22,14 @@ and-then {out} {xs = xs} {ys = ys} {w} {w₁} p q =
 -- The same length, written otherwise.
 pub head-is : {out out₁ : List ℕ} {w w₁ : ℕ} (t n m : ℕ) → n ≡ m → Wrote out w (t ∷ two n) w₁ out₁ → Wrote out w (t ∷ two m) w₁ out₁
 head-is {out} {out₁} {w} {w₁} t n m e v = subst (λ (k : ℕ). Wrote out w (t ∷ two k) w₁ out₁) e v
+
+-- Two bytes stored one by one; and bytes of which the output, which is full, takes none.
+pub both : (out : List ℕ) (w a b : ℕ) → set (set out w a) (w + 1) b ≡ sets out w (a ∷ b ∷ [])
+both out w a b = ap (λ (x : ℕ). set (set out w a) x b) (add-one w)
+
+pub full : (out : List ℕ) (w : ℕ) (bs : List ℕ) → length out ≤ w → out ≡ sets out w bs
+full out w [] h = refl
+full out w (b ∷ bs) h = full out (suc w) bs (omega arith) ∙ ap (λ (l : List ℕ). sets l (suc w) bs) (sym (set-out _ _ _ h))
 
 -- One byte more of a text.
 pub copied : (out s now : List ℕ) (w i : ℕ) → i < length s → now ≡ sets out w (take i s) → set now (w + i) (getD s i 0) ≡ sets out w (take (i + 1) s)

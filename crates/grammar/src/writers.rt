@@ -20,13 +20,18 @@ fn put_byte(out: &mut [u8], w: usize, b: u8) -> usize
     w + 1
 }
 
-// "Numbers are two bytes, high first".
+// "Numbers are two bytes, high first". Where there is room for both it is asked for once.
 fn put_number(out: &mut [u8], w: usize, n: usize) -> usize
     requires { ⌜ (w < 2 ^ 61) × (n < 2 ^ 16) ⌝ }
     ensures { λ r. ⌜ Wrote (now (out .entry)) w (two n) r (now (out .exit)) ⌝ }
 {
-    let w1 = put_byte(out, w, (n / 256) as u8);
-    put_byte(out, w1, (n % 256) as u8)
+    if out.len() < w + 2 {
+        let w1 = put_byte(out, w, (n / 256) as u8);
+        return put_byte(out, w1, (n % 256) as u8);
+    }
+    out[w] = (n / 256) as u8;
+    out[w + 1] = (n % 256) as u8;
+    w + 2
 }
 
 fn put_span(out: &mut [u8], w: usize, a: u16, e: u16) -> usize
@@ -37,14 +42,33 @@ fn put_span(out: &mut [u8], w: usize, a: u16, e: u16) -> usize
     put_number(out, w1, e as usize)
 }
 
-// As many bytes of `s` as there is room for.
+// As many bytes of `s` as there is room for, none where the output is full.
+fn put_some(out: &mut [u8], w: usize, s: &[u8]) -> usize
+    requires { ⌜ (w < 2 ^ 60) × (length (now s) < 2 ^ 16) ⌝ }
+    ensures { λ r. ⌜ Wrote (now (out .entry)) w (now (s .entry)) r (now (out .exit)) ⌝ }
+{
+    if out.len() <= w {
+        return w + s.len();
+    }
+    let mut i = 0;
+    while i < s.len() {
+        put(out, w + i, s[i]);
+        i += 1;
+    }
+    w + s.len()
+}
+
+// The bytes of `s`, and nearly always there is room for all.
 fn put_text(out: &mut [u8], w: usize, s: &[u8]) -> usize
     requires { ⌜ (w < 2 ^ 60) × (length (now s) < 2 ^ 16) ⌝ }
     ensures { λ r. ⌜ Wrote (now (out .entry)) w (now (s .entry)) r (now (out .exit)) ⌝ }
 {
+    if out.len() < w + s.len() {
+        return put_some(out, w, s);
+    }
     let mut i = 0;
     while i < s.len() {
-        put(out, w + i, s[i]);
+        out[w + i] = s[i];
         i += 1;
     }
     w + s.len()

@@ -1,34 +1,44 @@
--- `writers::put_text` meets its contract. The loop's invariant: the first i bytes of the text are written.
+-- `writers::put_text` meets its contract. The loop's invariant: the first i bytes of the text are written, and there is room for all.
 -- Assumes nothing.
 use mathlib.Core.Path.{_≡_, refl, ap, _∙_}
 use Prim.Native.Nat.{_+_, _-_, _≤_}
 use native.Mathlib.Omega.{arith}
-use lib.ListN.{length, take}
+use lib.ListN.{length, take, length-set}
 use lib.Seq.{sets, length-sets, take-all}
+use borrow.Author.Needs.{needs}
 use Rattle.grammar.proofs.WritingLaws.{copied}
 use Rattle.grammar.proofs.writers.put_text.Statement.{statement}
 use Rattle.grammar.proofs.writers.put_text.Tie as tie
-use Rattle.grammar.proofs.writers.put_text.Reads as reads
-use Rattle.grammar.proofs.writers.put_text.Lts as lts
-use Rattle.strings.proofs.put.Reads as put-reads
 
 abbrev Inv-loop : tie.InvT-loop
-Inv-loop out₀ w s i₀ out i = (i ≤ length s) × (out ≡ sets out₀ w (take i s))
+Inv-loop out₀ w s i₀ out i = (i ≤ length s) × (out ≡ sets out₀ w (take i s)) × (w + length s ≤ length out)
 
 abbrev μ-loop : tie.MeasureT-loop
 μ-loop out₀ w s i₀ out i = length s - i
 
+add-if1 : tie.Need-add-if1 Inv-loop μ-loop
+add-if1 c = omega arith
+
+put-some-requires : tie.Need-put-some-requires Inv-loop μ-loop
+put-some-requires c κs = search needs
+
+same-length : tie.Need-same-length Inv-loop μ-loop
+same-length c = search needs
+
+returns : tie.Need-returns Inv-loop μ-loop
+returns c = c .before .before .put-some .ensures
+
 loop-holds : tie.Need-loop-holds Inv-loop μ-loop
-loop-holds c = (omega arith, refl)
+loop-holds c = (omega arith, refl, omega arith)
 
-add-put : tie.Need-add-put Inv-loop μ-loop
-add-put c = omega arith
+shared-slice-read-out : tie.Need-shared-slice-read-out Inv-loop μ-loop
+shared-slice-read-out c = omega arith
 
-shared-slice-read-put : tie.Need-shared-slice-read-put Inv-loop μ-loop
-shared-slice-read-put c = omega arith
+add-out : tie.Need-add-out Inv-loop μ-loop
+add-out c = omega arith
 
-put-requires : tie.Need-put-requires Inv-loop μ-loop
-put-requires c κs = tt
+slice-write-out : tie.Need-slice-write-out Inv-loop μ-loop
+slice-write-out c = omega arith
 
 add-i : tie.Need-add-i Inv-loop μ-loop
 add-i c = omega arith
@@ -38,19 +48,19 @@ loop-less c = omega arith
 
 loop-again : tie.Need-loop-again Inv-loop μ-loop
 loop-again c =
-    let inv = c .before .before .before .before .before .before .loop .inv in
-    (omega arith, c .before .before .put .ensures ∙ copied _ _ _ _ _ (omega arith) (inv .1))
+    let inv = c .before .before .loop .inv in
+    (omega arith, copied _ _ _ _ _ (omega arith) (inv .1), simp length-set (omega arith))
 
 add-result : tie.Need-add-result Inv-loop μ-loop
 add-result c = omega arith
 
-same-length : tie.Need-same-length Inv-loop μ-loop
-same-length c = ap length (c .before .loop .inv .1) ∙ simp length-sets
+same-length-2 : tie.Need-same-length-2 Inv-loop μ-loop
+same-length-2 c = ap length (c .before .loop .inv .1) ∙ simp length-sets
 
-returns : tie.Need-returns Inv-loop μ-loop
-returns c =
-    let inv = c .before in
-    record { to = refl; stored = (inv .loop .inv) .1 ∙ ap (λ l. sets (c .before .before .before .before .args .out .now) (c .before .before .before .before .args .w) l) (take-all _ _ (c .loop-test .left)) }
+returns-2 : tie.Need-returns-2 Inv-loop μ-loop
+returns-2 c =
+    let args = c .before .before .before .before .before .args in
+    record { to = refl; stored = c .before .loop .inv .1 ∙ ap (λ l. sets (args .out .now) (args .w) l) (take-all _ _ (c .loop-test .left)) }
 
 pub put-text-spec : {M : Type 1} → statement M
 put-text-spec =
@@ -58,13 +68,17 @@ put-text-spec =
     (tie.spec
     Inv-loop
     μ-loop
+    add-if1
+    put-some-requires
+    same-length
+    returns
     loop-holds
-    add-put
-    shared-slice-read-put
-    put-requires
+    shared-slice-read-out
+    add-out
+    slice-write-out
     add-i
     loop-less
     loop-again
     add-result
-    same-length
-    returns)
+    same-length-2
+    returns-2)
