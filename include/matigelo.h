@@ -47,7 +47,7 @@ typedef struct {
    and all is where the number is not 0.
    A pointer may be NULL where its length is 0; output and answer must overlap neither each other nor the source; the source must not
    change during the call; a length is at most PTRDIFF_MAX. Nothing else is asked: every setting and all bytes have an answer. An image has
-   at most 16 bytes for each byte of its source. Reading recurses, at most 200 levels deep: 1 MiB of stack is enough. */
+   at most 16 bytes for each byte of its source. Reading recurses, at most 200 levels deep: 512 KiB of stack are enough. */
 void matigelo_read(uint64_t setting, const uint8_t *source, size_t source_length, uint8_t *output, size_t output_length, matigelo_answer *answer);
 
 /* Reads a night's files in one call. They stand one behind the other in sources; ends says where each ends, counted from the start of sources, and

@@ -22,7 +22,7 @@ Every answer is the proved reader's (crates/matigelo). The shared library is mad
     rt staticlib matigelo
     cc -shared -o target/bindings/libmatigelo.so -Wl,--whole-archive target/staticlib/libmatigelo.a -Wl,--no-whole-archive
 
-MATIGELO_LIB names another file. Reading a source recurses: a thread of your own needs 1 MiB of stack (threading.stack_size).
+MATIGELO_LIB names another file. Reading a source recurses: a thread of your own needs 512 KiB of stack (threading.stack_size).
 """
 from __future__ import annotations
 

@@ -24,7 +24,7 @@
 //! assert_eq!(records.children(records.root()).map(|r| image[records.offset(r)]).collect::<Vec<_>>(), [13]);
 //! ```
 //!
-//! Reading a source recurses, at most 200 levels deep: a thread of your own needs 1 MiB of stack. Reading an image back does not.
+//! Reading a source recurses, at most 200 levels deep: a thread of your own needs 512 KiB of stack. Reading an image back does not.
 
 use std::error::Error;
 use std::fmt;
