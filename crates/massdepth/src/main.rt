@@ -25,8 +25,8 @@ const OUTPUT: usize = 524_288;
 // Two numbers for every three bytes of such an image.
 const LINKS: usize = 349_524;
 
-// Two numbers for each place of a source.
-const PLACES: usize = 130_004;
+// A number for each place of a source.
+const PLACES: usize = 65_002;
 
 // Four numbers for each listing. An object that is listed has seven bytes of source at least, as `{[a]+:` and `}`.
 const LIST: usize = 40_000;

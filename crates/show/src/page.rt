@@ -4,6 +4,7 @@ ghost use Prim.Native.Nat.{_≤_, _+_};
 ghost use lib.ListN.{length};
 use crate::records::byte;
 use crate::records::number;
+use crate::records::wide;
 use libc::STDOUT_FILENO;
 
 // Where its text begins.
@@ -58,17 +59,8 @@ fn copy(page: &mut [u8], at: usize, text: &[u8])
     }
 }
 
-// A text behind what is written. What is longer than a page goes out by itself.
-pub fn say(page: &mut [u8], text: &[u8]) {
-    let next = number(page, 0);
-    if page.len() < next {
-        return;
-    }
-    if text.len() <= page.len() - next {
-        copy(page, next, text);
-        set_next(page, next + text.len());
-        return;
-    }
+// A text for which the page has no room behind what is written: it goes onto the empty page, or out by itself where it is longer than that.
+fn turn(page: &mut [u8], text: &[u8]) {
     flush(page);
     if page.len() < TOP {
         return;
@@ -81,17 +73,70 @@ pub fn say(page: &mut [u8], text: &[u8]) {
     set_next(page, TOP + text.len());
 }
 
-// A colour from here on, where there are colours.
-pub fn paint(page: &mut [u8], colour: &[u8]) {
-    if byte(page, 2) == 0 {
+// A text behind what is written.
+pub fn say(page: &mut [u8], text: &[u8]) {
+    if page.len() < TOP {
         return;
     }
+    let next = wide(page[0]) * 256 + wide(page[1]);
+    if page.len() < next {
+        return;
+    }
+    if page.len() - next < text.len() {
+        turn(page, text);
+        return;
+    }
+    copy(page, next, text);
+    set_next(page, next + text.len());
+}
+
+// A text of one byte.
+pub fn say_byte(page: &mut [u8], b: u8) {
+    if page.len() < TOP {
+        return;
+    }
+    let next = wide(page[0]) * 256 + wide(page[1]);
+    if page.len() <= next {
+        turn(page, &[b]);
+        return;
+    }
+    copy(page, next, &[b]);
+    set_next(page, next + 1);
+}
+
+// Colours: what a fault is marked with, texts, names, the names of files, places, and none.
+pub const FAULT: u8 = 0;
+
+pub const TEXT: u8 = 1;
+
+pub const NAME: u8 = 2;
+
+pub const FILE: u8 = 3;
+
+pub const PLACE: u8 = 4;
+
+const NONE: u8 = 5;
+
+fn say_colour(page: &mut [u8], colour: u8) {
     say(page, &[0x1B, b'[']);
-    say(page, colour);
-    say(page, b"m");
+    match colour {
+        FAULT => say(page, b"1;31m"),
+        TEXT => say(page, b"32m"),
+        NAME => say(page, b"36m"),
+        FILE => say(page, b"1m"),
+        PLACE => say(page, b"2m"),
+        _ => say(page, b"0m"),
+    }
+}
+
+// A colour from here on, where there are colours.
+pub fn paint(page: &mut [u8], colour: u8) {
+    if byte(page, 2) != 0 {
+        say_colour(page, colour);
+    }
 }
 
 // No colour from here on.
 pub fn plain(page: &mut [u8]) {
-    paint(page, b"0");
+    paint(page, NONE);
 }

@@ -3,6 +3,7 @@ ghost use Prim.Native.Nat.{_≤_};
 ghost use lib.ListN.{length};
 use crate::bad_blocks::line_at_fault;
 use crate::escapes::say_escape;
+use crate::page::FAULT;
 use crate::page::paint;
 use crate::page::plain;
 use crate::page::say;
@@ -245,7 +246,7 @@ fn say_cut(page: &mut [u8], is_cut: bool, mark: &[u8]) {
 }
 
 fn say_carets(page: &mut [u8], n: usize) {
-    paint(page, b"1;31");
+    paint(page, FAULT);
     say_times(page, b"^", n);
     plain(page);
 }

@@ -1,6 +1,7 @@
 // What is written: words, numbers, and characters as a person reads them.
 ghost use Prim.Native.Nat.{_≤_, _<_};
 ghost use lib.ListN.{length};
+ghost use mathlib.Core.Path.{_≡_};
 use crate::page::say;
 use crate::unseen::code_of;
 use crate::unseen::is_unseen;
@@ -9,22 +10,69 @@ use crate::unseen::say_code_point;
 // How deep lines are indented; beyond that a line begins with its depth.
 const INDENTED: usize = 24;
 
-// The digits of a number.
-pub fn say_number(page: &mut [u8], n: usize) {
-    let mut digits = [0u8; 20];
-    let k = io::decimal(n as u64, &mut digits);
-    say(page, &digits[..k]);
+// The room for a text that is put together from its end on: two numbers of twenty digits and what stands between and before them.
+const ROOM: usize = 48;
+
+// A word before what stands from a place of the text on, and where it begins.
+pub(crate) fn put_before(text: &mut [u8; 48], from: usize, word: &[u8]) -> usize
+    requires { ⌜ (from ≤ 48) × (48 ≡ length (now text)) ⌝ }
+    ensures { λ r. ⌜ (r ≤ 48) × (48 ≡ length (now (text .exit))) ⌝ }
+{
+    if from < word.len() {
+        return from;
+    }
+    let start = from - word.len();
+    let mut i = 0;
+    while i < word.len() {
+        text[start + i] = word[i];
+        i += 1;
+    }
+    start
 }
 
-// `, 1 thing` or `, 2 things`.
-pub fn say_count(page: &mut [u8], n: usize, thing: &[u8]) {
-    say(page, b", ");
-    say_number(page, n);
-    say(page, b" ");
-    say(page, thing);
-    if n != 1 {
-        say(page, b"s");
+// The digits of a number before it.
+pub(crate) fn put_number(text: &mut [u8; 48], from: usize, n: usize) -> usize
+    requires { ⌜ (from ≤ 48) × (48 ≡ length (now text)) ⌝ }
+    ensures { λ r. ⌜ (r ≤ 48) × (48 ≡ length (now (text .exit))) ⌝ }
+{
+    let mut left = n;
+    let mut i = from;
+    while i > 0 {
+        i -= 1;
+        text[i] = b'0' + (left % 10) as u8;
+        if left < 10 {
+            return i;
+        }
+        left = left / 10;
     }
+    i
+}
+
+// The digits of a number.
+pub fn say_number(page: &mut [u8], n: usize) {
+    let mut text = [0u8; 48];
+    let from = put_number(&mut text, ROOM, n);
+    say(page, &text[from..]);
+}
+
+fn one_less(n: usize) -> usize {
+    if n == 0 {
+        return 0;
+    }
+    n - 1
+}
+
+// `, 1 thing` or `, 2 things`, of the word for several.
+pub fn say_count(page: &mut [u8], n: usize, things: &[u8]) {
+    let mut text = [0u8; 48];
+    let from = put_number(&mut text, ROOM, n);
+    let start = put_before(&mut text, from, b", ");
+    say(page, &text[start..]);
+    if n == 1 {
+        say(page, front(things, one_less(things.len())));
+        return;
+    }
+    say(page, things);
 }
 
 // One of some words, counted from 0.
@@ -55,21 +103,26 @@ pub fn front(text: &[u8], n: usize) -> &[u8] {
     &text[..n]
 }
 
-// The start of a line that stands so deep.
-pub fn indent(page: &mut [u8], depth: usize) {
-    if depth <= INDENTED {
-        say(
-            page,
-            front(
-                b"                                                ",
-                depth * 2,
-            ),
-        );
-        return;
-    }
+// The start of a line that stands too deep to be indented whole.
+fn say_depth(page: &mut [u8], depth: usize) {
     say(page, b"                                                [");
     say_number(page, depth);
     say(page, b"] ");
+}
+
+// The start of a line that stands so deep.
+pub fn indent(page: &mut [u8], depth: usize) {
+    if depth > INDENTED {
+        say_depth(page, depth);
+        return;
+    }
+    say(
+        page,
+        front(
+            b"                                                ",
+            depth * 2,
+        ),
+    );
 }
 
 // One more, short of wrapping.
@@ -138,17 +191,13 @@ pub fn character_end(text: &[u8], at: usize) -> usize
     at + w
 }
 
-// A character that begins with a byte below 128: a control character is shown by the picture that Unicode has for it.
-fn say_ascii(page: &mut [u8], b: u8) {
+// A character below 128 that cannot be seen: it is shown by the picture that Unicode has for it.
+fn say_control(page: &mut [u8], b: u8) {
     if b < 0x20 {
         say(page, &[0xE2, 0x90, 0x80 + b]);
         return;
     }
-    if b == 0x7F {
-        say(page, &[0xE2, 0x90, 0xA1]);
-        return;
-    }
-    say(page, &[b]);
+    say(page, &[0xE2, 0x90, 0xA1]);
 }
 
 // One character, shown so that none moves the cursor; its end is handed back.
@@ -158,7 +207,7 @@ fn say_character(page: &mut [u8], text: &[u8], at: usize) -> usize
 {
     let b = text[at];
     if b < 0x80 {
-        say_ascii(page, b);
+        say_control(page, b);
         return at + 1;
     }
     let end = character_end(text, at);
@@ -172,10 +221,33 @@ fn say_character(page: &mut [u8], text: &[u8], at: usize) -> usize
     end
 }
 
+// Where a run of bytes ends that are seen as they are.
+fn seen_end(text: &[u8], from: usize) -> usize
+    requires { ⌜ from ≤ length (now text) ⌝ }
+    ensures { λ r. ⌜ (from ≤ r) × (r ≤ length (now (text .entry))) ⌝ }
+{
+    let mut i = from;
+    while i < text.len() {
+        if text[i] < 0x20 {
+            return i;
+        }
+        if text[i] > 0x7E {
+            return i;
+        }
+        i += 1;
+    }
+    i
+}
+
 // A text whole.
 pub fn say_characters(page: &mut [u8], text: &[u8]) {
     let mut i = 0;
     while i < text.len() {
-        i = say_character(page, text, i);
+        let end = seen_end(text, i);
+        say(page, &text[i..end]);
+        i = end;
+        if i < text.len() {
+            i = say_character(page, text, i);
+        }
     }
 }

@@ -3,6 +3,7 @@
 ghost use Prim.Native.Nat.{_≤_, _<_};
 ghost use lib.ListN.{length};
 use crate::page::say;
+use crate::page::say_byte;
 use crate::say::character_end;
 use crate::say::front;
 use crate::say::indent;
@@ -59,10 +60,13 @@ pub fn behind(text: &[u8], n: usize) -> usize
 
 // Whether a byte stands for itself between quotes.
 fn is_plain(b: u8) -> bool {
+    if b > b'\\' {
+        return b <= 0x7E;
+    }
     match b {
         b'"' => false,
         b'\\' => false,
-        0x20..=0x7E => true,
+        0x20..=0x5B => true,
         _ => false,
     }
 }
@@ -117,7 +121,7 @@ fn say_escaped(page: &mut [u8], text: &[u8], at: usize) -> usize
 
 // A text whole, between quotes.
 fn quote(page: &mut [u8], text: &[u8]) {
-    say(page, b"\"");
+    say_byte(page, b'"');
     let mut i = 0;
     while i < text.len() {
         let end = plain_end(text, i);
@@ -127,11 +131,11 @@ fn quote(page: &mut [u8], text: &[u8]) {
             i = say_escaped(page, text, i);
         }
     }
-    say(page, b"\"");
+    say_byte(page, b'"');
 }
 
-// A line between quotes; of a long one the middle is left out.
-pub fn say_quoted(page: &mut [u8], line: &[u8]) {
+// A long line between quotes: the middle is left out.
+fn quote_ends(page: &mut [u8], line: &[u8]) {
     let from = ahead(line, FRONT);
     let to = behind(line, BACK);
     if to <= from {
@@ -149,19 +153,40 @@ pub fn say_quoted(page: &mut [u8], line: &[u8]) {
     quote(page, &line[to..]);
 }
 
+// A line between quotes; of a long one the middle is left out. One that has no more bytes than are shown of a long one is whole.
+pub fn say_quoted(page: &mut [u8], line: &[u8]) {
+    if line.len() <= FRONT + BACK {
+        quote(page, line);
+        return;
+    }
+    quote_ends(page, line);
+}
+
+// Where the next LF stands from a place on; the end where there is none.
+fn feed_at(text: &[u8], from: usize) -> usize
+    requires { ⌜ from ≤ length (now text) ⌝ }
+    ensures { λ r. ⌜ (from ≤ r) × (r ≤ length (now (text .entry))) ⌝ }
+{
+    let mut i = from;
+    while i < text.len() {
+        if text[i] == b'\n' {
+            return i;
+        }
+        i += 1;
+    }
+    i
+}
+
 // Where the line that starts at a place ends, its LF included.
 pub fn line_end(text: &[u8], from: usize) -> usize
     requires { ⌜ from < length (now text) ⌝ }
     ensures { λ r. ⌜ (from < r) × (r ≤ length (now (text .entry))) ⌝ }
 {
-    let mut i = from;
-    while i < text.len() {
-        i += 1;
-        if text[i - 1] == b'\n' {
-            return i;
-        }
+    let at = feed_at(text, from);
+    if text.len() <= at {
+        return text.len();
     }
-    i
+    at + 1
 }
 
 // How many lines a text has: what stands behind the last LF is one too.
@@ -169,10 +194,21 @@ pub fn lines(text: &[u8]) -> usize {
     let mut n = 0;
     let mut i = 0;
     while i < text.len() {
-        i = line_end(text, i);
-        n = one_more(n);
+        i += 1;
+        if text[i - 1] != b'\n' {
+            continue;
+        }
+        n += 1;
+    }
+    if is_open(text) {
+        return one_more(n);
     }
     n
+}
+
+// Whether it has more than one: an LF stands before its last byte.
+pub fn has_lines(text: &[u8]) -> bool {
+    one_more(feed_at(text, 0)) < text.len()
 }
 
 // Whether a text does not end in an LF.
@@ -209,31 +245,44 @@ const START: usize = 40;
 
 const END: usize = 20;
 
-// How much of it is left out.
+// How much of it is left out, if any.
 fn say_left_out(page: &mut [u8], n: usize) {
+    if n == 0 {
+        return;
+    }
     say(page, b" (");
     say_number(page, n);
     say(page, b" bytes left out)");
 }
 
-fn say_whole(page: &mut [u8], mark: &[u8], text: &[u8]) {
-    say(page, mark);
-    say_characters(page, text);
-    say(page, mark);
-}
-
-// A name or a lexeme between marks; of a long one the middle is left out, and how much that is is said.
-pub fn say_text(page: &mut [u8], mark: &[u8], text: &[u8]) {
+// What is shown of a long one, and how many bytes are not.
+fn say_shortened(page: &mut [u8], text: &[u8]) -> usize {
     let from = ahead(text, START);
     let to = behind(text, END);
     if to <= from {
-        say_whole(page, mark, text);
-        return;
+        say_characters(page, text);
+        return 0;
     }
-    say(page, mark);
     say_characters(page, front(text, from));
     say(page, b"...");
     say_characters(page, &text[to..]);
+    to - from
+}
+
+// A name; of a long one the middle is left out, and how much that is is said.
+pub fn say_name(page: &mut [u8], text: &[u8]) {
+    if text.len() <= START + END {
+        say_characters(page, text);
+        return;
+    }
+    let n = say_shortened(page, text);
+    say_left_out(page, n);
+}
+
+// A name or a lexeme between marks.
+pub fn say_text(page: &mut [u8], mark: &[u8], text: &[u8]) {
     say(page, mark);
-    say_left_out(page, to - from);
+    let n = say_shortened(page, text);
+    say(page, mark);
+    say_left_out(page, n);
 }

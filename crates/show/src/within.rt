@@ -4,7 +4,7 @@ use crate::places::say_place;
 use crate::records::byte;
 use crate::records::number;
 use crate::say::one_more;
-use crate::texts::say_text;
+use crate::texts::say_name;
 use lexemes::Lexeme;
 use lexemes::kept::next_kept;
 use lexemes::kinds::Kind;
@@ -194,7 +194,7 @@ fn say_field(page: &mut [u8], source: &[u8], at: usize) -> bool {
     let end = l.end;
     if start < end && end <= source.len() {
         say(page, b", in the field ");
-        say_text(page, b"", &source[start..end]);
+        say_name(page, &source[start..end]);
         say(page, b" at ");
         say_place(page, source, start);
         return true;

@@ -20,8 +20,8 @@ const LINKS: usize = 349_524;
 
 const RECORDS: usize = 174_762;
 
-// Two numbers for each place of a source.
-const PLACES: usize = 130_004;
+// A number for each place of a source.
+const PLACES: usize = 65_002;
 
 // The options that hold, and how the files so far have ended.
 struct Turn {

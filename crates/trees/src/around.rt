@@ -54,7 +54,8 @@ fn later(last: usize, r: usize, holds: bool) -> usize {
 }
 
 fn say_found(page: &mut [u8], image: &[u8], places: &[usize], links: &[usize], r: usize) {
-    if tag_of(image, links, r) != Tag::INFIX && is_step(image, links, r) {
+    let tag = tag_of(image, links, r);
+    if tag != Tag::INFIX && is_step(image, links, r, tag) {
         say(page, b"then ");
         say_step(page, image, links, r, places);
         return;

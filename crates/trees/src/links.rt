@@ -3,20 +3,12 @@
 use show::records::byte;
 use show::records::payload;
 
-// The number at a place of the links; 0 beyond their end.
-fn link(links: &[usize], at: usize) -> usize {
-    if at < links.len() {
-        return links[at];
-    }
-    0
-}
-
 // Where the record r starts.
 fn start_of(links: &[usize], r: usize) -> usize {
     if links.len() / 2 <= r {
         return 0;
     }
-    link(links, r * 2)
+    links[r * 2]
 }
 
 // The first record of its tree.
@@ -24,7 +16,7 @@ pub fn first_of(links: &[usize], r: usize) -> usize {
     if links.len() / 2 <= r {
         return 0;
     }
-    link(links, r * 2 + 1)
+    links[r * 2 + 1]
 }
 
 pub fn tag_of(image: &[u8], links: &[usize], r: usize) -> u8 {

@@ -9,17 +9,19 @@ use show::records::rest;
 use show::say::one_more;
 use show::say::say_times;
 use show::say::say_word;
-use show::texts::say_text;
+use show::texts::say_name;
 
 // A path has fewer names than this after its first: what is longer has lines of its own, so that none is gone over again and again.
 pub const PARTS: usize = 8;
 
 fn is_letter(b: u8) -> bool {
+    if b >= b'a' {
+        return b <= b'z';
+    }
     match b {
         b'0'..=b'9' => true,
         b'A'..=b'Z' => true,
         b'_' => true,
-        b'a'..=b'z' => true,
         _ => false,
     }
 }
@@ -34,6 +36,18 @@ pub fn is_name(text: &[u8]) -> bool {
         i += 1;
     }
     text.len() > 0
+}
+
+// So short a name is shown whole.
+const SHORT: usize = 40;
+
+// A name. One of letters has nothing that cannot be seen, so it goes out as it is.
+pub fn say_letters(page: &mut [u8], name: &[u8]) {
+    if name.len() <= SHORT && is_name(name) {
+        say(page, name);
+        return;
+    }
+    say_name(page, name);
 }
 
 // Whether a record is the index by a name.
@@ -118,7 +132,7 @@ fn say_head(page: &mut [u8], image: &[u8], links: &[usize], head: usize) {
         say_word(page, b"self super $", byte(p, 0));
         return;
     }
-    say_text(page, b"", rest(p, 4));
+    say_letters(page, rest(p, 4));
 }
 
 // `.name` or `?.name`, by the part's record.
@@ -126,7 +140,7 @@ pub fn say_part_name(page: &mut [u8], image: &[u8], links: &[usize], r: usize) {
     say_where(page, byte(payload_of(image, links, r), 5) != 0, b"?");
     say(page, b".");
     if r > 0 {
-        say_text(page, b"", payload_of(image, links, r - 1));
+        say_letters(page, payload_of(image, links, r - 1));
     }
 }
 

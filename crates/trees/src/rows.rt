@@ -1,5 +1,5 @@
 // Arrays of small values, which stand several to a line.
-use crate::lines::say_record;
+use crate::lines::say_leaf;
 use crate::links::below;
 use crate::links::first_of;
 use crate::links::payload_of;
@@ -8,9 +8,9 @@ use grammar::tags::Tag;
 use show::page::say;
 use show::records::number;
 use show::say::indent;
-use show::texts::lines;
+use show::texts::has_lines;
+use show::texts::say_name;
 use show::texts::say_quoted;
-use show::texts::say_text;
 
 // The most bytes that a small value has.
 const SMALL: usize = 32;
@@ -27,7 +27,7 @@ fn is_small(tag: u8, p: &[u8]) -> bool {
         Tag::NULL => true,
         Tag::BOOL => true,
         Tag::NUMBER => true,
-        Tag::STRING => lines(p) < 2,
+        Tag::STRING => !has_lines(p),
         _ => false,
     }
 }
@@ -53,10 +53,12 @@ pub fn is_row(image: &[u8], links: &[usize], r: usize) -> bool {
 
 // A value without a word before it, where its form tells what it is.
 fn say_small(page: &mut [u8], image: &[u8], places: &[usize], links: &[usize], r: usize) {
-    match tag_of(image, links, r) {
-        Tag::NUMBER => say_text(page, b"", payload_of(image, links, r)),
-        Tag::STRING => say_quoted(page, payload_of(image, links, r)),
-        _ => say_record(page, image, links, r, places),
+    let tag = tag_of(image, links, r);
+    let p = payload_of(image, links, r);
+    match tag {
+        Tag::NUMBER => say_name(page, p),
+        Tag::STRING => say_quoted(page, p),
+        _ => say_leaf(page, tag, p, false, places),
     }
 }
 

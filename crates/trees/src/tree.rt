@@ -1,6 +1,8 @@
 // The image's records stand children first; a person reads a tree from its root. So the records are shown from the last on, by a stack of those
 // that wait. What a chain is made of is not indented further and far: the body of a `local` begins with `in`, and another operator, index or call
 // that is applied to what stands above it with `then`.
+use crate::lines::is_several;
+use crate::lines::say_leaf;
 use crate::lines::say_record;
 use crate::lines::say_step;
 use crate::links::first_child;
@@ -12,14 +14,16 @@ use crate::paths::is_path;
 use crate::rows::is_row;
 use crate::rows::show_row;
 use grammar::tags::Tag;
+use show::page::FILE;
 use show::page::paint;
 use show::page::plain;
 use show::page::say;
+use show::page::say_byte;
 use show::records::byte;
 use show::say::indent;
 use show::say::one_more;
 use show::say::say_characters;
-use show::texts::lines;
+use show::texts::has_lines;
 use show::texts::show_lines;
 
 // How a record's line begins.
@@ -87,8 +91,8 @@ fn is_chain(image: &[u8], links: &[usize], r: usize, left: usize) -> bool {
 }
 
 // Whether a record is shown below its first child, as what is done to that.
-pub fn is_step(image: &[u8], links: &[usize], r: usize) -> bool {
-    match tag_of(image, links, r) {
+pub fn is_step(image: &[u8], links: &[usize], r: usize, tag: u8) -> bool {
+    match tag {
         Tag::INFIX => is_chain(image, links, r, first_child(links, r)),
         Tag::INDEX_PART => {
             if is_named_part(image, links, r) {
@@ -111,12 +115,12 @@ struct Shape {
 }
 
 // Whether the first child stands on the line or above it.
-fn has_first(image: &[u8], links: &[usize], r: usize, how: u8) -> bool {
+fn has_first(image: &[u8], links: &[usize], r: usize, tag: u8, p: &[u8], how: u8) -> bool {
     if how == THEN {
         return true;
     }
-    match tag_of(image, links, r) {
-        Tag::FIELD => byte(payload_of(image, links, r), 4) == 0,
+    match tag {
+        Tag::FIELD => byte(p, 4) == 0,
         Tag::CALL => true,
         Tag::INDEX_PART => true,
         Tag::SLICE => true,
@@ -149,22 +153,21 @@ fn takes_value(tag: u8, p: &[u8]) -> bool {
 // Whether a value is small: one without children, and without lines of its own.
 fn is_small(image: &[u8], links: &[usize], r: usize) -> bool {
     match tag_of(image, links, r) {
-        Tag::STRING => lines(payload_of(image, links, r)) < 2,
+        Tag::STRING => !has_lines(payload_of(image, links, r)),
         Tag::IDENTITY..=Tag::VARIABLE => true,
         _ => false,
     }
 }
 
-// Whether the last child stands on the line.
-fn has_last(image: &[u8], links: &[usize], r: usize) -> bool {
+// Whether the last child stands on the line: a part's name, or the record's value.
+fn has_last(image: &[u8], links: &[usize], r: usize, tag: u8, p: &[u8]) -> bool {
     if r == 0 {
         return false;
     }
-    let tag = tag_of(image, links, r);
     if tag == Tag::INDEX_PART {
         return is_named_part(image, links, r);
     }
-    if !takes_value(tag, payload_of(image, links, r)) {
+    if !takes_value(tag, p) {
         return false;
     }
     is_small(image, links, r - 1)
@@ -184,11 +187,11 @@ fn last_how(tag: u8, p: &[u8]) -> u8 {
     }
 }
 
-fn shape_of(image: &[u8], links: &[usize], r: usize, how: u8) -> Shape {
+fn shape_of(image: &[u8], links: &[usize], r: usize, tag: u8, p: &[u8], how: u8) -> Shape {
     Shape {
-        first: has_first(image, links, r, how),
-        last: has_last(image, links, r),
-        how: last_how(tag_of(image, links, r), payload_of(image, links, r)),
+        first: has_first(image, links, r, tag, p, how),
+        last: has_last(image, links, r, tag, p),
+        how: last_how(tag, p),
     }
 }
 
@@ -246,43 +249,119 @@ fn push_children(
     n
 }
 
+// The word that a line begins with.
+fn say_joint(page: &mut [u8], how: u8) {
+    if how == IN {
+        say(page, b"in ");
+        return;
+    }
+    say(page, b"else ");
+}
+
+// The same where there is one.
 fn say_beginning(page: &mut [u8], how: u8) {
-    match how {
-        PLAIN => {}
-        IN => say(page, b"in "),
-        ELSE => say(page, b"else "),
-        _ => say(page, b"then "),
+    if how != PLAIN {
+        say_joint(page, how);
     }
 }
 
-// A record's line without its end: the record, and the value that stands on its line.
-fn say_line(page: &mut [u8], image: &[u8], places: &[usize], links: &[usize], r: usize, how: u8) {
-    say_beginning(page, how);
-    if how == THEN {
-        say_step(page, image, links, r, places);
-        return;
-    }
-    say_whole(page, image, places, links, r);
+// The value that stands on a record's line.
+fn say_value(page: &mut [u8], image: &[u8], places: &[usize], links: &[usize], r: usize) {
+    say(page, b": ");
+    say_leaf(
+        page,
+        tag_of(image, links, r),
+        payload_of(image, links, r),
+        false,
+        places,
+    );
 }
 
-// A record with the value that stands on its line.
-pub fn say_whole(page: &mut [u8], image: &[u8], places: &[usize], links: &[usize], r: usize) {
-    say_record(page, image, links, r, places);
-    if !takes_value(tag_of(image, links, r), payload_of(image, links, r)) {
-        return;
-    }
-    if !has_last(image, links, r) {
+// A record with the value that stands on its line; whether it has a last child that does.
+fn say_with_value(
+    page: &mut [u8],
+    image: &[u8],
+    places: &[usize],
+    links: &[usize],
+    r: usize,
+    tag: u8,
+    p: &[u8],
+    has_last: bool,
+) {
+    say_record(page, image, links, r, tag, p, places);
+    if !has_last {
         return;
     }
     if r == 0 {
         return;
     }
-    say(page, b": ");
-    say_record(page, image, links, r - 1, places);
+    if tag != Tag::INDEX_PART {
+        say_value(page, image, places, links, r - 1);
+    }
 }
 
-// What belongs to a line without records of its own: the lines of a text, or small values several to a line.
-fn show_below(
+// The same of a record by itself.
+pub fn say_whole(page: &mut [u8], image: &[u8], places: &[usize], links: &[usize], r: usize) {
+    let tag = tag_of(image, links, r);
+    let p = payload_of(image, links, r);
+    let last = has_last(image, links, r, tag, p);
+    say_with_value(page, image, places, links, r, tag, p, last);
+}
+
+// A record's line without its end: what it does to what stands above it, or the record.
+fn say_line(
+    page: &mut [u8],
+    image: &[u8],
+    places: &[usize],
+    links: &[usize],
+    r: usize,
+    tag: u8,
+    p: &[u8],
+    how: u8,
+    has_last: bool,
+) {
+    if how == THEN {
+        say(page, b"then ");
+        say_step(page, image, links, r, places);
+        return;
+    }
+    say_beginning(page, how);
+    say_with_value(page, image, places, links, r, tag, p, has_last);
+}
+
+// The lines of a text behind its record's line, or dots where they stand too deep.
+fn show_text(page: &mut [u8], p: &[u8], depth: usize, most: usize) {
+    if most < depth {
+        say(page, b" ...\n");
+        return;
+    }
+    say_byte(page, b'\n');
+    show_lines(page, p, depth);
+}
+
+// A record without children: its line, and behind it a text's own lines.
+fn show_leaf(
+    page: &mut [u8],
+    places: &[usize],
+    tag: u8,
+    p: &[u8],
+    depth: usize,
+    how: u8,
+    most: usize,
+) {
+    let several = is_several(tag, p);
+    indent(page, depth);
+    say_beginning(page, how);
+    say_leaf(page, tag, p, several, places);
+    if several {
+        show_text(page, p, one_more(depth), most);
+        return;
+    }
+    say_byte(page, b'\n');
+}
+
+// The elements of an array of small values behind its line, several to a line, or dots where they stand too deep.
+fn show_elements(
     page: &mut [u8],
     image: &[u8],
     places: &[usize],
@@ -295,20 +374,7 @@ fn show_below(
         say(page, b" ...\n");
         return;
     }
-    if tag_of(image, links, r) == Tag::ARRAY {
-        show_row(page, image, places, links, r, depth);
-        return;
-    }
-    say(page, b"\n");
-    show_lines(page, payload_of(image, links, r), depth);
-}
-
-fn has_below(image: &[u8], links: &[usize], r: usize) -> bool {
-    match tag_of(image, links, r) {
-        Tag::STRING => lines(payload_of(image, links, r)) > 1,
-        Tag::ARRAY => is_row(image, links, r),
-        _ => false,
-    }
+    show_row(page, image, places, links, r, depth);
 }
 
 // Whether the first of the children that were pushed is too deep to be shown.
@@ -327,7 +393,7 @@ fn say_line_end(page: &mut [u8], dots: bool) {
         say(page, b" ...\n");
         return;
     }
-    say(page, b"\n");
+    say_byte(page, b'\n');
 }
 
 // A record's line and what belongs to it, and its children on the stack.
@@ -339,18 +405,21 @@ fn show_record(
     stack: &mut [usize],
     top: usize,
     entry: usize,
+    tag: u8,
     most: usize,
 ) -> usize {
     let r = record_of(entry);
     let depth = depth_of(entry);
     let how = how_of(entry);
+    let p = payload_of(image, links, r);
+    let shape = shape_of(image, links, r, tag, p, how);
     indent(page, depth);
-    say_line(page, image, places, links, r, how);
-    if has_below(image, links, r) {
-        show_below(page, image, places, links, r, one_more(depth), most);
+    say_line(page, image, places, links, r, tag, p, how, shape.last);
+    if tag == Tag::ARRAY && is_row(image, links, r) {
+        show_elements(page, image, places, links, r, one_more(depth), most);
         return top;
     }
-    let n = push_children(links, r, shape_of(image, links, r, how), stack, top, depth);
+    let n = push_children(links, r, shape, stack, top, depth);
     say_line_end(page, is_too_deep(stack, top, n, most));
     n
 }
@@ -371,11 +440,17 @@ fn show_next(
     }
     let r = record_of(entry);
     let how = how_of(entry);
-    if how == THEN {
-        return show_record(page, image, places, links, stack, top, entry, most);
+    let tag = tag_of(image, links, r);
+    if tag <= Tag::VARIABLE {
+        let p = payload_of(image, links, r);
+        show_leaf(page, places, tag, p, depth_of(entry), how, most);
+        return top;
     }
-    if !is_step(image, links, r) {
-        return show_record(page, image, places, links, stack, top, entry, most);
+    if how == THEN {
+        return show_record(page, image, places, links, stack, top, entry, tag, most);
+    }
+    if !is_step(image, links, r, tag) {
+        return show_record(page, image, places, links, stack, top, entry, tag, most);
     }
     let n = pushed(stack, top, packed(r, depth_of(entry), THEN));
     pushed(
@@ -416,7 +491,7 @@ pub fn show(
 
 // The name of the file whose tree follows.
 pub fn tell_name(page: &mut [u8], name: &[u8]) {
-    paint(page, b"1");
+    paint(page, FILE);
     say_characters(page, name);
     say(page, b":");
     plain(page);

@@ -18,26 +18,23 @@ loop-holds c = search needs
 returns : tie.Need-returns Inv-loop μ-loop
 returns c = search needs
 
-mul-is-by : tie.Need-mul-is-by Inv-loop μ-loop
-mul-is-by c = search needs
+mul-line-of : tie.Need-mul-line-of Inv-loop μ-loop
+mul-line-of c = search needs
 
-mul-is-by-2 : tie.Need-mul-is-by-2 Inv-loop μ-loop
-mul-is-by-2 c = search needs
+shared-slice-read-line-of : tie.Need-shared-slice-read-line-of Inv-loop μ-loop
+shared-slice-read-line-of c = search needs
 
-shared-slice-read-is-by : tie.Need-shared-slice-read-is-by Inv-loop μ-loop
-shared-slice-read-is-by c = search needs
+line-of-requires : tie.Need-line-of-requires Inv-loop μ-loop
+line-of-requires c κs = search needs
 
-mul-is-by-3 : tie.Need-mul-is-by-3 Inv-loop μ-loop
-mul-is-by-3 c = search needs
+mul-column-of : tie.Need-mul-column-of Inv-loop μ-loop
+mul-column-of c = search needs
 
-add-is-by : tie.Need-add-is-by Inv-loop μ-loop
-add-is-by c = search needs
+shared-slice-read-column-of : tie.Need-shared-slice-read-column-of Inv-loop μ-loop
+shared-slice-read-column-of c = search needs
 
-mul-is-by-4 : tie.Need-mul-is-by-4 Inv-loop μ-loop
-mul-is-by-4 c = search needs
-
-shared-slice-read-is-by-2 : tie.Need-shared-slice-read-is-by-2 Inv-loop μ-loop
-shared-slice-read-is-by-2 c = search needs
+column-of-requires : tie.Need-column-of-requires Inv-loop μ-loop
+column-of-requires c κs = search needs
 
 is-by-requires : tie.Need-is-by-requires Inv-loop μ-loop
 is-by-requires c κs = search needs
@@ -65,13 +62,12 @@ byte-at-spec =
     μ-loop
     loop-holds
     returns
-    mul-is-by
-    mul-is-by-2
-    shared-slice-read-is-by
-    mul-is-by-3
-    add-is-by
-    mul-is-by-4
-    shared-slice-read-is-by-2
+    mul-line-of
+    shared-slice-read-line-of
+    line-of-requires
+    mul-column-of
+    shared-slice-read-column-of
+    column-of-requires
     is-by-requires
     returns-2
     add-i

@@ -8,16 +8,13 @@ use Rattle.show.proofs.texts.quote.Statement.{statement}
 use Rattle.show.proofs.texts.quote.Tie as tie
 
 abbrev Inv-loop : tie.InvT-loop
-Inv-loop page₀ text i₀ t6 page i = (length page ≡ length page₀) × (i ≤ length text)
+Inv-loop page₀ text i₀ page i = (length page ≡ length page₀) × (i ≤ length text)
 
 abbrev μ-loop : tie.MeasureT-loop
-μ-loop page₀ text i₀ t6 page i = length text - i
+μ-loop page₀ text i₀ page i = length text - i
 
-slice-aggregate-say : tie.Need-slice-aggregate-say Inv-loop μ-loop
-slice-aggregate-say c = search needs
-
-say-requires : tie.Need-say-requires Inv-loop μ-loop
-say-requires c κs = search needs
+say-byte-requires : tie.Need-say-byte-requires Inv-loop μ-loop
+say-byte-requires c κs = search needs
 
 loop-holds : tie.Need-loop-holds Inv-loop μ-loop
 loop-holds c = search needs
@@ -34,8 +31,8 @@ part-say-start c = search needs
 part-say-end : tie.Need-part-say-end Inv-loop μ-loop
 part-say-end c = search needs
 
-say-requires-2 : tie.Need-say-requires-2 Inv-loop μ-loop
-say-requires-2 c κs = search needs
+say-requires : tie.Need-say-requires Inv-loop μ-loop
+say-requires c κs = search needs
 
 say-escaped-requires : tie.Need-say-escaped-requires Inv-loop μ-loop
 say-escaped-requires c κs = search needs
@@ -52,11 +49,8 @@ loop-less-2 c = search needs
 loop-again-2 : tie.Need-loop-again-2 Inv-loop μ-loop
 loop-again-2 c = search needs
 
-slice-aggregate-say-2 : tie.Need-slice-aggregate-say-2 Inv-loop μ-loop
-slice-aggregate-say-2 c = search needs
-
-say-requires-3 : tie.Need-say-requires-3 Inv-loop μ-loop
-say-requires-3 c κs = search needs
+say-byte-requires-2 : tie.Need-say-byte-requires-2 Inv-loop μ-loop
+say-byte-requires-2 c κs = search needs
 
 same-length : tie.Need-same-length Inv-loop μ-loop
 same-length c = search needs
@@ -70,20 +64,18 @@ quote-spec =
     (tie.spec
     Inv-loop
     μ-loop
-    slice-aggregate-say
-    say-requires
+    say-byte-requires
     loop-holds
     plain-end-requires
     sub-say
     part-say-start
     part-say-end
-    say-requires-2
+    say-requires
     say-escaped-requires
     loop-less
     loop-again
     loop-less-2
     loop-again-2
-    slice-aggregate-say-2
-    say-requires-3
+    say-byte-requires-2
     same-length
     returns)

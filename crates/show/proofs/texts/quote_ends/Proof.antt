@@ -1,11 +1,11 @@
--- `show::texts::say_quoted` is safe and ends.
+-- `show::texts::quote_ends` is safe and ends.
 -- Assumes nothing.
 use native.Mathlib.Omega.{arith}
 use lib.ListN.{length-take}
 use borrow.Author.Needs.{needs}
 use borrow.Author.Needs.{needs}
-use Rattle.show.proofs.texts.say_quoted.Statement.{statement}
-use Rattle.show.proofs.texts.say_quoted.Tie as tie
+use Rattle.show.proofs.texts.quote_ends.Statement.{statement}
+use Rattle.show.proofs.texts.quote_ends.Tie as tie
 
 ahead-requires : tie.Need-ahead-requires
 ahead-requires c κs = search needs
@@ -76,8 +76,8 @@ same-length-3 c = search needs
 returns-3 : tie.Need-returns-3
 returns-3 c = search needs
 
-pub say-quoted-spec : {M : Type 1} → statement M
-say-quoted-spec =
+pub quote-ends-spec : {M : Type 1} → statement M
+quote-ends-spec =
     tie.close
     (tie.spec
     ahead-requires
