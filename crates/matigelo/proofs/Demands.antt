@@ -1,5 +1,5 @@
 -- WHAT IS WRITTEN IS READ BACK: theorems about `read` and `back` together, from bytes to bytes. What they promise is `Reads`
--- (crates/reader/specs/Reader.antt) and `ReadsBack` (crates/images/specs/Images.antt). `Derived` says that the rules derive a tree of the source.
+-- (crates/reader/specs/Reader.antt) and `ReadsBack` (crates/images/specs/Images.antt). `HasTree` says that the rules derive a tree of the source.
 -- Assumes nothing.
 use mathlib.Core.Path.{_≡_, refl, sym, ap, subst, _∙_}
 use mathlib.Core.List.{List, [], _∷_, _++_}
@@ -9,7 +9,7 @@ use lib.ListN.{length, getD, take, replicate}
 use lib.Seq.{take-at}
 use Rattle.grammar.specs.Trees.{Field, Trees}
 use Rattle.grammar.specs.Image.{image}
-use Rattle.grammar.specs.Derived.{Spanned, Derived as Given}
+use Rattle.grammar.specs.Derived.{Spanned, Derived}
 use Rattle.grammar.specs.Answer.{prefix-power}
 use Rattle.grammar.proofs.Derived.{whole-exactly}
 use Rattle.grammar.proofs.Ranges.{source-obeys}
@@ -28,26 +28,26 @@ use Rattle.mass.proofs.Demands as demands
 use Rattle.mass.proofs.Minutes.{minutes}
 use Rattle.reader.specs.Reader.{Reads}
 use Rattle.reader.specs.declared.Reading.the-variants.{Tree}
-use Rattle.reader.proofs.AnswerLaws.{Derived}
+use Rattle.reader.proofs.AnswerLaws.{HasTree}
 use Rattle.reader.proofs.Demands.{tree-is-derived}
 use Rattle.matigelo.specs.Three.{three, Back02, Mass02}
 
 -- ── Demand 2: "every image written is read back to the same tree" ─────────────────────────────────
 
 -- What is derived of a source, under whichever setting, has an image that is accepted as its own.
-pub derived-is-accepted : {setting : ℕ} {source : List ℕ} {ts : Trees} → Derived setting source ts → Accepted (image ts) ts
+pub derived-is-accepted : {setting : ℕ} {source : List ℕ} {ts : Trees} → HasTree setting source ts → Accepted (image ts) ts
 derived-is-accepted {ts = ts} d =
     let x = whole-exactly (prefix-power 7) ts .0 (source-obeys (d .lexemes) (d .reads) (d .utf8)) in
     record {
       age = new;
-      derived = subst (λ (u : Trees). Given (prefix-power 7) 7 u) (sym (dated-new ts)) (x .0);
+      derived = subst (λ (u : Trees). Derived (prefix-power 7) 7 u) (sym (dated-new ts)) (x .0);
       spanned = subst Spanned (sym (dated-new ts)) (x .1);
       written = refl;
     }
 
 -- A call of `read` that has answered with a tree, and whatever call of `back` on the bytes that it wrote.
 module _ (setting : ℕ) (source out : List ℕ) (n : ℕ) (out′ : List ℕ) (x : Reads setting source out (Tree n) out′) where
-  written : (ts : Trees) × Derived setting source ts × (take n out′ ≡ image ts) × Accepted (take n out′) ts
+  written : (ts : Trees) × HasTree setting source ts × (take n out′ ≡ image ts) × Accepted (take n out′) ts
   written =
       let z = tree-is-derived setting source out (Tree n) out′ x n refl in
       let e : take n out′ ≡ image (z .0) = ap (take n) (z .3) ∙ take-at (image (z .0)) _ n (sym (z .2)) in
@@ -55,7 +55,7 @@ module _ (setting : ℕ) (source out : List ℕ) (n : ℕ) (out′ : List ℕ) (
 
   -- They are accepted with the number of records; the links are those of the tree that the rules derive of the source, and no other tree has these bytes.
   pub read-back : (room : ℕ) (b : Answer) (array : List ℕ) → needed (take n out′) ≤ room → ReadsBack (take n out′) room b array
-      → (ts : Trees) × Derived setting source ts × (take n out′ ≡ image ts) × (b ≡ back.Tree (records ts))
+      → (ts : Trees) × HasTree setting source ts × (take n out′ ≡ image ts) × (b ≡ back.Tree (records ts))
       × (array ≡ links 0 0 ts ++ replicate (room - 2 * records ts) 0) × ((u : Trees) → Accepted (take n out′) u → u ≡ ts)
   read-back room b array h y =
       let w = written in
@@ -65,7 +65,7 @@ module _ (setting : ℕ) (source out : List ℕ) (n : ℕ) (out′ : List ℕ) (
   -- THE RULE OF THE MINUTES, of a source: whatever call of `list` on what was written, each field `mass+:` of the tree that the rules derive of the source stands in
   -- an object that raises depth too, or that is listed, or that is undecided and listed so.
   pub read-minuted : (room size m : ℕ) (array list : List ℕ) → MassDepth (take n out′) room size (planner.Listed m) array list
-      → (ts : Trees) × Derived setting source ts
+      → (ts : Trees) × HasTree setting source ts
       × ((o tag a e : ℕ) (fields : List Field) (children : Trees) → Subtree 0 ts o tag fields children → FixedPlus MASS a e tag fields children → Minuted ts m list tag fields children)
   read-minuted room size m array list y = let w = written in (w .0, w .1, λ o tag a e fields children h f. minutes y (w .3) h f)
 

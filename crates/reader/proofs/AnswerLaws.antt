@@ -63,15 +63,15 @@ same-case r r′ e = sym (case-back r) ∙ ap case-of e ∙ case-back r′
 -- ── Numbers 0 and 12 say that there is a tree ─────────────────────────────────────────────────────
 
 -- The rules derive this tree of a source that is past numbers 1 to 4.
-abbrev pub Derived : ℕ → List ℕ → Trees → Type 0
-Derived setting source ts = Parsed lexing document-01 setting source ts
+abbrev pub HasTree : ℕ → List ℕ → Trees → Type 0
+HasTree setting source ts = Parsed lexing document-01 setting source ts
 
-pub derived-judged : {setting : ℕ} {source : List ℕ} {ts : Trees} → Derived setting source ts → Judged Bad Kept document-01 setting source (tree ts)
+pub derived-judged : {setting : ℕ} {source : List ℕ} {ts : Trees} → HasTree setting source ts → Judged Bad Kept document-01 setting source (tree ts)
 derived-judged d = judged-tree lexing document-01 d
 
 -- An answer and an output with one of these numbers are those of a derived tree.
 pub accepted-derived : {setting : ℕ} {source : List ℕ} {room : ℕ} {a : Answer} {out : List ℕ} → Reads01 setting source room a out → Accepted a
-    → (ts : Trees) × Derived setting source ts × (a ≡ answer room (tree ts)) × (out ≡ output room (tree ts))
+    → (ts : Trees) × HasTree setting source ts × (a ≡ answer room (tree ts)) × (out ≡ output room (tree ts))
 accepted-derived {room = room} x h =
     let p = parsed lexing document-01 room (x .judged) (subst Accepted (x .answered) h) in
     (p .0, p .2, x .answered ∙ ap (answer room) (p .1), x .written ∙ ap (output room) (p .1))

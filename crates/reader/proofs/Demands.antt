@@ -1,6 +1,6 @@
 -- THE DEMANDS ON THE READER, as theorems about `read`. What it promises is `Reads setting source out reading out′` (specs/Reader.antt): of a
 -- setting, a source and an output as it was lent, which answer it gives and what it leaves in the output, as document 01 has them (`Reads01`,
--- crates/grammar/specs/Source.antt). `Derived` says that the rules (crates/grammar/specs/Productions.antt) derive a tree of the source; `Spelled`
+-- crates/grammar/specs/Source.antt). `HasTree` says that the rules (crates/grammar/specs/Productions.antt) derive a tree of the source; `Spelled`
 -- that its lexemes spell one, told without a parser (crates/grammar/specs/Spells.antt).
 -- Assumes nothing.
 use mathlib.Core.Path.{_≡_, refl, sym, ap, subst, _∙_}
@@ -26,7 +26,7 @@ use Rattle.grammar.proofs.Signs.{no-sign-without-8, no-sign-with-8}
 use Rattle.reader.specs.Reader.{refusal, numbers, Reads}
 use Rattle.reader.specs.declared.Reading.{Reading}
 use Rattle.reader.specs.declared.Reading.the-variants.{Tree, Room}
-use Rattle.reader.proofs.AnswerLaws.{same-case, Derived, derived-judged, accepted-derived, tree-answer, room-answer, fits-answer, fits-output, lacks-answer, refusal-output}
+use Rattle.reader.proofs.AnswerLaws.{same-case, HasTree, derived-judged, accepted-derived, tree-answer, room-answer, fits-answer, fits-output, lacks-answer, refusal-output}
 use contract.Lifetimes.{Lfts}
 use borrow.Fn.Kinds.{Dens}
 use Rattle.reader.proofs.read.Kinds.{ps}
@@ -46,12 +46,12 @@ asks-nothing κs a = tt
 
 -- ── What the rules derive is what the lexemes spell ────────────────────────────────────────────────
 
-pub derived-is-spelled : {setting : ℕ} {source : List ℕ} {ts : Trees} → Derived setting source ts → Spelled document-01 setting source ts
+pub derived-is-spelled : {setting : ℕ} {source : List ℕ} {ts : Trees} → HasTree setting source ts → Spelled document-01 setting source ts
 derived-is-spelled d =
     record { known = d .setting; short = d .short; utf8 = d .utf8; kept = d .kept; lexemes = d .lexemes; spelled = read-is-spelled (d .lexemes) (d .reads) }
 
 -- The same tree, but for spans, which the forms leave open.
-pub spelled-is-derived : {setting : ℕ} {source : List ℕ} {t : Trees} → Spelled document-01 setting source t → (ts : Trees) × Derived setting source ts × Alike t ts
+pub spelled-is-derived : {setting : ℕ} {source : List ℕ} {t : Trees} → Spelled document-01 setting source t → (ts : Trees) × HasTree setting source ts × Alike t ts
 spelled-is-derived y =
     let z = spelled-is-read (y .spelled) in
     (z .0, record { kept = y .kept; place = z .1; left = []; setting = y .known; short = y .short; utf8 = y .utf8; lexemes = y .lexemes; reads = z .2 }, z .3)
@@ -77,7 +77,7 @@ module _ (setting : ℕ) (source out : List ℕ) (reading : Reading) (out′ : L
   -- ── Demand 2: a tree exactly for what the rules derive, the only one, and the refusal otherwise ───
 
   -- A tree that is answered is derived, and the output has its image, with zeros after it.
-  pub tree-is-derived : (n : ℕ) → reading ≡ Tree n → (ts : Trees) × Derived setting source ts × (n ≡ length (image ts)) × (out′ ≡ image ts ++ replicate (length out - length (image ts)) 0)
+  pub tree-is-derived : (n : ℕ) → reading ≡ Tree n → (ts : Trees) × HasTree setting source ts × (n ≡ length (image ts)) × (out′ ≡ image ts ++ replicate (length out - length (image ts)) 0)
   unfolding numbers
   tree-is-derived n q =
       let p = accepted-derived x (inl (ap (λ (r : Reading). numbers r .number) q)) in
@@ -85,7 +85,7 @@ module _ (setting : ℕ) (source out : List ℕ) (reading : Reading) (out′ : L
       (p .0, p .1, e .0, p .3 ∙ fits-output (length out) (p .0) (e .1))
 
   -- A tree that is refused for room is derived, and there is no room for it.
-  pub room-is-derived : (n : ℕ) → reading ≡ Room n → (ts : Trees) × Derived setting source ts × (n ≡ length (image ts)) × (length out < length (image ts))
+  pub room-is-derived : (n : ℕ) → reading ≡ Room n → (ts : Trees) × HasTree setting source ts × (n ≡ length (image ts)) × (length out < length (image ts))
   unfolding numbers
   room-is-derived n q =
       let p = accepted-derived x (inr (ap (λ (r : Reading). numbers r .number) q)) in
@@ -93,10 +93,10 @@ module _ (setting : ℕ) (source out : List ℕ) (reading : Reading) (out′ : L
       (p .0, p .1, e .0, e .1)
 
   -- A tree that is derived is answered, and is refused only for room.
-  pub derived-is-tree : (ts : Trees) → Derived setting source ts → length (image ts) ≤ length out → reading ≡ Tree (length (image ts))
+  pub derived-is-tree : (ts : Trees) → HasTree setting source ts → length (image ts) ≤ length out → reading ≡ Tree (length (image ts))
   derived-is-tree ts d h = same-case _ _ (answers-found (derived-judged d) .0 ∙ fits-answer (length out) ts h)
 
-  pub derived-is-room : (ts : Trees) → Derived setting source ts → length out < length (image ts) → reading ≡ Room (length (image ts))
+  pub derived-is-room : (ts : Trees) → HasTree setting source ts → length out < length (image ts) → reading ≡ Room (length (image ts))
   derived-is-room ts d h = same-case _ _ (answers-found (derived-judged d) .0 ∙ lacks-answer (length out) ts h)
 
   -- What the rules refuse is refused as they say.
@@ -144,7 +144,7 @@ one-tree-spelled {setting} {source} {t} {u} x y = by (x .kept) (y .kept) (lexing
     by xs ys e g h = one-spelled (subst (λ (zs : Lexemes). SpelledWithin (prefix-power setting) setting (greedily setting) 200 zs t) e g) h
 
 -- One tree at most is derived.
-pub one-derived : {setting : ℕ} {source : List ℕ} {ts us : Trees} → Derived setting source ts → Derived setting source us → ts ≡ us
+pub one-derived : {setting : ℕ} {source : List ℕ} {ts us : Trees} → HasTree setting source ts → HasTree setting source us → ts ≡ us
 one-derived d d′ = one-tree lexing document-01 (derived-judged d) (derived-judged d′)
 
 -- ── Demand 3: a larger setting ────────────────────────────────────────────────────────────────────

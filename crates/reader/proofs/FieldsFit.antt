@@ -16,7 +16,7 @@ use Rattle.grammar.proofs.Obeys.{obeys-length, obeys}
 use Rattle.grammar.proofs.Spanned.{forwards}
 use Rattle.grammar.proofs.Possible.{kept-worded}
 use Rattle.grammar.proofs.Ranges.{kept-ranged}
-use Rattle.reader.proofs.AnswerLaws.{Derived}
+use Rattle.reader.proofs.AnswerLaws.{HasTree}
 use Rattle.reader.proofs.RowCounts.{Narrow, rows-narrow}
 use Rattle.reader.proofs.SpanEnds.{Below, stops, Ending, spans-end}
 
@@ -144,12 +144,12 @@ fitting (Obeys.node {fields = fs} f g h k) (Narrow.node c w v) (Ending.node e x 
     Fitting.node (fit fs (omega (arith, c, fits-length g, obeys-length h)) (counting f) (forwards f .0) e) (fitting h w x) (fitting k v y)
 
 -- OF WHATEVER SOURCE THAT HAS A TREE, under whichever setting.
-pub fields-fit : {setting : ℕ} {source : List ℕ} {ts : Trees} → Derived setting source ts → Fitting (length source) ts
+pub fields-fit : {setting : ℕ} {source : List ℕ} {ts : Trees} → HasTree setting source ts → Fitting (length source) ts
 fields-fit {setting} d =
     let o = kept-ranged (d .lexemes) in
     fitting (obeys (prefix-power setting) setting o (kept-worded (d .utf8) (d .lexemes)) (d .reads) .2) (rows-narrow (prefix-power setting) setting o (d .reads))
     (spans-end (prefix-power setting) setting o (d .reads))
 
 -- That is at most 65,000, so that each number and each end of a span has its two bytes.
-pub two-bytes : {setting : ℕ} {source : List ℕ} {ts : Trees} {n : ℕ} → Derived setting source ts → n ≤ length source → (n / 256 ≤ 255) × (n % 256 ≤ 255)
+pub two-bytes : {setting : ℕ} {source : List ℕ} {ts : Trees} {n : ℕ} → HasTree setting source ts → n ≤ length source → (n / 256 ≤ 255) × (n % 256 ≤ 255)
 two-bytes d h = (omega (arith, d .short, h), omega arith)

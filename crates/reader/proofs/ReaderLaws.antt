@@ -27,7 +27,7 @@ use Rattle.grammar.specs.Image.{image}
 use Rattle.grammar.specs.Lexemes.{Lexeme as Token, stop-of}
 use Rattle.grammar.specs.Says.{Told}
 use Rattle.grammar.specs.Productions.{end, _▸_, eat, deep, expr, source}
-use Rattle.grammar.specs.Reading.{Outcome, done, broken, Reading as Derived, ended, eaten, uneaten}
+use Rattle.grammar.specs.Reading.{Outcome, done, broken, Reading as Derivation, ended, eaten, uneaten}
 use Rattle.grammar.specs.Answer.{Answer as Handed, Verdict, refused, tree, verdict, Judged, read, answer, output, valid-setting, document-01}
 use Rattle.grammar.specs.Source.{Bad, bad, Kept, kept}
 use Rattle.grammar.proofs.Chosen.{true-false, holds}
@@ -78,7 +78,7 @@ pub valid-all : {s : List ℕ} {n : ℕ} → ValidTo s n → length s ≤ n → 
 valid-all v h = valid-whole v (omega (arith, v .within))
 
 -- What the lexemes of a source are read as is what the phrases make of it.
-met-by : {g : ℕ} {s : List ℕ} {v : Verdict} → ((xs : List Token) → Left s 0 xs → (o : Outcome) × Derived (power g) g source none 200 0 xs o × (verdict o ≡ v)) → Met g s v
+met-by : {g : ℕ} {s : List ℕ} {v : Verdict} → ((xs : List Token) → Left s 0 xs → (o : Outcome) × Derivation (power g) g source none 200 0 xs o × (verdict o ≡ v)) → Met g s v
 met-by {s = s} f =
     let k = kept-always s 0 in
     let t = told-always s (k .0) in
@@ -101,7 +101,7 @@ module _ {g : ℕ} {s : List ℕ} (a : Admitted g s) where
   unfolding verdict
   judged-tree {ts} m = judged-kept m (by (m .outcome) (m .reads) (m .so))
     where
-      by : (o : Outcome) → Derived (power g) g source none 200 0 (m .tokens) o → verdict o ≡ tree ts → Kept s (m .tokens)
+      by : (o : Outcome) → Derivation (power g) g source none 200 0 (m .tokens) o → verdict o ≡ tree ts → Kept s (m .tokens)
       by (done us p ys) z e = tree-kept (a .valid) (m .kept) (m .told) z
       by (broken n p ys x) z e = absurd (no-tree e)
 
@@ -112,8 +112,8 @@ module _ {g : ℕ} {s out : List ℕ} {c : Cursor} {a : Answer} {out′ : List �
   from-start : {xs : List Token} → Left s 0 xs → Left s (c .at) xs
   from-start {xs} l = subst⁻¹ (λ (p : ℕ). Left s p xs) (at .0) l
 
-  to-start : {xs : List Token} {o : Outcome} → Derived (power g) g source none 200 (c .at) xs o → Derived (power g) g source none 200 0 xs o
-  to-start {xs} {o} r = subst (λ (p : ℕ). Derived (power g) g source none 200 p xs o) (at .0) r
+  to-start : {xs : List Token} {o : Outcome} → Derivation (power g) g source none 200 (c .at) xs o → Derivation (power g) g source none 200 0 xs o
+  to-start {xs} {o} r = subst (λ (p : ℕ). Derivation (power g) g source none 200 p xs o) (at .0) r
 
   -- broken off
   module _ {r : Refusal} (q : a ≡ Broken r) where
