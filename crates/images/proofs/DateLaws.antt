@@ -11,16 +11,15 @@ use borrow.Author.Tests.{eqb-true, eqb-false, eq-eqb, ne-eqb}
 use Rattle.grammar.specs.Tags.{INFIX}
 use Rattle.grammar.specs.Trees.{Field, span, Trees, tree, _⊕_}
 use Rattle.grammar.specs.Records.{Spans, Form}
-use Rattle.grammar.specs.Layout.{Layout, layout-of, Tells}
 use Rattle.grammar.proofs.LayoutLaws.{form-laid}
 use Rattle.images.specs.Images.{Age, old, new, dated, Row}
 use Rattle.images.specs.Inner.{Dating, dates}
 use Rattle.images.proofs.RowLaws.{Over, row-more, row-less, dated-other}
-use Rattle.images.proofs.StepLaws.{age-of, dates-other, dates-infix, infix-layout, told-laid, two-laid}
+use Rattle.images.proofs.StepLaws.{age-of, dates-other, dates-infix, infix-laid, two-laid}
 
 -- An infix record has two fields, the span included that an old one lacks.
 two-fields : (g : Age) {tag : ℕ} {fields : List Field} {cs : Trees} → tag ≡ INFIX → Over g tag fields cs → length (dated g tag fields) ≡ 2
-two-fields g {tag} {fields} e o = two-laid (told-laid (subst (λ (l : Layout). Tells l (dated g tag fields) (length (o .wanted))) (ap layout-of e ∙ infix-layout) (form-laid (o .form))) .1) .0
+two-fields g e o = two-laid (infix-laid e (form-laid (o .form)) .1) .0
 
 old-length : {tag : ℕ} {fields : List Field} {cs : Trees} → tag ≡ INFIX → Over old tag fields cs → length fields ≡ 1
 unfolding dated

@@ -22,7 +22,7 @@ use Rattle.images.specs.Images.{Age, old, new, dated, Row, Stands, More}
 use Rattle.images.specs.Inner.{sort-of}
 use Rattle.images.proofs.EntryLaws.{entry-there}
 use Rattle.images.proofs.RowLaws.{tags, tags-count, dated-other, row-less}
-use Rattle.images.proofs.StepLaws.{infix-layout, told-laid, OldFields, old-fields, zero-laid, new-length}
+use Rattle.images.proofs.StepLaws.{infix-laid, OldFields, old-fields, zero-laid, new-length}
 
 -- ── Fields by their bytes ─────────────────────────────────────────────────────────────────────────
 
@@ -63,9 +63,6 @@ told-alike : {l : Layout} {fs gs : List Field} {m n : ℕ} → Tells l fs m → 
 told-alike (tells {own = own} l) (tells k) e = let x = laid-once l k e in (x .0, ap (λ (i : ℕ). own + i) (x .1))
 
 -- ── Infix records, old and new ────────────────────────────────────────────────────────────────────
-
-pub infix-laid : {tag n : ℕ} {fs : List Field} → tag ≡ INFIX → Tells (layout-of tag) fs n → (m : ℕ) × Laid (below 20 ∷ place ∷ []) fs m × (2 + m ≡ n)
-infix-laid {tag} {n} {fs} e t = told-laid (subst (λ (l : Layout). Tells l fs n) (ap layout-of e ∙ infix-layout) t)
 
 pub old-infix : (tag : ℕ) (fs : List Field) {n : ℕ} → tag ≡ INFIX → Tells (layout-of tag) (dated old tag fs) n → OldFields fs × (n ≡ 2)
 unfolding dated

@@ -24,7 +24,8 @@ use Rattle.images.specs.Images.{Age, old, new, dated, dated-trees, Row, 
 use Rattle.images.specs.Children.{Record, root-numbers, Holds}
 use Rattle.images.specs.Unmarked.{operator-alone, unmarked-fields, unmarked, infix-length, AcceptedAs}
 use Rattle.images.proofs.RowLaws.{dated-other}
-use Rattle.images.proofs.Determined.{infix-laid, old-infix, old-size, new-size}
+use Rattle.images.proofs.StepLaws.{infix-laid}
+use Rattle.images.proofs.Determined.{old-infix, old-size, new-size}
 use Rattle.images.proofs.Sole.{accepted-row}
 
 -- ── Records ───────────────────────────────────────────────────────────────────────────────────────

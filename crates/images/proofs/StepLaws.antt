@@ -85,6 +85,10 @@ infix-layout = refl
 pub told-laid : {own n : ℕ} {ps : List Part} {fs : List Field} → Tells (layout own ps) fs n → (m : ℕ) × Laid ps fs m × (own + m ≡ n)
 told-laid (tells l) = (_, l, refl)
 
+-- an infix record: its byte and its place
+pub infix-laid : {tag n : ℕ} {fs : List Field} → tag ≡ INFIX → Tells (layout-of tag) fs n → (m : ℕ) × Laid (below 20 ∷ place ∷ []) fs m × (2 + m ≡ n)
+infix-laid {tag} {n} {fs} e t = told-laid (subst (λ (l : Layout). Tells l fs n) (ap layout-of e ∙ infix-layout) t)
+
 -- an old infix record: one byte
 pub record OldFields (fs : List Field) : Type 0 where
   pub operator : ℕ

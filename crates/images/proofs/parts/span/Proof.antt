@@ -1,15 +1,10 @@
 -- `parts::span` meets its contract.
 -- Assumes nothing.
-use mathlib.Core.Path.{_≡_, refl, sym, ap, _∙_}
 use native.Mathlib.Omega.{arith}
 use borrow.Author.Needs.{needs}
 use Rattle.images.proofs.CodeLaws.{span-of, span-back}
-use Rattle.images.proofs.CodeLaws.{span-forward, span-backward}
 use Rattle.images.proofs.parts.span.Statement.{statement}
 use Rattle.images.proofs.parts.span.Tie as tie
-
--- `parts::span` meets its contract.
--- Assumes nothing.
 
 number-requires : tie.Need-number-requires
 number-requires c κs = search needs
