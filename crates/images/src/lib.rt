@@ -30,7 +30,8 @@ pub enum Answer {
     Short(usize), // 24: the array is too short; the count of numbers needed
 }
 
-fn clear(links: &mut [usize])
+// What a refusal leaves in an array that was lent: zeros.
+pub fn clear(links: &mut [usize])
     ensures { λ r. ⌜ now (links .exit) ≡ replicate (length (now (links .entry))) 0 ⌝ }
 {
     let mut i = 0;

@@ -12,6 +12,7 @@ mod members; // what an object's own fields raise
 use crate::members::Found;
 use crate::members::listing;
 pub use fields::numbers;
+use images::clear;
 
 // What becomes of an image. 02's numbers stand beside the cases; 13 to 16 and 24 are `images::back`'s.
 pub enum Answer {
@@ -22,16 +23,6 @@ pub enum Answer {
     Underived(usize), // 16
     ListShort(usize), // 21: the list is too short; the count of listings
     Short(usize), // 24: the array is too short; the count of numbers needed
-}
-
-fn clear(list: &mut [usize])
-    ensures { λ _. ⌜ now (list .exit) ≡ replicate (length (now (list .entry))) 0 ⌝ }
-{
-    let mut i = 0;
-    while i < list.len() {
-        list[i] = 0;
-        i += 1;
-    }
 }
 
 // One listing behind so many others, if it has room.
