@@ -50,6 +50,25 @@ typedef struct {
    at most 16 bytes for each byte of its source. Reading recurses, at most 200 levels deep: 512 KiB of stack are enough. */
 void matigelo_read(uint64_t setting, const uint8_t *source, size_t source_length, uint8_t *output, size_t output_length, matigelo_answer *answer);
 
+/* What is said of a station's text, in the fields of matigelo_answer.
+
+   number of a text                                start and end; length
+    0  a tree, its image is in the output          length of the image
+    2  a text above 65,000 bytes
+    3  not UTF-8                                   start = end = bytes valid so far
+   11  deeper than 200                             start = end = where the value or number begins
+   12  a tree, but its image has no room           length that is needed
+   17  a number that no double holds               the number without its minus sign
+   19  not JSON                                    start = end = the first byte where no JSON text goes on
+
+   2 and 3 come first, 12 last, the others as the reading meets them. */
+
+/* Reads text_length bytes from text as JSON (RFC 8259). Image and output are as matigelo_read has them: objects keep their names in order, also one
+   that comes twice, and a negative number is the prefix minus over a number. A text that both take has the same image from both. Strings may have \/,
+   and may have no lone half of a pair and no control character that is not escaped.
+   What is said of pointers and lengths above holds here too. Nothing recurses. */
+void matigelo_json(const uint8_t *text, size_t text_length, uint8_t *output, size_t output_length, matigelo_answer *answer);
+
 /* Reads a night's files in one call. They stand one behind the other in sources; ends says where each ends, counted from the start of sources, and
    parts where its part of output ends. Answer and part of each file are what matigelo_read gives for that source, setting and part; a refused file
    affects no other. The answers go to answers, five numbers for each file in the order of matigelo_answer.

@@ -17,6 +17,17 @@ An image that comes from elsewhere is read back; no byte of it is trusted.
     >>> print(matigelo.back(b"\\x02\\x00\\x00\\xff"))
     13: no record has this tag, at byte 3
 
+A station's text, JSON (RFC 8259), is read to the same tree.
+
+    >>> print(matigelo.json(b'{"level": -1.5}').show())
+    object count=1
+      field span=(1, 8) computed=False plus=False method=False parameters=0 visibility=0
+        string text='level'
+        prefix operator=1
+          number text='1.5'
+    >>> print(matigelo.json(b"[1,]"))
+    19: no JSON text goes on there, at bytes 3 to 3
+
 Every answer is the proved reader's (crates/matigelo). The shared library is made by `bindings/test`, or by hand:
 
     rt staticlib matigelo
@@ -39,7 +50,7 @@ EXP_OBJECT_ITERATION = 2
 EXP_NULL_COAELSE = 4
 PUBLISHED_SIGNS = 8
 
-# Why a source is refused: a line for each number, as in crates/grammar/src/numbers.rt.
+# Why a source or a station's text is refused: a line for each number, as in crates/grammar/src/numbers.rt; behind them what crates/json has of its own.
 NUMBERS = {
     1: "the setting is above 15",
     2: "the source is longer than 65,000 bytes",
@@ -53,6 +64,7 @@ NUMBERS = {
     11: "phrases would nest 201 deep",
     12: "the image is longer than the output",
     17: "a number is more than a double holds",
+    19: "no JSON text goes on there",
 }
 
 # Why an image is refused: a line for each number, as in crates/images/specs/Numbers.antt.
@@ -113,7 +125,7 @@ RAISES = ("undecided", "mass", "depth")
 
 @dataclass(frozen=True)
 class Refusal:
-    """A source that has no tree. `start` and `end` are bytes of the source; what `detail` says is in README.md's table of refusals."""
+    """A source or a station's text that has no tree. `start` and `end` are bytes of the source; what `detail` says is in README.md's table of refusals."""
 
     number: int
     start: int
@@ -176,6 +188,8 @@ def _library() -> ctypes.CDLL:
     library = ctypes.CDLL(name)
     library.matigelo_read.restype = None
     library.matigelo_read.argtypes = [ctypes.c_uint64, ctypes.c_char_p, ctypes.c_size_t, ctypes.c_void_p, ctypes.c_size_t, ctypes.POINTER(ctypes.c_uint64 * 5)]
+    library.matigelo_json.restype = None
+    library.matigelo_json.argtypes = library.matigelo_read.argtypes[1:]
     library.matigelo_back.restype = None
     library.matigelo_back.argtypes = [ctypes.c_char_p, ctypes.c_size_t, ctypes.c_void_p, ctypes.c_size_t, ctypes.POINTER(ctypes.c_uint64 * 3)]
     library.matigelo_mass.restype = None
@@ -203,6 +217,26 @@ def image(source: bytes, setting: int = 0) -> Union[bytes, Refusal]:
 def read(source: bytes, setting: int = 0) -> Union[Tree, Refusal]:
     """The tree of a source under a setting, or why it has none."""
     read_image = image(source, setting)
+    return read_image if isinstance(read_image, Refusal) else back(read_image)
+
+
+def json_answer(text: bytes, room: int) -> tuple[tuple[int, int, int, int, int], bytes]:
+    """The five numbers of a station's text, and all bytes of an output of so much room."""
+    output = ctypes.create_string_buffer(b"\xaa" * room, room) if room else None
+    numbers = (ctypes.c_uint64 * 5)()
+    _LIBRARY.matigelo_json(text, len(text), output, room, ctypes.byref(numbers))
+    return tuple(numbers), output.raw if output else b""
+
+
+def json_image(text: bytes) -> Union[bytes, Refusal]:
+    """The image of a station's text, JSON, as README.md describes it."""
+    numbers, output = json_answer(bytes(text), IMAGE_FACTOR * min(len(text), LONGEST_SOURCE))
+    return output[: numbers[4]] if numbers[0] == 0 else Refusal(*numbers[:4])
+
+
+def json(text: bytes) -> Union[Tree, Refusal]:
+    """The tree of a station's text, or why it has none."""
+    read_image = json_image(text)
     return read_image if isinstance(read_image, Refusal) else back(read_image)
 
 

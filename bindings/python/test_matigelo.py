@@ -1,4 +1,4 @@
-"""Parts of the judge's lists of answers (vectors/sources.txt, vectors/back.txt), the example of matigelo.py, and trees."""
+"""Parts of the judge's lists of answers (vectors/sources.txt, vectors/json.txt, vectors/back.txt), the example of matigelo.py, and trees."""
 import ctypes
 import doctest
 import os
@@ -31,6 +31,26 @@ class Answers(unittest.TestCase):
                 seen += 1
         self.assertGreater(seen, 1_500)
         self.assertGreater(trees, 400)
+
+    def test_texts(self) -> None:
+        seen = 0
+        with open(os.path.join(VECTORS, "json.txt")) as lines:
+            for line in lines:
+                words = line.split()
+                numbers, output = matigelo.json_answer(unhex(words[2]), int(words[1]))
+                self.assertEqual(list(numbers), [int(w) for w in words[3:8]], line[:200])
+                image = unhex(words[8])
+                self.assertEqual(output, image + bytes(int(words[1]) - len(image)), line[:200])
+                seen += 1
+        self.assertGreater(seen, 4_000)
+
+    def test_json(self) -> None:
+        text = b'{"bays": [1, -2], "open": true}'
+        self.assertEqual(matigelo.json(text), matigelo.read(text))
+        self.assertEqual(matigelo.json(b'"\\/"').parts, {"text": "/"})
+        self.assertEqual(matigelo.read(b'"\\/"'), matigelo.Refusal(9, 0, 4, 1))
+        self.assertEqual(matigelo.json(b" " * 65_001), matigelo.Refusal(2, 0, 0, 0))
+        self.assertEqual(matigelo.json(b"[" * 201), matigelo.Refusal(11, 200, 200, 0))
 
     def test_images(self) -> None:
         seen = 0

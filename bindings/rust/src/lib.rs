@@ -24,7 +24,16 @@
 //! assert_eq!(records.children(records.root()).map(|r| image[records.offset(r)]).collect::<Vec<_>>(), [13]);
 //! ```
 //!
-//! Reading a source recurses, at most 200 levels deep: a thread of your own needs 512 KiB of stack. Reading an image back does not.
+//! A station's text, JSON (RFC 8259), is read to the same image by [`json`].
+//!
+//! ```
+//! # let (mut output, mut other) = ([0u8; 64], [0u8; 64]);
+//! assert_eq!(matigelo::json(b"[-1]", &mut output), matigelo::read(0, b"[-1]", &mut other));
+//! let refusal = matigelo::json(b"[1,]", &mut output).unwrap_err();
+//! assert_eq!((refusal.why, refusal.place), (matigelo::Why::NotJson, 3..3));
+//! ```
+//!
+//! Reading a source recurses, at most 200 levels deep: a thread of your own needs 512 KiB of stack. Reading an image back, or JSON, does not.
 
 use std::error::Error;
 use std::fmt;
@@ -36,6 +45,13 @@ mod entry {
             setting: u64,
             source: *const u8,
             source_length: usize,
+            output: *mut u8,
+            output_length: usize,
+            answer: *mut [u64; 5],
+        );
+        pub fn matigelo_json(
+            text: *const u8,
+            text_length: usize,
             output: *mut u8,
             output_length: usize,
             answer: *mut [u64; 5],
@@ -79,7 +95,7 @@ pub const IMAGE_FACTOR: usize = 16;
 
 macro_rules! numbers {
     ($($number:literal $name:ident $words:literal)*) => {
-        /// Why a source is refused: the README's table of refusals, "given when".
+        /// Why a source or a station's text is refused: the README's tables of refusals, "given when".
         #[derive(Clone, Copy, Debug, PartialEq, Eq, Hash)]
         #[non_exhaustive]
         pub enum Why {
@@ -110,7 +126,7 @@ macro_rules! numbers {
     };
 }
 
-// a line for each number, as in crates/grammar/src/numbers.rt
+// a line for each number, as in crates/grammar/src/numbers.rt; behind them what crates/json has of its own
 numbers! {
     1 Setting "the setting is above 15"
     2 Long "the source is longer than 65,000 bytes"
@@ -124,6 +140,7 @@ numbers! {
     11 Deep "phrases would nest 201 deep"
     12 Room "the image is longer than the output"
     17 Large "a number is more than a double holds"
+    19 NotJson "no JSON text goes on there"
 }
 
 /// A source that has no tree, or whose image has no room.
@@ -172,6 +189,11 @@ pub fn read<'o>(setting: u64, source: &[u8], output: &'o mut [u8]) -> Result<&'o
             &mut answer,
         );
     }
+    answered(answer, output)
+}
+
+/// The image that an answer has left in the output, or the refusal that it is.
+fn answered(answer: [u64; 5], output: &[u8]) -> Result<&[u8], Refusal> {
     let [number, start, end, detail, length] = answer;
     if number == 0 {
         return Ok(&output[..length as usize]);
@@ -180,6 +202,22 @@ pub fn read<'o>(setting: u64, source: &[u8], output: &'o mut [u8]) -> Result<&'o
         panic!("the linked library gives number {number}, which this crate does not know")
     });
     Err(Refusal { why, place: start as usize..end as usize, detail, needed: length as usize })
+}
+
+/// Reads a station's text, JSON, into a lent output, which is left as [`read`] leaves it. Every text and output has an answer, and nothing recurses.
+pub fn json<'o>(text: &[u8], output: &'o mut [u8]) -> Result<&'o [u8], Refusal> {
+    let mut answer = [0u64; 5];
+    // SAFETY: as for `read`.
+    unsafe {
+        entry::matigelo_json(
+            text.as_ptr(),
+            text.len(),
+            output.as_mut_ptr(),
+            output.len(),
+            &mut answer,
+        );
+    }
+    answered(answer, output)
 }
 
 /// The same with an output that has room for every image.

@@ -1,5 +1,7 @@
-//! Parts of the judge's lists of answers (vectors/sources.txt, vectors/back.txt), and what the types promise beside them.
-use matigelo::{back, links_for, mass, read, read_to_vec, BadImage, Fault, Listing, Raises, Why};
+//! Parts of the judge's lists of answers (vectors/sources.txt, vectors/json.txt, vectors/back.txt), and what the types promise beside them.
+use matigelo::{
+    back, json, links_for, mass, read, read_to_vec, BadImage, Fault, Listing, Raises, Refusal, Why,
+};
 use std::error::Error;
 
 fn bytes(hex: &str) -> Vec<u8> {
@@ -24,27 +26,47 @@ fn answers_are_the_judges() {
         let setting: u64 = words[0].parse().unwrap();
         let numbers: Vec<u64> = words[3..8].iter().map(|w| w.parse().unwrap()).collect();
         let mut output = vec![0xAA; words[1].parse().unwrap()];
-        let length = match read(setting, &bytes(words[2]), &mut output) {
-            Ok(image) => {
-                assert_eq!((numbers[0], image), (0, &bytes(words[8])[..]), "{line}");
-                image.len()
-            }
-            Err(r) => {
-                let told = [
-                    r.why.number(),
-                    r.place.start as u64,
-                    r.place.end as u64,
-                    r.detail,
-                    r.needed as u64,
-                ];
-                assert_eq!(told[..], numbers[..], "{line}");
-                0
-            }
-        };
+        let length = agreed(&numbers, words[8], read(setting, &bytes(words[2]), &mut output), line);
         assert!(output[length..].iter().all(|b| *b == 0), "zeros behind the image: {line}");
         seen += 1;
     }
     assert!(seen > 2_000, "only {seen} lines");
+}
+
+/// Holds an answer to the judge's five numbers and image; the image's length.
+fn agreed(numbers: &[u64], image: &str, answer: Result<&[u8], Refusal>, line: &str) -> usize {
+    match answer {
+        Ok(read) => {
+            assert_eq!((numbers[0], read), (0, &bytes(image)[..]), "{line}");
+            read.len()
+        }
+        Err(r) => {
+            let told = [
+                r.why.number(),
+                r.place.start as u64,
+                r.place.end as u64,
+                r.detail,
+                r.needed as u64,
+            ];
+            assert_eq!(told[..], numbers[..], "{line}");
+            0
+        }
+    }
+}
+
+#[test]
+fn texts_are_the_judges() {
+    let list = list("json.txt");
+    let mut seen = 0;
+    for line in list.lines() {
+        let words: Vec<&str> = line.split(' ').collect();
+        let numbers: Vec<u64> = words[3..8].iter().map(|w| w.parse().unwrap()).collect();
+        let mut output = vec![0xAA; words[1].parse().unwrap()];
+        let length = agreed(&numbers, words[8], json(&bytes(words[2]), &mut output), line);
+        assert!(output[length..].iter().all(|b| *b == 0), "zeros behind the image: {line}");
+        seen += 1;
+    }
+    assert!(seen > 4_000, "only {seen} lines");
 }
 
 #[test]
@@ -54,6 +76,8 @@ fn nothing_in_and_no_room() {
     assert_eq!((refusal.why, refusal.needed), (Why::Room, 4));
     assert_eq!(read_to_vec(0, b"1").unwrap(), [4, 0, 1, b'1']);
     assert_eq!(read_to_vec(0, &vec![b' '; 65_001]).unwrap_err().why, Why::Long);
+    assert_eq!(json(&[], &mut []).unwrap_err().why, Why::NotJson);
+    assert_eq!(json(b"1", &mut []).unwrap_err().needed, 4);
 }
 
 #[test]

@@ -1,4 +1,6 @@
 // What `readtree` prints for each of the files that the arguments name.
+use desk::Language;
+
 fn read_file(i: usize) {
     let mut path = io::buffer();
     let n = os::arg(i, &mut path);
@@ -7,7 +9,7 @@ fn read_file(i: usize) {
         os::fail(&path[..n]);
         return;
     }
-    desk::tree::readtree(fd, &path[..n], 0);
+    desk::tree::readtree(fd, &path[..n], Language::Jsonnet(0));
     libc::close(fd);
 }
 

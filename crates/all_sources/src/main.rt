@@ -3,6 +3,7 @@
 mod files;
 
 ghost use Rattle.io.specs.Counts.{Counts};
+use desk::Language;
 use desk::questions;
 use desk::text::put;
 use libc::STDOUT_FILENO;
@@ -63,7 +64,7 @@ fn put_source(source: &mut [u8], length: usize, n: usize) -> usize
 fn fed_answer(h: u64, setting: u64, source: &[u8]) -> u64 {
     let mut output = [0u8; OUTPUT];
     let mut text = [0u8; TEXT];
-    let n = questions::answer_into(setting, source, &mut output, &mut text);
+    let n = questions::answer_into(Language::Jsonnet(setting), source, &mut output, &mut text);
     sums::fed_all(h, &text[..n])
 }
 

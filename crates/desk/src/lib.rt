@@ -11,10 +11,37 @@ pub mod tree; // what `readtree` does
 
 pub use reader::Fields;
 
+// What a file is written in.
+pub enum Language {
+    Jsonnet(u64), // under a setting
+    Json,
+}
+
 // The whole answer to a source, in document 01's numbers.
 pub fn answer(setting: u64, source: &[u8], output: &mut [u8]) -> Fields {
     let reading = reader::read(setting, source, output);
     reader::numbers(reading)
+}
+
+// The whole answer to a station's text, in document 02's numbers.
+pub fn answer_json(text: &[u8], output: &mut [u8]) -> Fields {
+    let importing = json::read_json(text, output);
+    let f = json::numbers(importing);
+    Fields {
+        number: f.number,
+        start: f.start,
+        end: f.end,
+        detail: f.detail,
+        length: f.length,
+    }
+}
+
+// The whole answer to a file in either language.
+pub fn answer_in(language: Language, source: &[u8], output: &mut [u8]) -> Fields {
+    match language {
+        Language::Jsonnet(setting) => answer(setting, source, output),
+        Language::Json => answer_json(source, output),
+    }
 }
 
 // The first bytes of an output, as many as it has.

@@ -1,8 +1,10 @@
 // The words that a program is started with. `-s 4` or `-s4` gives a setting, `-o NAME` a file to write and `--image NAME` a file that is an image;
-// `--depth N` and `--at LINE:COLUMN` tell how much of a tree is shown, and `--colour` that it has colours. Behind `--` every word is a file, and `-` is
-// standard input. Words are taken one by one, so that an option holds for the files after it.
+// `--depth N` and `--at LINE:COLUMN` tell how much of a tree is shown, and `--colour` that it has colours; `--json` that files are JSON, which a
+// setting behind it takes back. Behind `--` every word is a file, and `-` is standard input. Words are taken one by one, so that an option holds for the
+// files after it.
 ghost use Prim.Native.Nat.{_≤_};
 ghost use lib.ListN.{length};
+use crate::Language;
 use libc::STDERR_FILENO;
 
 // What can be wrong with a word.
@@ -36,9 +38,11 @@ pub struct Options {
     pub line: usize, // of the place around which is shown, 0 where all is
     pub column: usize,
     pub colours: bool,
+    pub json: bool, // whether files are JSON
     pub several: bool, // whether more than one file is named
     pub fault: u8, // what is wrong
     writes: bool, // whether the program takes `-o`
+    sets: bool, // whether it takes `-s`
     shows: bool, // whether it takes the options of trees
     awaited: u8, // the letter of the option that the next word belongs to, or 0
     plain: bool, // whether `--` has stood
@@ -118,9 +122,11 @@ impl Options {
             line: 0,
             column: 0,
             colours: false,
+            json: false,
             several: false,
             fault: NOTHING,
             writes: writes,
+            sets: true,
             shows: false,
             awaited: 0,
             plain: false,
@@ -135,6 +141,22 @@ impl Options {
         options
     }
 
+    // Those of a program that reads JSON alone and may write an image.
+    pub fn for_json() -> Self {
+        let mut options = Self::new(true);
+        options.json = true;
+        options.sets = false;
+        options
+    }
+
+    // What files are written in.
+    pub fn language(self) -> Language {
+        if self.json {
+            return Language::Json;
+        }
+        Language::Jsonnet(self.setting)
+    }
+
     fn with_fault(mut self, fault: u8) -> Self {
         self.fault = fault;
         self
@@ -146,6 +168,7 @@ impl Options {
             return self.with_fault(SETTING);
         }
         self.setting = setting;
+        self.json = false;
         self
     }
 
@@ -201,7 +224,7 @@ impl Options {
 
     // An option's letter, and the rest of its word where there is one.
     fn with_letter(mut self, i: usize, letter: u8, rest: &[u8]) -> Self {
-        if letter != b's' && (letter != b'o' || !self.writes) {
+        if (letter != b's' || !self.sets) && (letter != b'o' || !self.writes) {
             return self.with_fault(UNKNOWN);
         }
         if rest.len() == 0 {
@@ -248,6 +271,10 @@ impl Options {
         }
         if check::same(word, b"--at") {
             self.awaited = b'a';
+            return self;
+        }
+        if check::same(word, b"--json") {
+            self.json = true;
             return self;
         }
         if check::same(word, b"--colour") {

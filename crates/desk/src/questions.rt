@@ -3,9 +3,11 @@
 //     night SETTING ENDS OUTENDS OUTLEN ANSWERLEN HEXSOURCES
 //     back HEXIMAGE
 //     mass LISTLEN HEXIMAGE
+//     json OUTLEN HEXTEXT
 ghost use Prim.Native.Nat.{_≤_};
 ghost use Rattle.io.specs.Counts.{Counts};
 use crate::Fields;
+use crate::Language;
 use crate::backs;
 use crate::masses;
 use crate::nights;
@@ -43,6 +45,8 @@ const NIGHT_FORM: u64 = 0x6E_6967_6874;
 const BACK_FORM: u64 = 0x6261_636B;
 
 const MASS_FORM: u64 = 0x6D61_7373;
+
+const JSON_FORM: u64 = 0x6A73_6F6E;
 
 // The field that a question has come to.
 const WORD: u8 = 0; // in the form's word
@@ -132,6 +136,13 @@ fn next(form: u64, stage: u8) -> u8 {
             _ => BAD,
         };
     }
+    if form == JSON_FORM {
+        return match stage {
+            WORD => ROOM,
+            ROOM => BYTES,
+            _ => BAD,
+        };
+    }
     if form != SOURCE_FORM {
         return BAD;
     }
@@ -173,6 +184,14 @@ impl Question {
 
     fn is_whole(self) -> bool {
         self.stage == BYTES && self.begun && self.high == NO_DIGIT
+    }
+
+    // Of a source or a station's text, what it is written in.
+    fn language(self) -> Language {
+        if self.form == JSON_FORM {
+            return Language::Json;
+        }
+        Language::Jsonnet(self.setting)
     }
 
     // An element of a list that has ended.
@@ -410,12 +429,12 @@ fn told(f: Fields, output: &[u8], text: &mut [u8]) -> usize
     put_hex_line(text, n, image)
 }
 
-// The answer's line for a source.
-pub fn answer_into(setting: u64, source: &[u8], output: &mut [u8], text: &mut [u8]) -> usize
+// The answer's line for a source or a station's text.
+pub fn answer_into(language: Language, source: &[u8], output: &mut [u8], text: &mut [u8]) -> usize
     ensures { λ r. ⌜ Counts r (now (text .exit)) ⌝ }
 {
     smear(output);
-    let f = crate::answer(setting, source, output);
+    let f = crate::answer_in(language, source, output);
     told(f, output, text)
 }
 
@@ -543,5 +562,5 @@ pub fn answer(
     if q.form == MASS_FORM {
         return answer_mass(q, &source[..length], links, lists, text);
     }
-    answer_into(q.setting, &source[..length], &mut output[..room], text)
+    answer_into(q.language(), &source[..length], &mut output[..room], text)
 }

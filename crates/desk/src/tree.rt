@@ -1,11 +1,16 @@
-// What `readtree` does: a source read, and the answer as document 01 has it printed; or its image in a file.
+// What `readtree` and `readjson` do: a file read, and the answer as document 01 has it printed; or its image in a file.
 ghost use Rattle.io.specs.Counts.{Counts};
 use crate::Fields;
+use crate::Language;
 use crate::input::take;
+use crate::options;
+use crate::options::Options;
 use crate::status;
 use crate::text::put;
 use crate::text::put_field;
 use crate::text::put_hex_line;
+use libc::STDERR_FILENO;
+use libc::STDIN_FILENO;
 use libc::STDOUT_FILENO;
 
 // One byte more than a source may have, so that a longer one is seen as longer.
@@ -72,7 +77,7 @@ fn print(text: &[u8], status: u8) -> u8 {
 
 // Reads all of a file and prints the answer with the image in hex; of a file that cannot be read to its end nothing is told. The status is
 // handed back.
-pub fn readtree(fd: i32, name: &[u8], setting: u64) -> u8 {
+pub fn readtree(fd: i32, name: &[u8], language: Language) -> u8 {
     let mut source = [0u8; SOURCE];
     let taken = take(fd, &mut source);
     if !taken.whole {
@@ -81,7 +86,7 @@ pub fn readtree(fd: i32, name: &[u8], setting: u64) -> u8 {
     }
     let n = taken.length;
     let mut output = [0u8; OUTPUT];
-    let f = crate::answer(setting, &source[..n], &mut output);
+    let f = crate::answer_in(language, &source[..n], &mut output);
     let mut text = [0u8; TEXT];
     let m = told(f, &output, &mut text);
     print(&text[..m], status_of(f))
@@ -98,8 +103,8 @@ fn save(name: &[u8], bytes: &[u8]) -> bool {
     written && closed == 0
 }
 
-fn save_tree(setting: u64, source: &[u8], output: &mut [u8], image: &[u8]) -> u8 {
-    let f = crate::answer(setting, source, output);
+fn save_tree(language: Language, source: &[u8], output: &mut [u8], image: &[u8]) -> u8 {
+    let f = crate::answer_in(language, source, output);
     let mut text = [0u8; LINE];
     if f.number != 0 {
         let n = refused(f, &mut text);
@@ -114,12 +119,12 @@ fn save_tree(setting: u64, source: &[u8], output: &mut [u8], image: &[u8]) -> u8
 }
 
 // The buffer comes as a reference to an array: a proof that lent it as a slice where it is made would count its bytes one by one.
-fn save_with(setting: u64, source: &[u8], output: &mut [u8; LARGEST], image: &[u8]) -> u8 {
-    save_tree(setting, source, output, image)
+fn save_with(language: Language, source: &[u8], output: &mut [u8; LARGEST], image: &[u8]) -> u8 {
+    save_tree(language, source, output, image)
 }
 
 // The same with the image's bytes in a file of their own, which a refusal leaves as it was.
-pub fn readtree_into(fd: i32, name: &[u8], setting: u64, image: &[u8]) -> u8 {
+fn readtree_into(fd: i32, name: &[u8], language: Language, image: &[u8]) -> u8 {
     let mut source = [0u8; SOURCE];
     let taken = take(fd, &mut source);
     if !taken.whole {
@@ -128,5 +133,63 @@ pub fn readtree_into(fd: i32, name: &[u8], setting: u64, image: &[u8]) -> u8 {
     }
     let n = taken.length;
     let mut output = [0u8; LARGEST];
-    save_with(setting, &source[..n], &mut output, image)
+    save_with(language, &source[..n], &mut output, image)
+}
+
+// The options that hold behind the last word.
+fn take_words(first: Options) -> Options {
+    let mut o = first;
+    for i in status::first_argument()..os::arg_count() {
+        let mut word = io::buffer();
+        let n = os::arg(i, &mut word);
+        o = o.with(i, &word[..n]);
+        if o.fault != options::NOTHING {
+            return o;
+        }
+    }
+    o.ended()
+}
+
+fn read(fd: i32, name: &[u8], o: Options) -> u8 {
+    if o.output == 0 {
+        return readtree(fd, name, o.language());
+    }
+    let mut word = io::buffer();
+    let n = os::arg(o.output, &mut word);
+    let from = o.output_from;
+    if n < from {
+        return status::FAILED;
+    }
+    readtree_into(fd, name, o.language(), &word[from..n])
+}
+
+fn read_file(o: Options) -> u8 {
+    let mut word = io::buffer();
+    let n = os::arg(o.file, &mut word);
+    if o.file == 0 || options::is_standard_input(&word[..n]) {
+        return read(STDIN_FILENO, b"standard input", o);
+    }
+    let fd = os::open_read(&word[..n]);
+    if fd < 0 {
+        os::fail(&word[..n]);
+        return status::FAILED;
+    }
+    let status = read(fd, &word[..n], o);
+    libc::close(fd);
+    status
+}
+
+// Reads the one file that the words name, or standard input, by the options that a program begins with.
+pub fn run(first: Options, program: &[u8]) -> u8 {
+    let o = take_words(first);
+    if o.fault != options::NOTHING {
+        o.complain(program);
+        return status::FAILED;
+    }
+    if o.more {
+        io::write_all(STDERR_FILENO, program);
+        io::write_all(STDERR_FILENO, b": one file is read at a time\n");
+        return status::FAILED;
+    }
+    read_file(o)
 }

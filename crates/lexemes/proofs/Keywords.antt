@@ -57,7 +57,7 @@ letterOf w = getD (wordText w) 0 0
 
 module _ (s : List ℕ) where
   -- A text is spelled, by its length and its bytes.
-  spells-from : (t : List ℕ) (i j : ℕ) → j ≡ i + length t → ((k : ℕ) → k < length t → getD s (i + k) 0 ≡ getD t k 0) → Spells s t i j
+  pub spells-from : (t : List ℕ) (i j : ℕ) → j ≡ i + length t → ((k : ℕ) → k < length t → getD s (i + k) 0 ≡ getD t k 0) → Spells s t i j
   unfolding Spells
   spells-from [] i j e f = omega arith
   spells-from (b ∷ bs) i j e f = (

@@ -3,6 +3,8 @@ ghost use lib.ListN.{length};
 ghost use Rattle.grammar.specs.Source.{Reads01};
 ghost use Rattle.reader.specs.Five.{five as five01};
 ghost use Rattle.night.specs.Night.{Night};
+ghost use Rattle.json.specs.Json.{ReadsJson};
+ghost use Rattle.json.specs.Importer.{five as five02};
 ghost use Rattle.matigelo.specs.Three.{three as three02, Back02, Mass02};
 
 // Reads a source under a setting into a lent output. The answer's five numbers: number, start, end, detail, length.
@@ -17,6 +19,16 @@ pub extern "C" fn matigelo_read(
 {
     let reading = reader::read(setting, source, output);
     let five = reader::five(reading);
+    *answer = five;
+}
+
+// Reads a station's text, JSON, into a lent output. The answer's five numbers are those of `matigelo_read`, and the image is that of the same tree.
+#[no_mangle]
+pub extern "C" fn matigelo_json(text: &[u8], output: &mut [u8], answer: &mut [u64; 5])
+    ensures { λ _. ⌜ ReadsJson (now (text .entry)) (length (now (output .entry))) (five02 (now (answer .exit))) (now (output .exit)) ⌝ }
+{
+    let importing = json::read_json(text, output);
+    let five = json::five(importing);
     *answer = five;
 }
 

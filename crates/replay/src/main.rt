@@ -1,7 +1,7 @@
 // Answers the judge's questions, a line each of the files that the arguments name, or of standard input where there is none: to `SETTING OUTLEN HEXSOURCE` by a line
 // `NUMBER START END DETAIL LENGTH HEXIMAGE`, to `night SETTING ENDS OUTENDS OUTLEN ANSWERLEN HEXSOURCES` by a line `NUMBER ANSWERS HEXOUTPUT`, to
-// `back HEXIMAGE` by a line `NUMBER OFFSET RECORDS PARTS COALESCES`, to `mass LISTLEN HEXIMAGE` by a line `NUMBER OFFSET COUNT LIST`, and by `bad` to a
-// line that is none.
+// `back HEXIMAGE` by a line `NUMBER OFFSET RECORDS PARTS COALESCES`, to `mass LISTLEN HEXIMAGE` by a line `NUMBER OFFSET COUNT LIST`, to `json OUTLEN HEXTEXT` as to
+// a source, and by `bad` to a line that is none.
 use desk::questions;
 use desk::questions::Question;
 use desk::status;

@@ -9,6 +9,8 @@ use images::Answer;
 use libc::STDIN_FILENO;
 use show::refusals::Refusal;
 
+mod stations; // what is wrong with a station's text
+
 // One byte more than a source may have, so that a longer one is seen as longer.
 const SOURCE: usize = 65_001;
 
@@ -29,7 +31,7 @@ struct Turn {
     status: u8,
 }
 
-fn tell(page: &mut [u8], name: &[u8], f: Fields, source: &[u8]) {
+fn tell(page: &mut [u8], name: &[u8], options: Options, f: Fields, source: &[u8]) {
     let refusal = Refusal {
         number: f.number,
         start: f.start,
@@ -37,6 +39,10 @@ fn tell(page: &mut [u8], name: &[u8], f: Fields, source: &[u8]) {
         detail: f.detail,
         length: f.length,
     };
+    if options.json {
+        stations::tell(page, name, refusal, source);
+        return;
+    }
     show::refusals::tell(page, name, refusal, source);
 }
 
@@ -113,9 +119,9 @@ fn show_source(
     links: &mut [usize],
     stack: &mut [usize],
 ) -> u8 {
-    let f = desk::answer(options.setting, source, output);
+    let f = desk::answer_in(options.language(), source, output);
     if f.number != 0 {
-        tell(page, name, f, source);
+        tell(page, name, options, f, source);
         return status::REFUSED;
     }
     show::places::find_places(source, places);

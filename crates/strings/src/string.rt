@@ -25,7 +25,8 @@ fn peek(s: &[u8], i: usize, k: usize) -> u8
     if at < s.len() { s[at] } else { 0 }
 }
 
-fn to_digit(b: u8) -> u32
+// The value of a hex digit, 16 for another byte.
+pub fn to_digit(b: u8) -> u32
     ensures { λ r. ⌜ Digit b r ⌝ }
 {
     match b {

@@ -45,7 +45,7 @@ fn tail(bits: u32) -> u8
 }
 
 // The UTF-8 of a code point from a place on, and the place after it.
-pub(crate) fn put_code(out: &mut [u8], at: usize, code: u32) -> usize
+pub fn put_code(out: &mut [u8], at: usize, code: u32) -> usize
     requires { ⌜ (code < 0x110000) × (at < 2 ^ 63) ⌝ }
     ensures { λ r. ⌜ (now (out .exit) ≡ sets (now (out .entry)) at (utf8 code)) × (r ≡ at + length (utf8 code)) ⌝ }
 {

@@ -7,10 +7,10 @@ use std::{
     process::ExitCode,
 };
 
-use judge::{back, exhaustive, generate, layers, mass, night, reader, stack};
+use judge::{back, exhaustive, generate, json, layers, mass, night, reader, stack};
 
-const USAGE: &str = "usage: judge [strings|blocks|lexemes|sources|night|back|mass]
-       judge generate strings|blocks|lexemes|sources|night|numbers|back|mass SEED COUNT
+const USAGE: &str = "usage: judge [strings|blocks|lexemes|sources|night|back|mass|json]
+       judge generate strings|blocks|lexemes|sources|night|numbers|back|mass|json SEED COUNT
        judge generate long
        judge exhaustive";
 
@@ -35,6 +35,7 @@ fn run(arguments: &[String]) -> Result<(), String> {
         ["night"] => answer_lines(night::line),
         ["back"] => answer_lines(back::line),
         ["mass"] => answer_lines(mass::line),
+        ["json"] => answer_lines(json::line),
         ["generate", what, seed, count] => {
             let seed = seed.parse().map_err(|e| format!("seed: {e}"))?;
             let count = count.parse().map_err(|e| format!("count: {e}"))?;

@@ -3,7 +3,7 @@
 
 use std::{collections::BTreeSet, fs};
 
-use judge::{back, generate, layers, mass, night, reader, stack};
+use judge::{back, generate, json, layers, mass, night, reader, stack};
 
 /// Compares a list whose input is the first `words` words of each line.
 fn check(name: &str, words: usize, answer: fn(&str) -> Result<String, String>) {
@@ -50,6 +50,11 @@ fn images() {
 #[test]
 fn masses() {
     check("mass", 3, mass::line);
+}
+
+#[test]
+fn texts() {
+    check("json", 3, json::line);
 }
 
 /// Only closers and the like are ever wanted, number 10 never comes, and neither do some kinds.

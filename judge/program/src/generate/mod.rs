@@ -5,6 +5,7 @@ mod blocks;
 mod damage;
 mod grammar;
 mod images;
+mod json;
 mod lexemes;
 mod mass;
 mod nights;
@@ -55,6 +56,7 @@ pub fn lines(what: &str, seed: u64, count: usize) -> Result<Vec<String>, String>
         "numbers" => (numbers::fixed, numbers::random),
         "back" => (images::fixed, images::random),
         "mass" => (mass::fixed, mass::random),
+        "json" => (json::fixed, json::random),
         _ => return Err(format!("nothing to generate for {what}")),
     };
     let mut lines = Lines::default();

@@ -13,6 +13,7 @@ pub fn fixed(_: &mut Lines) {}
 
 pub fn random(rng: &mut Rng) -> String {
     let literal = literal(rng);
+    let literal = if rng.once_in(4) { grouped(rng, &literal) } else { literal };
     let source = match rng.below(12) {
         0 => format!("-{literal}"),
         1 => format!("[1,{literal} ,2]"),
@@ -25,7 +26,7 @@ pub fn random(rng: &mut Rng) -> String {
 }
 
 /// Digits, a point somewhere, and an exponent that takes the digits back to about the limit's size.
-fn literal(rng: &mut Rng) -> String {
+pub fn literal(rng: &mut Rng) -> String {
     let digits = digits(rng);
     let size = match rng.below(8) {
         0 => 308,
@@ -40,13 +41,12 @@ fn literal(rng: &mut Rng) -> String {
         2 => (digits.len() + rng.below(most)) as i64,
         _ => rng.below(digits.len() + 1) as i64,
     };
-    let text = if rng.once_in(24) {
+    if rng.once_in(24) {
         let huge = rng.pick(&["18446744073709551", "4294967", "65", "999999999999999999999999"]);
         format!("{}e{}{huge}{}", placed(&digits, point), rng.pick(&["", "+", "-"]), rng.below(2000))
     } else {
         format!("{}{}", placed(&digits, point), exponent(rng, size - point))
-    };
-    if rng.once_in(4) { grouped(rng, &text) } else { text }
+    }
 }
 
 fn digits(rng: &mut Rng) -> String {

@@ -96,6 +96,9 @@ same-length-12 c = search needs
 returns-6 : tie.Need-returns-6
 returns-6 c = search needs
 
+language-requires : tie.Need-language-requires
+language-requires c κs = search needs
+
 slice-aggregate-answer-into : tie.Need-slice-aggregate-answer-into
 slice-aggregate-answer-into c = simp length-take (omega arith)
 
@@ -151,6 +154,7 @@ answer-spec =
     same-length-11
     same-length-12
     returns-6
+    language-requires
     slice-aggregate-answer-into
     slice-relend-prefix-answer-into
     slice-aggregate-answer-into-2

@@ -1,0 +1,4 @@
+pub mod Alone
+pub mod NumberAlone
+pub mod StringAlone
+pub mod Blanks
