@@ -54,3 +54,9 @@ module _ (prefix s : ℕ) (Ends : Open → ℕ → Type 0) (may : (q : Open) (k 
   unfolding Before After count
   expr-spells {m} {d} {p} {xs = xs} x =
       plain (rules prefix s Ends (suc d)) (spelled x (After (rules prefix s Ends d) (Phrase.expr m) xs) xs (keeps-production d (Phrase.expr m) p xs xs none fresh))
+
+  -- A MEMBER THAT IS READ AT DEPTH d IS SPELLED WITHIN d LEVELS.
+  pub member-spells : {d p r : ℕ} {xs ys : Lexemes} {us : Trees} → Reading prefix s (production prefix s Phrase.member p xs 0) none d p xs (done us r ys)
+      → Spells prefix s Ends d C.member xs us ys
+  unfolding Before After count
+  member-spells {d} {p} {xs = xs} x = spelled x (After (rules prefix s Ends d) Phrase.member xs) xs (keeps-production d Phrase.member p xs xs none fresh) .spelled

@@ -638,7 +638,7 @@ fn value(
 }
 
 // member: member.
-fn member(src: &[u8], out: &mut [u8], c: Cursor, w: usize, left: usize, set: u64) -> Answer
+pub fn member(src: &[u8], out: &mut [u8], c: Cursor, w: usize, left: usize, set: u64) -> Answer
     requires { ⌜ Ready (now src) c w ⌝ }
     ensures { λ r. ⌜ Takes set (now (src .entry)) (sub memberPhrase) 1 0 left c w (now (out .entry)) r (now (out .exit)) ⌝ }
 {
