@@ -7,7 +7,7 @@ use mathlib.Core.Logic.{inl, ⊎_elim}
 use Prim.Native.Nat.{ℕ}
 use lib.Dec.{eqb}
 use borrow.Author.Tests.{eqb-false}
-use Rattle.blocks.specs.Blocks.{Run, stop, more, InLine, there, Header, header, first, Lines, content, good, closed, another, Body, indented, Stands, after-header, joined, text, BlockText, means}
+use Rattle.blocks.specs.Blocks.{Run, stop, more, InLine, there, Header, header, first, Lines, content, good, closed, another, Body, indented, Stands, after_header, joined, text, BlockText, means}
 
 -- bytes of a line, tested one by one
 data Plain : List ℕ → Type 0 where
@@ -41,14 +41,14 @@ read =
     (content refl (line last (one refl (one refl (one refl (one refl (one refl Plain.none)))))) Lines.none))
     (another
     (record {
-      not-empty = λ r e. eqb-false 0x7C 0x0A refl (head-eq_of_cons-eq e);
-      not-content = λ r e. eqb-false 0x7C 0x20 refl (head-eq_of_cons-eq e);
+      not_empty = λ r e. eqb-false 0x7C 0x0A refl (head-eq_of_cons-eq e);
+      not_content = λ r e. eqb-false 0x7C 0x20 refl (head-eq_of_cons-eq e);
     })
     (stop (⊎_elim (eqb-false 0x7C 0x20 refl) (eqb-false 0x7C 0x09 refl))) closed)
 
-pub marked-reading-8 : Stands (0x2D ∷ 0x0A ∷ body) (good (mass ∷ depth ∷ [])) [] × BlockText (0x2D ∷ 0x0A ∷ body) (mass ++ 0x0A ∷ depth)
+pub marked_reading_8 : Stands (0x2D ∷ 0x0A ∷ body) (good (mass ∷ depth ∷ [])) [] × BlockText (0x2D ∷ 0x0A ∷ body) (mass ++ 0x0A ∷ depth)
 unfolding joined text
-marked-reading-8 =
+marked_reading_8 =
     let top : Header (0x2D ∷ 0x0A ∷ body) true (0x0A ∷ body) =
     header there (stop (⊎_elim (eqb-false 0x0A 0x20 refl) (⊎_elim (eqb-false 0x0A 0x09 refl) (eqb-false 0x0A 0x0D refl)))) in
-    (after-header top read, means top read)
+    (after_header top read, means top read)

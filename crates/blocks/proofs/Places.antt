@@ -9,7 +9,7 @@ use native.Mathlib.Numerals.{add-one}
 use lib.ListN.{length, get_or, set, take, drop, length-append, length-replicate, length-drop, take-append-drop, drop_of_length-le, get_or-append}
 use lib.Seq.{sets, slice, length-sets, slice_empty, take-suc, drop-append-le, length-slice, length-take-le, get_or-take, get_or-drop, drop-drop, ext_get_or}
 use borrow.Author.Tests.{lt-ltb, le-ltb}
-use Rattle.strings.proofs.Stores.{sets-append}
+use Rattle.strings.proofs.Stores.{sets_append}
 use Rattle.blocks.specs.Blocks.{Run, stop, more, LineFeed, Dash, there, NoBars}
 use Rattle.blocks.specs.Inside.{Says, holds, fails, Spans, Dashed, BarsAt, bars, none, StartsAt, starts, differs, feeds}
 use Rattle.strings.proofs.Stores.{drop-next}
@@ -23,73 +23,73 @@ pub denied : {P : Type 0} {b : Bool} → Says P b → b ≡ false → P → ⊥
 denied (holds p) e = absurd (true≢false e)
 denied (fails h) e = h
 
-pub are-bars : {s : List ℕ} {i : ℕ} {b : Bool} → BarsAt s i b → b ≡ true → (i + 3 ≤ length s) × (drop i s ≡ 0x7C ∷ 0x7C ∷ 0x7C ∷ drop (i + 3) s)
-are-bars (bars h d) e = (h, d)
-are-bars (BarsAt.none h) e = absurd (true≢false (sym e))
+pub are_bars : {s : List ℕ} {i : ℕ} {b : Bool} → BarsAt s i b → b ≡ true → (i + 3 ≤ length s) × (drop i s ≡ 0x7C ∷ 0x7C ∷ 0x7C ∷ drop (i + 3) s)
+are_bars (bars h d) e = (h, d)
+are_bars (BarsAt.none h) e = absurd (true≢false (sym e))
 
-pub no-bars : {s : List ℕ} {i : ℕ} {b : Bool} → BarsAt s i b → b ≡ false → NoBars (drop i s)
-no-bars (bars h d) e = absurd (true≢false e)
-no-bars (BarsAt.none h) e = h
+pub no_bars : {s : List ℕ} {i : ℕ} {b : Bool} → BarsAt s i b → b ≡ false → NoBars (drop i s)
+no_bars (bars h d) e = absurd (true≢false e)
+no_bars (BarsAt.none h) e = h
 
-pub does-start :
+pub does_start :
     {s : List ℕ} {a e i : ℕ} {b : Bool} → StartsAt s a e i b → b ≡ true → (i + (e - a) ≤ length s) × (drop i s ≡ slice a e s ++ drop (i + (e - a)) s)
-does-start (starts h d) e = (h, d)
-does-start (differs h) e = absurd (true≢false (sym e))
+does_start (starts h d) e = (h, d)
+does_start (differs h) e = absurd (true≢false (sym e))
 
 pub not_start : {s : List ℕ} {a e i : ℕ} {b : Bool} → StartsAt s a e i b → b ≡ false → (r : List ℕ) → drop i s ≡ slice a e s ++ r → ⊥
 not_start (starts h d) e = absurd (true≢false e)
 not_start (differs h) e = h
 
 -- The optional `-`.
-pub dashed-there : (s : List ℕ) (i : ℕ) → i < length s → get_or s i 0 ≡ 0x2D → Dashed s i (i + 1)
-dashed-there s i h e = record { on = omega arith; within = omega arith; dash = rw (lt-ltb i (i + 1) (omega arith), drop-next s i h, e) there }
+pub dashed_there : (s : List ℕ) (i : ℕ) → i < length s → get_or s i 0 ≡ 0x2D → Dashed s i (i + 1)
+dashed_there s i h e = record { on = omega arith; within = omega arith; dash = rw (lt-ltb i (i + 1) (omega arith), drop-next s i h, e) there }
 
-pub dashed-other : (s : List ℕ) (i : ℕ) → i < length s → (get_or s i 0 ≡ 0x2D → ⊥) → Dashed s i i
-dashed-other s i h n = record { on = omega arith; within = omega arith; dash = rw (le-ltb i i (omega arith), drop-next s i h) (Dash.other n) }
+pub dashed_other : (s : List ℕ) (i : ℕ) → i < length s → (get_or s i 0 ≡ 0x2D → ⊥) → Dashed s i i
+dashed_other s i h n = record { on = omega arith; within = omega arith; dash = rw (le-ltb i i (omega arith), drop-next s i h) (Dash.other n) }
 
-pub dashed-end : (s : List ℕ) (i : ℕ) → i ≤ length s → length s ≤ i → Dashed s i i
-dashed-end s i h g = record { on = omega arith; within = h; dash = rw (le-ltb i i (omega arith), drop_of_length-le s {i = i} g) Dash.end }
+pub dashed_end : (s : List ℕ) (i : ℕ) → i ≤ length s → length s ≤ i → Dashed s i i
+dashed_end s i h g = record { on = omega arith; within = h; dash = rw (le-ltb i i (omega arith), drop_of_length-le s {i = i} g) Dash.end }
 
 -- `|||`, byte by byte.
-pub bars-there :
+pub bars_there :
     (s : List ℕ) (i : ℕ) → i + 3 ≤ length s → get_or s i 0 ≡ 0x7C → get_or s (i + 1) 0 ≡ 0x7C → get_or s (i + 2) 0 ≡ 0x7C → BarsAt s i true
-bars-there s i h a b c =
+bars_there s i h a b c =
     let two : i + 1 + 1 ≡ i + 2 = omega arith in
     let three : i + 2 + 1 ≡ i + 3 = omega arith in
     bars h (rw (drop-next s i (omega arith), drop-next s (i + 1) (omega arith), two, drop-next s (i + 2) (omega arith), three, a, b, c))
 
-pub bars-short : (s : List ℕ) (i : ℕ) → i ≤ length s → length s - i < 3 → NoBars (drop i s)
-bars-short s i h g r e = omega (arith, ap length e, length-drop i s)
+pub bars_short : (s : List ℕ) (i : ℕ) → i ≤ length s → length s - i < 3 → NoBars (drop i s)
+bars_short s i h g r e = omega (arith, ap length e, length-drop i s)
 
 -- byte k of three is no `|`
-pub bars-not : (s : List ℕ) (i k : ℕ) → ((r : List ℕ) → get_or (0x7C ∷ 0x7C ∷ 0x7C ∷ r) k 0 ≡ 0x7C) → (get_or s (i + k) 0 ≡ 0x7C → ⊥) → NoBars (drop i s)
-bars-not s i k all h r e = h (sym (get_or-drop i s k 0) ∙ ap (λ (t : List ℕ). get_or t k 0) e ∙ all r)
+pub bars_not : (s : List ℕ) (i k : ℕ) → ((r : List ℕ) → get_or (0x7C ∷ 0x7C ∷ 0x7C ∷ r) k 0 ≡ 0x7C) → (get_or s (i + k) 0 ≡ 0x7C → ⊥) → NoBars (drop i s)
+bars_not s i k all h r e = h (sym (get_or-drop i s k 0) ∙ ap (λ (t : List ℕ). get_or t k 0) e ∙ all r)
 
 -- The bytes from i on are those from a to e, or not.
 module _ (s : List ℕ) (a e i : ℕ) (h : a ≤ e) (g : e ≤ length s) where
-  getD-slice : (k : ℕ) → k < e - a → get_or (slice a e s) k 0 ≡ get_or s (a + k) 0
-  getD-slice k l = get_or-drop a (take e s) k 0 ∙ get_or-take e s (a + k) 0 (omega arith)
+  get_or-slice : (k : ℕ) → k < e - a → get_or (slice a e s) k 0 ≡ get_or s (a + k) 0
+  get_or-slice k l = get_or-drop a (take e s) k 0 ∙ get_or-take e s (a + k) 0 (omega arith)
 
-  pub starts-there : i + (e - a) ≤ length s → ((k : ℕ) → k < e - a → get_or s (a + k) 0 ≡ get_or s (i + k) 0) → StartsAt s a e i true
-  starts-there m all =
+  pub starts_there : i + (e - a) ≤ length s → ((k : ℕ) → k < e - a → get_or s (a + k) 0 ≡ get_or s (i + k) 0) → StartsAt s a e i true
+  starts_there m all =
       let n : ℕ = e - a in
       let long : length (take n (drop i s)) ≡ n = length-take-le n (drop i s) (omega (arith, length-drop i s)) in
       let same : take n (drop i s) ≡ slice a e s =
       ext_get_or 0 (take n (drop i s)) (slice a e s) (long ∙ sym (length-slice a e s g))
       (λ k l.
       let l' : k < n = omega arith in
-      get_or-take n (drop i s) k 0 l' ∙ get_or-drop i s k 0 ∙ sym (all k l') ∙ sym (getD-slice k l')) in
+      get_or-take n (drop i s) k 0 l' ∙ get_or-drop i s k 0 ∙ sym (all k l') ∙ sym (get_or-slice k l')) in
       starts m (sym (take-append-drop n (drop i s)) ∙ ap (λ (t : List ℕ). t ++ drop n (drop i s)) same ∙ ap (λ (t : List ℕ). slice a e s ++ t) (drop-drop n i s))
 
-  pub starts-short : i ≤ length s → length s - i < e - a → StartsAt s a e i false
-  starts-short m l = differs (λ r d. omega (arith, ap length d, length-append (slice a e s) r, length-slice a e s g, length-drop i s))
+  pub starts_short : i ≤ length s → length s - i < e - a → StartsAt s a e i false
+  starts_short m l = differs (λ r d. omega (arith, ap length d, length-append (slice a e s) r, length-slice a e s g, length-drop i s))
 
-  pub starts-not : (k : ℕ) → k < e - a → (get_or s (a + k) 0 ≡ get_or s (i + k) 0 → ⊥) → StartsAt s a e i false
-  starts-not k l n =
+  pub starts_not : (k : ℕ) → k < e - a → (get_or s (a + k) 0 ≡ get_or s (i + k) 0 → ⊥) → StartsAt s a e i false
+  starts_not k l n =
       differs
       (λ r d.
       n
-      (sym (getD-slice k l) ∙ sym (get_or-append (slice a e s) r 0 k (omega (arith, length-slice a e s g))) ∙ ap (λ (t : List ℕ). get_or t k 0) (sym d)
+      (sym (get_or-slice k l) ∙ sym (get_or-append (slice a e s) r 0 k (omega (arith, length-slice a e s g))) ∙ ap (λ (t : List ℕ). get_or t k 0) (sym d)
       ∙ get_or-drop i s k 0))
 
 -- Parts of a source.
@@ -97,8 +97,8 @@ pub slice-drop : (s : List ℕ) (a e : ℕ) → a ≤ e → e ≤ length s → s
 slice-drop s a e h g =
     sym (drop-append-le a (take e s) (drop e s) (omega (arith, length-take-le e s g))) ∙ ap (drop a) (take-append-drop e s)
 
-pub slice-split : (s : List ℕ) (a m e : ℕ) → a ≤ m → m ≤ e → e ≤ length s → slice a m s ++ slice m e s ≡ slice a e s
-slice-split s a m e h g k =
+pub slice_split : (s : List ℕ) (a m e : ℕ) → a ≤ m → m ≤ e → e ≤ length s → slice a m s ++ slice m e s ≡ slice a e s
+slice_split s a m e h g k =
     append_cancel_right (slice a m s ++ slice m e s) (slice a e s) (drop e s)
     (append_assoc (slice a m s) (slice m e s) (drop e s) ∙ ap (λ (t : List ℕ). slice a m s ++ t) (slice-drop s m e g k)
     ∙ slice-drop s a m h (omega arith) ∙ sym (slice-drop s a e (omega arith) k))
@@ -137,12 +137,12 @@ module _ {s : List ℕ} {a : ℕ} {out₀ : List ℕ} {at : ℕ} where
         within = omega arith;
         count = omega (arith, d.since, d.count);
         stored =
-            e ∙ ap (λ (o : List ℕ). set o w (get_or s i 0)) d.stored ∙ sets-append out₀ at w (slice a i s) (get_or s i 0 ∷ []) place
+            e ∙ ap (λ (o : List ℕ). set o w (get_or s i 0)) d.stored ∙ sets_append out₀ at w (slice a i s) (get_or s i 0 ∷ []) place
             ∙ ap (sets out₀ at) (sym grown);
       }
 
-  pub copied-length : {i : ℕ} {out : List ℕ} {w : ℕ} → Copied s a out₀ at i out w → length out ≡ length out₀
-  copied-length {i} d = ap length d.stored ∙ length-sets out₀ at (slice a i s)
+  pub copied_length : {i : ℕ} {out : List ℕ} {w : ℕ} → Copied s a out₀ at i out w → length out ≡ length out₀
+  copied_length {i} d = ap length d.stored ∙ length-sets out₀ at (slice a i s)
 
 -- LFs in a row, one more at either end; and a run of LFs is such.
 pub feeds-next : (k : ℕ) → feeds k ++ 0x0A ∷ [] ≡ feeds (k + 1)
@@ -152,39 +152,39 @@ feeds-next k = grown k ∙ ap feeds (sym (add-one k))
     grown zero = refl
     grown (suc n) = ap (λ (t : List ℕ). 0x0A ∷ t) (grown n)
 
-pub feeds-cons : {b : ℕ} {l : List ℕ} (n : ℕ) → b ≡ 0x0A → l ≡ feeds n → b ∷ l ≡ feeds (suc n)
-feeds-cons {l = l} n e f = ap (λ (b : ℕ). b ∷ l) e ∙ ap (λ (t : List ℕ). 0x0A ∷ t) f
+pub feeds_cons : {b : ℕ} {l : List ℕ} (n : ℕ) → b ≡ 0x0A → l ≡ feeds n → b ∷ l ≡ feeds (suc n)
+feeds_cons {l = l} n e f = ap (λ (b : ℕ). b ∷ l) e ∙ ap (λ (t : List ℕ). 0x0A ∷ t) f
 
-pub run-feeds : {s l r : List ℕ} → Run LineFeed s l r → l ≡ feeds (length l)
-run-feeds Run.end = refl
-run-feeds (stop h) = refl
-run-feeds (more {run = run} p d) = feeds-cons (length run) p (run-feeds d)
+pub run_feeds : {s l r : List ℕ} → Run LineFeed s l r → l ≡ feeds (length l)
+run_feeds Run.end = refl
+run_feeds (stop h) = refl
+run_feeds (more {run = run} p d) = feeds_cons (length run) p (run_feeds d)
 
-pub spanned-feeds : {s : List ℕ} {i e : ℕ} → Spans LineFeed s i e → slice i e s ≡ feeds (e - i)
-spanned-feeds {s} {i} {e} d = run-feeds d.run ∙ ap feeds (length-slice i e s d.within)
+pub spanned_feeds : {s : List ℕ} {i e : ℕ} → Spans LineFeed s i e → slice i e s ≡ feeds (e - i)
+spanned_feeds {s} {i} {e} d = run_feeds d.run ∙ ap feeds (length-slice i e s d.within)
 
 -- A loop has stored k LFs.
 pub record Fed (out₀ : List ℕ) (at k : ℕ) (out : List ℕ) : Type 0 where
   pub stored : out ≡ sets out₀ at (feeds k)
 
 module _ {out₀ : List ℕ} {at : ℕ} where
-  pub fed-none : Fed out₀ at 0 out₀
-  fed-none = record { stored = refl }
+  pub fed_none : Fed out₀ at 0 out₀
+  fed_none = record { stored = refl }
 
-  pub fed-more : {k : ℕ} {out out₁ : List ℕ} → Fed out₀ at k out → out₁ ≡ set out (at + k) 0x0A → Fed out₀ at (k + 1) out₁
-  fed-more {k} d e = record {
+  pub fed_more : {k : ℕ} {out out₁ : List ℕ} → Fed out₀ at k out → out₁ ≡ set out (at + k) 0x0A → Fed out₀ at (k + 1) out₁
+  fed_more {k} d e = record {
     stored =
         e ∙ ap (λ (o : List ℕ). set o (at + k) 0x0A) d.stored
-        ∙ sets-append out₀ at (at + k) (feeds k) (0x0A ∷ []) (ap (λ (n : ℕ). at + n) (sym (length-replicate {A = ℕ} k 0x0A)))
+        ∙ sets_append out₀ at (at + k) (feeds k) (0x0A ∷ []) (ap (λ (n : ℕ). at + n) (sym (length-replicate {A = ℕ} k 0x0A)))
         ∙ ap (sets out₀ at) (feeds-next k);
   }
 
-  pub fed-length : {k : ℕ} {out : List ℕ} → Fed out₀ at k out → length out ≡ length out₀
-  fed-length {k} d = ap length d.stored ∙ length-sets out₀ at (feeds k)
+  pub fed_length : {k : ℕ} {out : List ℕ} → Fed out₀ at k out → length out ≡ length out₀
+  fed_length {k} d = ap length d.stored ∙ length-sets out₀ at (feeds k)
 
 -- What has no room is not stored, however far it goes on.
-pub copied-full : {s : List ℕ} {a : ℕ} {out₀ : List ℕ} {at i : ℕ} {out : List ℕ} {w : ℕ} (e : ℕ) → Copied s a out₀ at i out w → length out ≤ w → i ≤ e → e ≤ length s → out ≡ sets out₀ at (slice a e s)
-copied-full {s} {a} {out₀} {at} {i} {out} {w} e d full h g =
-    sym (ap (sets out₀ at) (sym (slice-split s a i e d.since h g))
-    ∙ sym (sets-append out₀ at w (slice a i s) (slice i e s) (omega (arith, d.count, length-slice a i s d.within)))
+pub copied_full : {s : List ℕ} {a : ℕ} {out₀ : List ℕ} {at i : ℕ} {out : List ℕ} {w : ℕ} (e : ℕ) → Copied s a out₀ at i out w → length out ≤ w → i ≤ e → e ≤ length s → out ≡ sets out₀ at (slice a e s)
+copied_full {s} {a} {out₀} {at} {i} {out} {w} e d full h g =
+    sym (ap (sets out₀ at) (sym (slice_split s a i e d.since h g))
+    ∙ sym (sets_append out₀ at w (slice a i s) (slice i e s) (omega (arith, d.count, length-slice a i s d.within)))
     ∙ ap (λ (o : List ℕ). sets o w (slice i e s)) (sym d.stored) ∙ sets-beyond (slice i e s) out w full)

@@ -22,28 +22,28 @@ stable a b h = by (ℕ_discrete a b)
     by (no g) = absurd (h g)
 
 module _ {P : ℕ → Type 0} where
-  pub run-split : {s l r : List ℕ} → Run P s l r → s ≡ l ++ r
-  run-split Run.end = refl
-  run-split (stop h) = refl
-  run-split (more {b = b} p d) = ap (λ (t : List ℕ). b ∷ t) (run-split d)
+  pub run_split : {s l r : List ℕ} → Run P s l r → s ≡ l ++ r
+  run_split Run.end = refl
+  run_split (stop h) = refl
+  run_split (more {b = b} p d) = ap (λ (t : List ℕ). b ∷ t) (run_split d)
 
-  pub run-once : {s l r l' r' : List ℕ} → Run P s l r → Run P s l' r' → (l ≡ l') × (r ≡ r')
-  run-once Run.end Run.end = (refl, refl)
-  run-once (stop h) (stop g) = (refl, refl)
-  run-once (stop h) (more p d) = absurd (h p)
-  run-once (more p d) (stop h) = absurd (h p)
-  run-once (more {b = b} p d) (more q e) = let o = run-once d e in (ap (λ (t : List ℕ). b ∷ t) o.0, o.1)
+  pub run_once : {s l r l' r' : List ℕ} → Run P s l r → Run P s l' r' → (l ≡ l') × (r ≡ r')
+  run_once Run.end Run.end = (refl, refl)
+  run_once (stop h) (stop g) = (refl, refl)
+  run_once (stop h) (more p d) = absurd (h p)
+  run_once (more p d) (stop h) = absurd (h p)
+  run_once (more {b = b} p d) (more q e) = let o = run_once d e in (ap (λ (t : List ℕ). b ∷ t) o.0, o.1)
 
   pub run_length : {s l r : List ℕ} → Run P s l r → length l + length r ≡ length s
-  run_length {l = l} {r = r} d = sym (length-append l r) ∙ ap length (sym (run-split d))
+  run_length {l = l} {r = r} d = sym (length-append l r) ∙ ap length (sym (run_split d))
 
   -- what follows a run does not go on with it
-  pub run-stops : {s l r : List ℕ} {b : ℕ} → Run P s l (b ∷ r) → P b → ⊥
-  run-stops (stop h) p = h p
-  run-stops (more q d) p = run-stops d p
+  pub run_stops : {s l r : List ℕ} {b : ℕ} → Run P s l (b ∷ r) → P b → ⊥
+  run_stops (stop h) p = h p
+  run_stops (more q d) p = run_stops d p
 
-  pub run-head : {s l r : List ℕ} {b : ℕ} → Run P s (b ∷ l) r → P b
-  run-head (more p d) = p
+  pub run_head : {s l r : List ℕ} {b : ℕ} → Run P s (b ∷ l) r → P b
+  run_head (more p d) = p
 
 module _ (P : ℕ → Type 0) where
   run_of :
@@ -55,14 +55,14 @@ module _ (P : ℕ → Type 0) where
   run_of (b ∷ s) (suc n) h all past =
       more (all zero (omega arith)) (run_of s n (omega arith) (λ k g. all (suc k) (omega arith)) (λ g. past (omega arith)))
 
-  run-between :
+  run_between :
       (s : List ℕ) (i j : ℕ) → i ≤ j → j ≤ length s → ((k : ℕ) → k < j → i ≤ k → P (get_or s k 0)) → (j < length s → P (get_or s j 0) → ⊥) →
       Run P (drop i s) (slice i j s) (drop j s)
-  run-between s zero j h g all past = run_of s j g (λ k l. all k l (omega arith)) past
-  run-between [] (suc i) j h g all past = absurd (omega arith)
-  run-between (b ∷ s) (suc i) zero h g all past = absurd (omega arith)
-  run-between (b ∷ s) (suc i) (suc j) h g all past =
-      run-between s i j (omega arith) (omega arith) (λ k l m. all (suc k) (omega arith) (omega arith)) (λ l. past (omega arith))
+  run_between s zero j h g all past = run_of s j g (λ k l. all k l (omega arith)) past
+  run_between [] (suc i) j h g all past = absurd (omega arith)
+  run_between (b ∷ s) (suc i) zero h g all past = absurd (omega arith)
+  run_between (b ∷ s) (suc i) (suc j) h g all past =
+      run_between s i j (omega arith) (omega arith) (λ k l m. all (suc k) (omega arith) (omega arith)) (λ l. past (omega arith))
 
 -- A loop has passed the places from i up to j: their bytes are P.
 pub record Passed (P : ℕ → Type 0) (s : List ℕ) (i j : ℕ) : Type 0 where
@@ -74,18 +74,18 @@ module _ {P : ℕ → Type 0} {s : List ℕ} {i : ℕ} where
   pub passed_none : i ≤ length s → Passed P s i i
   passed_none h = record { on = omega arith; within = h; all = λ k l m. absurd (omega arith) }
 
-  pub passed-more : {j : ℕ} → Passed P s i j → j < length s → P (get_or s j 0) → Passed P s i (j + 1)
-  passed-more {j} d h p = record {
+  pub passed_more : {j : ℕ} → Passed P s i j → j < length s → P (get_or s j 0) → Passed P s i (j + 1)
+  passed_more {j} d h p = record {
     on = omega arith;
     within = omega arith;
     all = below_more (λ k. i ≤ k → P (get_or s k 0)) j d.all (λ l. p);
   }
 
-  pub passed-stop : {j : ℕ} → Passed P s i j → (P (get_or s j 0) → ⊥) → Spans P s i j
-  passed-stop {j} d h = record { on = d.on; within = d.within; run = run-between P s i j d.on d.within d.all (λ l. h) }
+  pub passed_stop : {j : ℕ} → Passed P s i j → (P (get_or s j 0) → ⊥) → Spans P s i j
+  passed_stop {j} d h = record { on = d.on; within = d.within; run = run_between P s i j d.on d.within d.all (λ l. h) }
 
-  pub passed-end : {j : ℕ} → Passed P s i j → length s ≤ j → Spans P s i j
-  passed-end {j} d h = record { on = d.on; within = d.within; run = run-between P s i j d.on d.within d.all (λ l. absurd (omega arith)) }
+  pub passed_end : {j : ℕ} → Passed P s i j → length s ≤ j → Spans P s i j
+  passed_end {j} d h = record { on = d.on; within = d.within; run = run_between P s i j d.on d.within d.all (λ l. absurd (omega arith)) }
 
   -- a run that goes on from where the loop stands
   pub passed_then : {j e : ℕ} → Passed P s i j → Spans P s j e → Spans P s i e
@@ -100,20 +100,20 @@ module _ {P : ℕ → Type 0} {s : List ℕ} {i : ℕ} where
           (more (d.all k (omega (arith, q)) h) (subst (λ (m : ℕ). Run P (drop (k + 1) s) (slice m e s) (drop e s)) (add-one k) (back n (k + 1) (omega (arith, q)) (omega arith)))))
 
 -- a line's run that ends before the source does ends at an LF
-pub line-feed : {s : List ℕ} {i j : ℕ} → Spans InLine s i j → j < length s → get_or s j 0 ≡ 0x0A
-line-feed {s} {i} {j} d h = stable _ _ (run-stops (subst (λ (t : List ℕ). Run InLine (drop i s) (slice i j s) t) (drop-next s j h) d.run))
+pub line_feed : {s : List ℕ} {i j : ℕ} → Spans InLine s i j → j < length s → get_or s j 0 ≡ 0x0A
+line_feed {s} {i} {j} d h = stable _ _ (run_stops (subst (λ (t : List ℕ). Run InLine (drop i s) (slice i j s) t) (drop-next s j h) d.run))
 
-pub sought-once : {s r r' : List ℕ} → Sought s r → Sought s r' → r ≡ r'
-sought-once here here = refl
-sought-once here (on h d) = absurd (h _ refl)
-sought-once (on h d) here = absurd (h _ refl)
-sought-once (on h d) (on g e) = sought-once d e
-sought-once Sought.end Sought.end = refl
+pub sought_once : {s r r' : List ℕ} → Sought s r → Sought s r' → r ≡ r'
+sought_once here here = refl
+sought_once here (on h d) = absurd (h _ refl)
+sought_once (on h d) here = absurd (h _ refl)
+sought_once (on h d) (on g e) = sought_once d e
+sought_once Sought.end Sought.end = refl
 
-pub sought-length : {s r : List ℕ} → Sought s r → length r ≤ length s
-sought-length here = omega arith
-sought-length (on h d) = let g = sought-length d in omega arith
-sought-length Sought.end = omega arith
+pub sought_length : {s r : List ℕ} → Sought s r → length r ≤ length s
+sought_length here = omega arith
+sought_length (on h d) = let g = sought_length d in omega arith
+sought_length Sought.end = omega arith
 
 -- A search has passed the places from i up to j: what is sought from j on is sought from i on.
 pub record Seeking (s : List ℕ) (i j : ℕ) : Type 0 where
@@ -121,20 +121,20 @@ pub record Seeking (s : List ℕ) (i j : ℕ) : Type 0 where
   pub back : (r : List ℕ) → Sought (drop j s) r → Sought (drop i s) r
 
 module _ {s : List ℕ} {i : ℕ} where
-  pub seeking-none : i ≤ length s → Seeking s i i
-  seeking-none h = record { within = h; back = λ r d. d }
+  pub seeking_none : i ≤ length s → Seeking s i i
+  seeking_none h = record { within = h; back = λ r d. d }
 
-  pub seeking-more : {j : ℕ} → Seeking s i j → j < length s → NoBars (drop j s) → Seeking s i (j + 1)
-  seeking-more {j} d h g = record {
+  pub seeking_more : {j : ℕ} → Seeking s i j → j < length s → NoBars (drop j s) → Seeking s i (j + 1)
+  seeking_more {j} d h g = record {
     within = omega arith;
     back = λ r q. d.back r (rw (drop-next s j h) (on (subst NoBars (drop-next s j h) g) q));
   }
 
-  pub seeking-bars : {j : ℕ} → Seeking s i j → j + 3 ≤ length s → drop j s ≡ 0x7C ∷ 0x7C ∷ 0x7C ∷ drop (j + 3) s → SoughtTo s i (j + 3)
-  seeking-bars {j} d h e = record { within = h; sought = d.back _ (rw e here) }
+  pub seeking_bars : {j : ℕ} → Seeking s i j → j + 3 ≤ length s → drop j s ≡ 0x7C ∷ 0x7C ∷ 0x7C ∷ drop (j + 3) s → SoughtTo s i (j + 3)
+  seeking_bars {j} d h e = record { within = h; sought = d.back _ (rw e here) }
 
-  pub seeking-end : {j : ℕ} → Seeking s i j → length s ≤ j → SoughtTo s i j
-  seeking-end {j} d h = record {
+  pub seeking_end : {j : ℕ} → Seeking s i j → length s ≤ j → SoughtTo s i j
+  seeking_end {j} d h = record {
     within = d.within;
     sought = d.back _ (rw (drop_of_length-le s {i = j} h) Sought.end);
   }

@@ -19,21 +19,21 @@ abbrev pub empties : List ℕ → List (List ℕ)
 empties [] = []
 empties (b ∷ bs) = [] ∷ empties bs
 
-pub ended-append : (ls ms : List (List ℕ)) → ended (ls ++ ms) ≡ ended ls ++ ended ms
-ended-append [] ms = refl
-ended-append (l ∷ ls) ms = ap (λ (t : List ℕ). l ++ 0x0A ∷ t) (ended-append ls ms) ∙ sym (append_assoc l (0x0A ∷ ended ls) (ended ms))
+pub ended_append : (ls ms : List (List ℕ)) → ended (ls ++ ms) ≡ ended ls ++ ended ms
+ended_append [] ms = refl
+ended_append (l ∷ ls) ms = ap (λ (t : List ℕ). l ++ 0x0A ∷ t) (ended_append ls ms) ∙ sym (append_assoc l (0x0A ∷ ended ls) (ended ms))
 
-pub joined-ended : (l : List ℕ) (ls : List (List ℕ)) → joined (l ∷ ls) ++ 0x0A ∷ [] ≡ ended (l ∷ ls)
+pub joined_ended : (l : List ℕ) (ls : List (List ℕ)) → joined (l ∷ ls) ++ 0x0A ∷ [] ≡ ended (l ∷ ls)
 unfolding joined
-joined-ended l [] = refl
-joined-ended l (m ∷ ls) = append_assoc l (0x0A ∷ joined (m ∷ ls)) (0x0A ∷ []) ∙ ap (λ (t : List ℕ). l ++ 0x0A ∷ t) (joined-ended m ls)
+joined_ended l [] = refl
+joined_ended l (m ∷ ls) = append_assoc l (0x0A ∷ joined (m ∷ ls)) (0x0A ∷ []) ∙ ap (λ (t : List ℕ). l ++ 0x0A ∷ t) (joined_ended m ls)
 
-pub joined-after : (ls : List (List ℕ)) (m : List ℕ) (ms : List (List ℕ)) → joined (ls ++ m ∷ ms) ≡ ended ls ++ joined (m ∷ ms)
+pub joined_after : (ls : List (List ℕ)) (m : List ℕ) (ms : List (List ℕ)) → joined (ls ++ m ∷ ms) ≡ ended ls ++ joined (m ∷ ms)
 unfolding joined
-joined-after [] m ms = refl
-joined-after (l ∷ []) m ms = sym (append_assoc l (0x0A ∷ []) (joined (m ∷ ms)))
-joined-after (l ∷ k ∷ ls) m ms =
-    ap (λ (t : List ℕ). l ++ 0x0A ∷ t) (joined-after (k ∷ ls) m ms) ∙ sym (append_assoc l (0x0A ∷ ended (k ∷ ls)) (joined (m ∷ ms)))
+joined_after [] m ms = refl
+joined_after (l ∷ []) m ms = sym (append_assoc l (0x0A ∷ []) (joined (m ∷ ms)))
+joined_after (l ∷ k ∷ ls) m ms =
+    ap (λ (t : List ℕ). l ++ 0x0A ∷ t) (joined_after (k ∷ ls) m ms) ∙ sym (append_assoc l (0x0A ∷ ended (k ∷ ls)) (joined (m ∷ ms)))
 
 module _ {indent : List ℕ} where
   pub lines_join :
@@ -42,35 +42,35 @@ module _ {indent : List ℕ} where
   lines_join (empty d) e = empty (lines_join d e)
   lines_join (content h q d) e = content h q (lines_join d e)
 
-  pub empty-lines : {s es r : List ℕ} → Run LineFeed s es r → Lines indent s (empties es) r
-  empty-lines Run.end = Lines.none
-  empty-lines (stop h) = Lines.none
-  empty-lines (more {s = s} {r = r} p d) = rw p (empty (empty-lines d))
+  pub empty_lines : {s es r : List ℕ} → Run LineFeed s es r → Lines indent s (empties es) r
+  empty_lines Run.end = Lines.none
+  empty_lines (stop h) = Lines.none
+  empty_lines (more {s = s} {r = r} p d) = rw p (empty (empty_lines d))
 
   -- lines, each with its LF, and what follows are no longer than what they were read from
-  pub lines-length : {s r : List ℕ} {ls : List (List ℕ)} → Lines indent s ls r → length (ended ls) + length r ≤ length s
-  lines-length Lines.none = omega arith
-  lines-length (empty d) = let h = lines-length d in omega arith
-  lines-length (content {t = t} {line = line} {u = u} {lines = ls} e q d) =
-      let h = lines-length d in
+  pub lines_length : {s r : List ℕ} {ls : List (List ℕ)} → Lines indent s ls r → length (ended ls) + length r ≤ length s
+  lines_length Lines.none = omega arith
+  lines_length (empty d) = let h = lines_length d in omega arith
+  lines_length (content {t = t} {line = line} {u = u} {lines = ls} e q d) =
+      let h = lines_length d in
       omega (arith, ap length e, length-append indent t, run_length q, length-append line (0x0A ∷ ended ls))
 
-pub ended-empties : {s es r : List ℕ} → Run LineFeed s es r → ended (empties es) ≡ es
-ended-empties Run.end = refl
-ended-empties (stop h) = refl
-ended-empties (more p d) = rw (p, ended-empties d)
+pub ended_empties : {s es r : List ℕ} → Run LineFeed s es r → ended (empties es) ≡ es
+ended_empties Run.end = refl
+ended_empties (stop h) = refl
+ended_empties (more p d) = rw (p, ended_empties d)
 
 -- A line with its LF and the empty lines after it: what was read is what is stored.
 pub paragraph :
     {indent s t l u es r : List ℕ} → s ≡ indent ++ t → Run InLine t l (0x0A ∷ u) → Run LineFeed u es r → Lines indent s (l ∷ empties es) r
-paragraph e q d = content e q (empty-lines d)
+paragraph e q d = content e q (empty_lines d)
 
-pub paragraph-ended : (l : List ℕ) {u es r : List ℕ} → Run LineFeed u es r → ended (l ∷ empties es) ≡ l ++ 0x0A ∷ es
-paragraph-ended l d = ap (λ (t : List ℕ). l ++ 0x0A ∷ t) (ended-empties d)
+pub paragraph_ended : (l : List ℕ) {u es r : List ℕ} → Run LineFeed u es r → ended (l ∷ empties es) ≡ l ++ 0x0A ∷ es
+paragraph_ended l d = ap (λ (t : List ℕ). l ++ 0x0A ∷ t) (ended_empties d)
 
 -- The text without `-` is every line with its LF.
 pub text-plain : (ls : List (List ℕ)) (m : List ℕ) (ms : List (List ℕ)) → text false (ls ++ m ∷ ms) ≡ ended (ls ++ m ∷ ms)
 unfolding text
 text-plain ls m ms =
-    ap (λ (t : List ℕ). t ++ 0x0A ∷ []) (joined-after ls m ms) ∙ append_assoc (ended ls) (joined (m ∷ ms)) (0x0A ∷ [])
-    ∙ ap (λ (t : List ℕ). ended ls ++ t) (joined-ended m ms) ∙ sym (ended-append ls (m ∷ ms))
+    ap (λ (t : List ℕ). t ++ 0x0A ∷ []) (joined_after ls m ms) ∙ append_assoc (ended ls) (joined (m ∷ ms)) (0x0A ∷ [])
+    ∙ ap (λ (t : List ℕ). ended ls ++ t) (joined_ended m ms) ∙ sym (ended_append ls (m ∷ ms))

@@ -51,8 +51,8 @@ pub data Lines (indent : List ℕ) : List ℕ → List (List ℕ) → List ℕ �
 
 -- R14. "Another line": neither empty nor one that starts with the indent.
 pub record Other (indent s : List ℕ) : Type 0 where
-  pub not-empty : (r : List ℕ) → s ≡ 0x0A ∷ r → ⊥
-  pub not-content : (r : List ℕ) → s ≡ indent ++ r → ⊥
+  pub not_empty : (r : List ℕ) → s ≡ 0x0A ∷ r → ⊥
+  pub not_content : (r : List ℕ) → s ≡ indent ++ r → ⊥
 
 -- R15. The bytes do not begin with `|||`.
 abbrev pub NoBars : List ℕ → Type 0
@@ -67,42 +67,42 @@ pub data Sought : List ℕ → List ℕ → Type 0 where
 -- R14, R15. What stands after `|||`: a good block with its lines, or a fault.
 pub data Found : Type 0 where
   good : List (List ℕ) → Found
-  unexpected-end : Found
-  missing-new-line : Found
-  missing-indent : Found
-  missing-termination : Found
+  unexpected_end : Found
+  missing_new_line : Found
+  missing_indent : Found
+  missing_termination : Found
 
 -- R14, R15. The line after the lines, from behind its spaces and tabs on.
 pub data Closing (lines : List (List ℕ)) : List ℕ → Found → List ℕ → Type 0 where
   -- "Another line must be spaces or tabs, if any, then `|||`."
   closed : {r : List ℕ} → Closing lines (0x7C ∷ 0x7C ∷ 0x7C ∷ r) (good lines) r
-  -- "A later line with only those up to the end of input .. is unexpected-end"
-  blank : Closing lines [] unexpected-end []
-  -- "any other failing later line is missing-termination", sought "after the failing line's blanks"
-  failing : {b : ℕ} {s r : List ℕ} → NoBars (b ∷ s) → Sought (b ∷ s) r → Closing lines (b ∷ s) missing-termination r
+  -- "A later line with only those up to the end of input .. is unexpected_end"
+  blank : Closing lines [] unexpected_end []
+  -- "any other failing later line is missing_termination", sought "after the failing line's blanks"
+  failing : {b : ℕ} {s r : List ℕ} → NoBars (b ∷ s) → Sought (b ∷ s) r → Closing lines (b ∷ s) missing_termination r
 
 -- R14, R15. The line after the lines.
 pub data Last (indent : List ℕ) (lines : List (List ℕ)) : List ℕ → Found → List ℕ → Type 0 where
   another : {s blanks t r : List ℕ} {f : Found} → Other indent s → Run Blank s blanks t → Closing lines t f r → Last indent lines s f r
-  -- "a content line without LF, is unexpected-end", and it "takes all to the end"
-  cut : {s t line : List ℕ} → s ≡ indent ++ t → Run InLine t line [] → Last indent lines s unexpected-end []
+  -- "a content line without LF, is unexpected_end", and it "takes all to the end"
+  cut : {s t line : List ℕ} → s ≡ indent ++ t → Run InLine t line [] → Last indent lines s unexpected_end []
 
 -- R14, R15. What follows the header line.
 pub data Body : List ℕ → Found → List ℕ → Type 0 where
-  -- "none is missing-indent", sought "at the unindented line"
-  no-indent : {s line r : List ℕ} → Indent s line [] → Sought line r → Body s missing-indent r
+  -- "none is missing_indent", sought "at the unindented line"
+  no_indent : {s line r : List ℕ} → Indent s line [] → Sought line r → Body s missing_indent r
   indented :
       {b : ℕ} {s line i t r : List ℕ} {lines : List (List ℕ)} {f : Found} → Indent s line (b ∷ i) → Lines (b ∷ i) s lines t → Last (b ∷ i) lines t f r →
       Body s f r
 
 -- R14, R15. What stands after `|||`, and what follows the lexeme.
 pub data Stands : List ℕ → Found → List ℕ → Type 0 where
-  -- "the end unexpected-end", which "takes all to the end"
-  no_line : {s : List ℕ} {dash : Bool} → Header s dash [] → Stands s unexpected-end []
-  -- "another character there is missing-new-line", sought "past the character that stood for the LF": past its first byte, which
+  -- "the end unexpected_end", which "takes all to the end"
+  no_line : {s : List ℕ} {dash : Bool} → Header s dash [] → Stands s unexpected_end []
+  -- "another character there is missing_new_line", sought "past the character that stood for the LF": past its first byte, which
   -- is the same, since no later byte of a character is `|`
-  no-new-line : {b : ℕ} {s t r : List ℕ} {dash : Bool} → Header s dash (b ∷ t) → (b ≡ 0x0A → ⊥) → Sought t r → Stands s missing-new-line r
-  after-header : {s t r : List ℕ} {dash : Bool} {f : Found} → Header s dash (0x0A ∷ t) → Body t f r → Stands s f r
+  no_new_line : {b : ℕ} {s t r : List ℕ} {dash : Bool} → Header s dash (b ∷ t) → (b ≡ 0x0A → ⊥) → Sought t r → Stands s missing_new_line r
+  after_header : {s t r : List ℕ} {dash : Bool} {f : Found} → Header s dash (0x0A ∷ t) → Body t f r → Stands s f r
 
 -- R14. "lines joined by LF"
 unfoldable pub joined : List (List ℕ) → List ℕ
@@ -125,8 +125,8 @@ pub data Ends (source : List ℕ) (at : ℕ) (f : Found) (end : ℕ) : Type 0 wh
 
 -- R14, R15. The same as the code's answer.
 pub data BlockAt (source : List ℕ) (at : ℕ) : Block → Type 0 where
-  a-good : {lines : List (List ℕ)} {end : ℕ} → Ends source at (good lines) end → BlockAt source at (Good end)
-  an-unexpected-end : {end : ℕ} → Ends source at unexpected-end end → BlockAt source at (UnexpectedEnd end)
-  a-missing-new-line : {end : ℕ} → Ends source at missing-new-line end → BlockAt source at (MissingNewLine end)
-  a-missing-indent : {end : ℕ} → Ends source at missing-indent end → BlockAt source at (MissingIndent end)
-  a-missing-termination : {end : ℕ} → Ends source at missing-termination end → BlockAt source at (MissingTermination end)
+  a_good : {lines : List (List ℕ)} {end : ℕ} → Ends source at (good lines) end → BlockAt source at (Good end)
+  an_unexpected_end : {end : ℕ} → Ends source at unexpected_end end → BlockAt source at (UnexpectedEnd end)
+  a_missing_new_line : {end : ℕ} → Ends source at missing_new_line end → BlockAt source at (MissingNewLine end)
+  a_missing_indent : {end : ℕ} → Ends source at missing_indent end → BlockAt source at (MissingIndent end)
+  a_missing_termination : {end : ℕ} → Ends source at missing_termination end → BlockAt source at (MissingTermination end)

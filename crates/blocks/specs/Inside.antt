@@ -3,7 +3,7 @@
 use Rattle.std.specs.Prelude.{◌≡◌, Bool, true, false, List, [], ◌∷◌, ◌++◌, ℕ, ◌+◌, ◌-◌, ◌≤◌, ltb, length, drop, replicate}
 use Rattle.std.proofs.lemmas.List.Edits.{sets}
 use Rattle.std.proofs.Math.Seq.{slice}
-use Rattle.blocks.specs.Blocks.{Run, Dash, NoBars, Sought, good, unexpected-end, missing-termination, Body, text, BlockText, BlockAt}
+use Rattle.blocks.specs.Blocks.{Run, Dash, NoBars, Sought, good, unexpected_end, missing_termination, Body, text, BlockText, BlockAt}
 use Rattle.blocks.specs.declared.Block.{Block}
 use Rattle.blocks.specs.declared.Block.TheVariants.{Good, UnexpectedEnd, MissingTermination}
 
@@ -57,14 +57,14 @@ pub data ClosedAt (s : List ℕ) (i a e : ℕ) (dash : Bool) (out : List ℕ) (w
 
 -- From place i, after the header line: a good block's text is stored, a bad one leaves what it leaves.
 pub data BodyAt (s : List ℕ) (i : ℕ) (dash : Bool) (out : List ℕ) : Block → ℕ → List ℕ → Type 0 where
-  a-good :
+  a_good :
       {lines : List (List ℕ)} {r : List ℕ} {j : ℕ} → Body (drop i s) (good lines) r → j + length r ≡ length s →
       BodyAt s i dash out (Good j) (length (text dash lines)) (sets out 0 (text dash lines))
-  an-unexpected-end : {j n : ℕ} {out₁ : List ℕ} → Body (drop i s) unexpected-end [] → j ≡ length s → BodyAt s i dash out (UnexpectedEnd j) n out₁
-  a-missing-termination :
-      {r : List ℕ} {j n : ℕ} {out₁ : List ℕ} → Body (drop i s) missing-termination r → j + length r ≡ length s → BodyAt s i dash out (MissingTermination j) n out₁
+  an_unexpected_end : {j n : ℕ} {out₁ : List ℕ} → Body (drop i s) unexpected_end [] → j ≡ length s → BodyAt s i dash out (UnexpectedEnd j) n out₁
+  a_missing_termination :
+      {r : List ℕ} {j n : ℕ} {out₁ : List ℕ} → Body (drop i s) missing_termination r → j + length r ≡ length s → BodyAt s i dash out (MissingTermination j) n out₁
 
 -- The whole walk: what stands there, and the text stored if there is one.
 pub data Walked (s : List ℕ) (at : ℕ) (out : List ℕ) : Block → ℕ → List ℕ → Type 0 where
-  a-text : {t : List ℕ} {j : ℕ} → BlockAt s at (Good j) → BlockText (drop at s) t → Walked s at out (Good j) (length t) (sets out 0 t)
+  a_text : {t : List ℕ} {j : ℕ} → BlockAt s at (Good j) → BlockText (drop at s) t → Walked s at out (Good j) (length t) (sets out 0 t)
   no_text : {b : Block} {n : ℕ} {out₁ : List ℕ} → BlockAt s at b → ((t : List ℕ) → BlockText (drop at s) t → ⊥) → Walked s at out b n out₁

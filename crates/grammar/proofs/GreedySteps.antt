@@ -87,9 +87,9 @@ module _ {G : Under} where
   finish {ys = ys} (goes us r f a) = got us r (f (done us r ys) ended) a
 
   -- A phrase that goes on from nothing is read.
-  pub from-goto : {q : Phrase} {p : ℕ} {xs ys : Lexemes} {t : Trees} → Goes G (goto q) none p xs end t ys → Got G q p xs t ys
+  pub from_goto : {q : Phrase} {p : ℕ} {xs ys : Lexemes} {t : Trees} → Goes G (goto q) none p xs end t ys → Got G q p xs t ys
   unfolding count
-  from-goto {q} {p} {xs} {ys} {t} (goes us r f a) = by (f (done us r ys) ended) a
+  from_goto {q} {p} {xs} {ys} {t} (goes us r f a) = by (f (done us r ys) ended) a
     where
       by : {us : Trees} {r : ℕ} → Reading G.prefix G.setting (goto q) none G.depth p xs (done us r ys) → Alike t us → Got G q p xs t ys
       by {us} {r} (gone x) a = got us r x a

@@ -6,18 +6,18 @@ use Prim.Native.Nat.{ℕ, ◌+◌}
 use native.Mathlib.Omega.{arith}
 use lib.ListN.{length, length-append}
 use Rattle.grammar.specs.Trees.{Field, byte, number, span, text, Trees, none, node, tree, ◌⊕◌, count}
-use Rattle.grammar.specs.Alike.{AlikeFields, same, spans, nil, ◌⋆◌, Alike, no-trees, a-node}
+use Rattle.grammar.specs.Alike.{AlikeFields, same, spans, nil, ◌⋆◌, Alike, no_trees, a_node}
 use Rattle.grammar.specs.Image.{two, payload, entry, image}
 
-pub row-end : (ts : Trees) → ts ⊕ none ≡ ts
+pub row_end : (ts : Trees) → ts ⊕ none ≡ ts
 unfolding ◌⊕◌
-row-end none = refl
-row-end (node tag fields children ts) = ap (node tag fields children) (row-end ts)
+row_end none = refl
+row_end (node tag fields children ts) = ap (node tag fields children) (row_end ts)
 
-pub row-assoc : (ts us vs : Trees) → (ts ⊕ us) ⊕ vs ≡ ts ⊕ (us ⊕ vs)
+pub row_assoc : (ts us vs : Trees) → (ts ⊕ us) ⊕ vs ≡ ts ⊕ (us ⊕ vs)
 unfolding ◌⊕◌
-row-assoc none us vs = refl
-row-assoc (node tag fields children ts) us vs = ap (node tag fields children) (row-assoc ts us vs)
+row_assoc none us vs = refl
+row_assoc (node tag fields children ts) us vs = ap (node tag fields children) (row_assoc ts us vs)
 
 pub count-row : (ts us : Trees) → count (ts ⊕ us) ≡ count ts + count us
 unfolding ◌⊕◌ count
@@ -31,9 +31,9 @@ image-row none us = refl
 image-row (node tag fields children ts) us =
     ap (λ (l : List ℕ). (image children ++ entry tag fields) ++ l) (image-row ts us) ∙ sym (append_assoc (image children ++ entry tag fields) (image ts) (image us))
 
-pub image-close : (tag : ℕ) (fields : List Field) (ts : Trees) → image (tree tag fields ts) ≡ image ts ++ entry tag fields
+pub image_close : (tag : ℕ) (fields : List Field) (ts : Trees) → image (tree tag fields ts) ≡ image ts ++ entry tag fields
 unfolding image
-image-close tag fields ts = append-nil (image ts ++ entry tag fields)
+image_close tag fields ts = append-nil (image ts ++ entry tag fields)
 
 pub image-leaf : (tag : ℕ) (fields : List Field) (ts : Trees) → image (ts ⊕ tree tag fields none) ≡ image ts ++ entry tag fields
 unfolding image
@@ -51,28 +51,28 @@ unfolding image
 image-length tag fields children ts =
     omega (arith, length-append (image children ++ entry tag fields) (image ts), length-append (image children) (entry tag fields), entry_length tag fields)
 
-pub close-length : (tag : ℕ) (fields : List Field) (ts : Trees) → length (image (tree tag fields ts)) ≡ length (image ts) + (3 + length (payload fields))
-close-length tag fields ts = omega (arith, ap length (image-close tag fields ts), length-append (image ts) (entry tag fields), entry_length tag fields)
+pub close_length : (tag : ℕ) (fields : List Field) (ts : Trees) → length (image (tree tag fields ts)) ≡ length (image ts) + (3 + length (payload fields))
+close_length tag fields ts = omega (arith, ap length (image_close tag fields ts), length-append (image ts) (entry tag fields), entry_length tag fields)
 
 pub row-length : (ts us : Trees) → length (image (ts ⊕ us)) ≡ length (image ts) + length (image us)
 row-length ts us = omega (arith, ap length (image-row ts us), length-append (image ts) (image us))
 
 -- ── The same but for spans: as many bytes ─────────────────────────────────────────────────────────
 
-same-field-length : (f : Field) {fs gs : List Field} → AlikeFields fs gs → length (payload fs) ≡ length (payload gs) → length (payload (f ∷ fs)) ≡ length (payload (f ∷ gs))
+same_field_length : (f : Field) {fs gs : List Field} → AlikeFields fs gs → length (payload fs) ≡ length (payload gs) → length (payload (f ∷ fs)) ≡ length (payload (f ∷ gs))
 unfolding payload
-same-field-length (byte b) a e = omega (arith, e)
-same-field-length (number n) a e = omega (arith, e)
-same-field-length (span i j) a e = omega (arith, e)
-same-field-length (text w) nil e = refl
-same-field-length (text w) (◌⋆◌ {f} {g} {fs} {gs} x a) e = omega (arith, e, length-append w (payload (f ∷ fs)), length-append w (payload (g ∷ gs)))
+same_field_length (byte b) a e = omega (arith, e)
+same_field_length (number n) a e = omega (arith, e)
+same_field_length (span i j) a e = omega (arith, e)
+same_field_length (text w) nil e = refl
+same_field_length (text w) (◌⋆◌ {f} {g} {fs} {gs} x a) e = omega (arith, e, length-append w (payload (f ∷ fs)), length-append w (payload (g ∷ gs)))
 
-alike-payload : {fs gs : List Field} → AlikeFields fs gs → length (payload fs) ≡ length (payload gs)
+alike_payload : {fs gs : List Field} → AlikeFields fs gs → length (payload fs) ≡ length (payload gs)
 unfolding payload
-alike-payload nil = refl
-alike-payload (◌⋆◌ {f} {g} {fs} {gs} (same e) a) = subst (λ (h : Field). length (payload (f ∷ fs)) ≡ length (payload (h ∷ gs))) e (same-field-length f a (alike-payload a))
-alike-payload (spans ⋆ a) = omega (arith, alike-payload a)
+alike_payload nil = refl
+alike_payload (◌⋆◌ {f} {g} {fs} {gs} (same e) a) = subst (λ (h : Field). length (payload (f ∷ fs)) ≡ length (payload (h ∷ gs))) e (same_field_length f a (alike_payload a))
+alike_payload (spans ⋆ a) = omega (arith, alike_payload a)
 
-pub alike-length : {ts us : Trees} → Alike ts us → length (image ts) ≡ length (image us)
-alike-length no-trees = refl
-alike-length (a-node {t} {fs} {gs} {cs} {ds} {ts} {us} f c r) = omega (arith, image-length t fs cs ts, image-length t gs ds us, alike-payload f, alike-length c, alike-length r)
+pub alike_length : {ts us : Trees} → Alike ts us → length (image ts) ≡ length (image us)
+alike_length no_trees = refl
+alike_length (a_node {t} {fs} {gs} {cs} {ds} {ts} {us} f c r) = omega (arith, image-length t fs cs ts, image-length t gs ds us, alike_payload f, alike_length c, alike_length r)

@@ -6,29 +6,29 @@ use Prim.Native.Nat.{ℕ}
 use lib.Dec.{leb→le, ltb→lt}
 use lib.ListN.{length, replicate}
 use borrow.Author.Tests.{eqb-false}
-use Rattle.strings.proofs.Marked.{marked-reading-5, marked-reading-6, marked-reading-7}
-use Rattle.blocks.specs.Blocks.{a-good, ends}
-use Rattle.blocks.proofs.Marked.{marked-reading-8}
-use Rattle.lexemes.specs.Kinds.{EOF, IDENT, STRING-BLOCK}
+use Rattle.strings.proofs.Marked.{marked_reading_5, marked_reading_6, marked_reading_7}
+use Rattle.blocks.specs.Blocks.{a_good, ends}
+use Rattle.blocks.proofs.Marked.{marked_reading_8}
+use Rattle.lexemes.specs.Kinds.{EOF, IDENT, STRING_BLOCK}
 use Rattle.lexemes.specs.Letters.{ascii}
 use Rattle.lexemes.specs.Lexeme.{lexeme, block}
-use Rattle.lexemes.specs.Kept.{Lexemes, keep, firstBad}
+use Rattle.lexemes.specs.Kept.{Lexemes, keep, first_bad}
 use Rattle.lexemes.specs.Kept as lexemes
 use Rattle.lexemes.specs.Rules.{rules}
 use Rattle.lexemes.specs.Letters.{letter, next}
-use Rattle.lexemes.proofs.Munch.{all, lex, lexed, munch, munched-ruled}
+use Rattle.lexemes.proofs.Munch.{all, lex, lexed, munch, munched_ruled}
 use Rattle.lexemes.specs.Texts.{plain}
 use Rattle.grammar.specs.Trees.{Trees, ◌⊕◌, count}
 use Rattle.grammar.specs.Image.{image, entry, payload}
-use Rattle.grammar.specs.Lexemes.{good, said, spoiled-at}
-use Rattle.grammar.specs.Productions.{rule, with-field, with-assert, with-member}
+use Rattle.grammar.specs.Lexemes.{good, said, spoiled_at}
+use Rattle.grammar.specs.Productions.{rule, with_field, with_assert, with_member}
 use Rattle.grammar.specs.Reading.{has, published, choose, view, production}
-use Rattle.grammar.specs.Says.{its-text, its-escape, Told}
+use Rattle.grammar.specs.Says.{its_text, its_escape, Told}
 use Rattle.grammar.specs.Says as says_of
-use Rattle.grammar.specs.Answer.{refused, tree, verdict, Judged, bad-lexeme, prefix-power, document-01}
+use Rattle.grammar.specs.Answer.{refused, tree, verdict, Judged, bad_lexeme, prefix_power, document_01}
 use Rattle.grammar.specs.Source.{Bad, bad, Kept}
 use Rattle.grammar.proofs.Execute.{run, after}
-use Rattle.grammar.proofs.Computed.{low, low-utf8, number_at, word_at, no-string, words, no-strings, judge, plainly}
+use Rattle.grammar.proofs.Computed.{low, low_utf8, number_at, word_at, no_string, words, no_strings, judge, plainly}
 
 -- ---- a claim, from bytes
 
@@ -38,8 +38,8 @@ pub data Claim : Type 0 where
   refuses : ℕ → List ℕ → ℕ → ℕ → ℕ → ℕ → Claim
 
 abbrev pub Holds : Claim → Type 0
-Holds (reads s bytes img) = (ts : Trees) × Judged Bad Kept document-01 s bytes (tree ts) × (image ts ≡ img)
-Holds (refuses s bytes n a e x) = Judged Bad Kept document-01 s bytes (refused n a e x)
+Holds (reads s bytes img) = (ts : Trees) × Judged Bad Kept document_01 s bytes (tree ts) × (image ts ≡ img)
+Holds (refuses s bytes n a e x) = Judged Bad Kept document_01 s bytes (refused n a e x)
 
 -- So it is with each of some claims.
 abbrev pub Each : (Claim → Type 0) → List Claim → Type 0
@@ -52,13 +52,13 @@ Every P [] = Unit
 Every P (r ∷ rs) = Each P r × Every P rs
 
 module _ {P Q : Claim → Type 0} (so : (c : Claim) → P c → Q c) where
-  pub each-so : (cs : List Claim) → Each P cs → Each Q cs
-  each-so [] h = tt
-  each-so (c ∷ cs) h = (so c h.0, each-so cs h.1)
+  pub each_so : (cs : List Claim) → Each P cs → Each Q cs
+  each_so [] h = tt
+  each_so (c ∷ cs) h = (so c h.0, each_so cs h.1)
 
-  pub every-so : (rs : List (List Claim)) → Every P rs → Every Q rs
-  every-so [] h = tt
-  every-so (r ∷ rs) h = (each-so r h.0, every-so rs h.1)
+  pub every_so : (rs : List (List Claim)) → Every P rs → Every Q rs
+  every_so [] h = tt
+  every_so (r ∷ rs) h = (each_so r h.0, every_so rs h.1)
 
 -- ---- 01's list
 
@@ -98,9 +98,9 @@ marked =
     (reads 0 (parens 199) (0x04 ∷ 0x00 ∷ 0x01 ∷ 0x31 ∷ []) ∷ refuses 0 (parens 200) 11 200 201 0 ∷ []) ∷
     []
 
-pub marked-are-thirteen : length marked ≡ 13
+pub marked_are_thirteen : length marked ≡ 13
 unfolding marked
-marked-are-thirteen = refl
+marked_are_thirteen = refl
 
 -- Further sentences of 01.
 unfoldable pub further : List Claim
@@ -115,20 +115,20 @@ further =
     reads 0 (ascii "-a*b") (0x06 ∷ 0x00 ∷ 0x05 ∷ 0x00 ∷ 0x01 ∷ 0x00 ∷ 0x02 ∷ 0x61 ∷ 0x06 ∷ 0x00 ∷ 0x05 ∷ 0x00 ∷ 0x03 ∷ 0x00 ∷ 0x04 ∷ 0x62 ∷ 0x0D ∷ 0x00 ∷ 0x05 ∷ 0x00 ∷ 0x00 ∷ 0x02 ∷ 0x00 ∷ 0x03 ∷ 0x0C ∷ 0x00 ∷ 0x01 ∷ 0x01 ∷ []) ∷
     []
 
-block-source : List ℕ
-block-source = 0x7C ∷ 0x7C ∷ 0x7C ∷ 0x2D ∷ 0x0A ∷ 0x20 ∷ 0x20 ∷ 0x6D ∷ 0x61 ∷ 0x73 ∷ 0x73 ∷ 0x0A ∷ 0x20 ∷ 0x20 ∷ 0x64 ∷ 0x65 ∷ 0x70 ∷ 0x74 ∷ 0x68 ∷ 0x0A ∷ 0x7C ∷ 0x7C ∷ 0x7C ∷ []
+block_source : List ℕ
+block_source = 0x7C ∷ 0x7C ∷ 0x7C ∷ 0x2D ∷ 0x0A ∷ 0x20 ∷ 0x20 ∷ 0x6D ∷ 0x61 ∷ 0x73 ∷ 0x73 ∷ 0x0A ∷ 0x20 ∷ 0x20 ∷ 0x64 ∷ 0x65 ∷ 0x70 ∷ 0x74 ∷ 0x68 ∷ 0x0A ∷ 0x7C ∷ 0x7C ∷ 0x7C ∷ []
 
-block-lexemes : Lexemes block-source 0 (lexeme STRING-BLOCK 0 23 ∷ [])
-unfolding block-source rules munch letter next
-block-lexemes =
+block_lexemes : Lexemes block_source 0 (lexeme STRING_BLOCK 0 23 ∷ [])
+unfolding block_source rules munch letter next
+block_lexemes =
     lexemes.Lexemes.some (ltb→lt 0 23 tt)
-    (block (ltb→lt 0 23 tt) (munched-ruled block-source 0 STRING-BLOCK 3 refl) (a-good (ends marked-reading-8.0 refl)) refl)
+    (block (ltb→lt 0 23 tt) (munched_ruled block_source 0 STRING_BLOCK 3 refl) (a_good (ends marked_reading_8.0 refl)) refl)
     (lexemes.Lexemes.none (leb→le 23 23 tt))
 
-pub marked-readings : Every Holds marked
-unfolding marked parens block-source lex rules firstBad keep lexemes.bad lexemes.dropped no-strings no-string words word_at plain low run after prefix-power published production choose rule view has ◌⊕◌ count with-field with-assert with-member good said spoiled-at image entry payload verdict
-marked-readings = ((plainly 0 _ _ _ tt tt tt refl refl tt refl, tt), (((_, plainly 0 _ _ _ tt tt tt refl refl tt refl, refl), tt), ((plainly 0 _ _ _ tt tt tt refl refl tt refl, tt), (((_, plainly 0 _ _ _ tt tt tt refl refl tt refl, refl), tt), (((_, judge 0 _ _ _ _ tt tt tt (lexed _ 500 0 _ refl) refl (Told.more (its-text (says_of.Means.double marked-reading-5)) Told.none) refl, refl), tt), (((_, judge 0 _ _ _ _ tt tt tt (lexed _ 500 0 _ refl) refl (Told.more (its-text (says_of.Means.double marked-reading-6)) Told.none) refl, refl), tt), ((judge 0 _ _ _ _ tt tt tt (lexed _ 500 0 _ refl) refl (Told.more (its-escape (says_of.in-double marked-reading-7)) Told.none) refl, tt), (((_, judge 0 block-source _ _ _ tt tt tt block-lexemes refl (Told.more (its-text (says_of.Means.block marked-reading-8.1)) Told.none) refl, refl), tt), ((plainly 0 _ _ _ tt tt tt refl refl tt refl, tt), ((bad-lexeme refl (leb→le 17 65000 tt) (low-utf8 _ tt) (bad (eqb-false 39 EOF refl) (record { lexemes = _; all = lexed (ascii "if a then 1else 2") 500 0 _ refl; is-first = refl })), tt), ((plainly 0 _ _ _ tt tt tt refl refl tt refl, tt), ((plainly 0 _ _ _ tt tt tt refl refl tt refl, (plainly 1 _ _ _ tt tt tt refl refl tt refl, ((_, plainly 2 _ _ _ tt tt tt refl refl tt refl, refl), tt))), (((_, plainly 0 _ _ _ tt tt tt refl refl tt refl, refl), (plainly 0 _ _ _ tt tt tt refl refl tt refl, tt)), tt)))))))))))))
+pub marked_readings : Every Holds marked
+unfolding marked parens block_source lex rules first_bad keep lexemes.bad lexemes.dropped no_strings no_string words word_at plain low run after prefix_power published production choose rule view has ◌⊕◌ count with_field with_assert with_member good said spoiled_at image entry payload verdict
+marked_readings = ((plainly 0 _ _ _ tt tt tt refl refl tt refl, tt), (((_, plainly 0 _ _ _ tt tt tt refl refl tt refl, refl), tt), ((plainly 0 _ _ _ tt tt tt refl refl tt refl, tt), (((_, plainly 0 _ _ _ tt tt tt refl refl tt refl, refl), tt), (((_, judge 0 _ _ _ _ tt tt tt (lexed _ 500 0 _ refl) refl (Told.more (its_text (says_of.Means.double marked_reading_5)) Told.none) refl, refl), tt), (((_, judge 0 _ _ _ _ tt tt tt (lexed _ 500 0 _ refl) refl (Told.more (its_text (says_of.Means.double marked_reading_6)) Told.none) refl, refl), tt), ((judge 0 _ _ _ _ tt tt tt (lexed _ 500 0 _ refl) refl (Told.more (its_escape (says_of.in_double marked_reading_7)) Told.none) refl, tt), (((_, judge 0 block_source _ _ _ tt tt tt block_lexemes refl (Told.more (its_text (says_of.Means.block marked_reading_8.1)) Told.none) refl, refl), tt), ((plainly 0 _ _ _ tt tt tt refl refl tt refl, tt), ((bad_lexeme refl (leb→le 17 65000 tt) (low_utf8 _ tt) (bad (eqb-false 39 EOF refl) (record { lexemes = _; all = lexed (ascii "if a then 1else 2") 500 0 _ refl; is_first = refl })), tt), ((plainly 0 _ _ _ tt tt tt refl refl tt refl, tt), ((plainly 0 _ _ _ tt tt tt refl refl tt refl, (plainly 1 _ _ _ tt tt tt refl refl tt refl, ((_, plainly 2 _ _ _ tt tt tt refl refl tt refl, refl), tt))), (((_, plainly 0 _ _ _ tt tt tt refl refl tt refl, refl), (plainly 0 _ _ _ tt tt tt refl refl tt refl, tt)), tt)))))))))))))
 
-pub further-readings : Each Holds further
-unfolding further lex rules firstBad keep lexemes.bad lexemes.dropped no-strings no-string words word_at plain low run after prefix-power published production choose rule view has ◌⊕◌ count with-field with-assert with-member good said spoiled-at image entry payload verdict
-further-readings = ((_, plainly 0 _ _ _ tt tt tt refl refl tt refl, refl), (plainly 0 _ _ _ tt tt tt refl refl tt refl, ((_, plainly 0 _ _ _ tt tt tt refl refl tt refl, refl), ((_, plainly 0 _ _ _ tt tt tt refl refl tt refl, refl), tt))))
+pub further_readings : Each Holds further
+unfolding further lex rules first_bad keep lexemes.bad lexemes.dropped no_strings no_string words word_at plain low run after prefix_power published production choose rule view has ◌⊕◌ count with_field with_assert with_member good said spoiled_at image entry payload verdict
+further_readings = ((_, plainly 0 _ _ _ tt tt tt refl refl tt refl, refl), (plainly 0 _ _ _ tt tt tt refl refl tt refl, ((_, plainly 0 _ _ _ tt tt tt refl refl tt refl, refl), ((_, plainly 0 _ _ _ tt tt tt refl refl tt refl, refl), tt))))

@@ -19,9 +19,9 @@ unfoldable pub Signs : List Sign → Type 0
 Signs [] = Unit
 Signs (sign k o ∷ rest) = Unary k o × T (not (eqb k EOF)) × Signs rest
 
-pub signs-sound : Signs signs
+pub signs_sound : Signs signs
 unfolding Signs signs
-signs-sound = (Unary.plus, tt, (Unary.minus, tt, (Unary.bit_not, tt, (Unary.not, tt, tt))))
+signs_sound = (Unary.plus, tt, (Unary.minus, tt, (Unary.bit_not, tt, (Unary.not, tt, tt))))
 
 module _ (s : ℕ) where
   -- Each operator of a list is one of the forms, its right power is one more than its left; it is not EOF, and no `=`.
@@ -30,9 +30,9 @@ module _ (s : ℕ) where
     more : {k l o : ℕ} {g : Switch} {rest : List Operator} → (T (has s g) → Binary s k l o) → T (not (eqb k EOF)) → T (not (eqb k ASSIGN)) → Sound rest
         → Sound (op k g l (l + 1) o ∷ rest)
 
-  pub operators-sound : Sound operators
+  pub operators_sound : Sound operators
   unfolding operators
-  operators-sound =
+  operators_sound =
       more (λ h. Binary.or) tt tt
       (more (λ h. Binary.coalesce h) tt tt
       (more (λ h. Binary.and) tt tt
@@ -45,7 +45,7 @@ module _ (s : ℕ) where
       (more (λ h. Binary.gt) tt tt
       (more (λ h. Binary.le) tt tt
       (more (λ h. Binary.ge) tt tt
-      (more (λ h. Binary.in-object) tt tt
+      (more (λ h. Binary.in_object) tt tt
       (more (λ h. Binary.lhs) tt tt
       (more (λ h. Binary.rhs) tt tt
       (more (λ h. Binary.plus) tt tt
@@ -67,10 +67,10 @@ module _ (s : ℕ) where
   finds k l o [] = false
   finds k l o (op j g l' r o' ∷ rest) = elim (eqb k j) [ true ↦ eqb l l' && (eqb o o' && has s g) | false ↦ finds k l o rest ]
 
-  finds-found : (k l o : ℕ) (ops : List Operator) → Sound ops → T (finds k l o ops) → Found k l o ops
+  finds_found : (k l o : ℕ) (ops : List Operator) → Sound ops → T (finds k l o ops) → Found k l o ops
   unfolding finds
-  finds-found k l o [] h f = absurd f
-  finds-found k l o (op j g l' r o' ∷ rest) (more b e n h) f = by (eqb k j) refl f (finds-found k l o rest h)
+  finds_found k l o [] h f = absurd f
+  finds_found k l o (op j g l' r o' ∷ rest) (more b e n h) f = by (eqb k j) refl f (finds_found k l o rest h)
     where
       by : (b : Bool) → eqb k j ≡ b → T (elim b [ true ↦ eqb l l' && (eqb o o' && has s g) | false ↦ finds k l o rest ])
           → (T (finds k l o rest) → Found k l o rest) → Found k l o (op j g l' (l' + 1) o' ∷ rest)
@@ -85,7 +85,7 @@ module _ (s : ℕ) where
   -- Each operator of the forms is found among the productions'.
   pub found : {k l o : ℕ} → Binary s k l o → Found k l o operators
   unfolding finds operators has
-  found {k} {l} {o} b = finds-found k l o operators operators-sound (by b)
+  found {k} {l} {o} b = finds_found k l o operators operators_sound (by b)
     where
       by : {k l o : ℕ} → Binary s k l o → T (finds k l o operators)
       by Binary.or = tt
@@ -100,7 +100,7 @@ module _ (s : ℕ) where
       by Binary.gt = tt
       by Binary.le = tt
       by Binary.ge = tt
-      by Binary.in-object = tt
+      by Binary.in_object = tt
       by Binary.lhs = tt
       by Binary.rhs = tt
       by Binary.plus = tt
@@ -109,12 +109,12 @@ module _ (s : ℕ) where
       by Binary.div = tt
       by Binary.modulo = tt
 
-  pub not-assign : {k l o : ℕ} {ops : List Operator} → Sound ops → Found k l o ops → T (eqb k ASSIGN) → ⊥
-  not-assign {k} (more b e n h) (here on) t = T_not (eqb k ASSIGN) n t
-  not-assign (more b e n h) (there off f) t = not-assign h f t
+  pub not_assign : {k l o : ℕ} {ops : List Operator} → Sound ops → Found k l o ops → T (eqb k ASSIGN) → ⊥
+  not_assign {k} (more b e n h) (here on) t = T_not (eqb k ASSIGN) n t
+  not_assign (more b e n h) (there off f) t = not_assign h f t
 
 -- Not this one, so a later one.
-pub found-later : {s i k l l' r o o' : ℕ} {g : Switch} {ops : List Operator} (m : ℕ) → Found s i l' o' (op k g l r o ∷ ops) → m ≤ l'
+pub found_later : {s i k l l' r o o' : ℕ} {g : Switch} {ops : List Operator} (m : ℕ) → Found s i l' o' (op k g l r o ∷ ops) → m ≤ l'
     → (T (eqb i k && leb m l) → T (has s g) → ⊥) → Found s i l' o' ops
-found-later {k = k} {l = l} m (here on) le off = absurd (off (both (eqb k k) (leb m l) (eqb_refl k) (le→leb m l le)) on)
-found-later m (there n f) le off = f
+found_later {k = k} {l = l} m (here on) le off = absurd (off (both (eqb k k) (leb m l) (eqb_refl k) (le→leb m l le)) on)
+found_later m (there n f) le off = f

@@ -5,7 +5,7 @@ use mathlib.Core.Bool.{not}
 use Prim.Native.Nat.{ℕ, zero, suc, ◌+◌, ◌≤◌, ◌<◌}
 use native.Mathlib.Omega.{arith}
 use lib.Dec.{T}
-use Rattle.grammar.specs.Productions.{exp-null-coaelse}
+use Rattle.grammar.specs.Productions.{exp_null_coaelse}
 use Rattle.grammar.specs.Reading.{has}
 use Rattle.grammar.specs.Spells.{Unary, Identity, Import, Binary}
 use Rattle.grammar.proofs.Stretches.{suffixing}
@@ -26,59 +26,59 @@ at : {P : ℕ → Type 0} {m : ℕ} → Rows P m 0 → (o : ℕ) → o < m → P
 at {P} t o h = let e : 0 + o ≡ o = omega arith in subst P e (find t o (omega arith))
 
 pub data IdentityOf (o : ℕ) : Type 0 where
-  an-identity : {k : ℕ} → Identity k o → T (wordless k) → IdentityOf o
+  an_identity : {k : ℕ} → Identity k o → T (wordless k) → IdentityOf o
 
 pub data ImportOf (o : ℕ) : Type 0 where
-  an-import : {k : ℕ} → Import k o → T (wordless k) → ImportOf o
+  an_import : {k : ℕ} → Import k o → T (wordless k) → ImportOf o
 
 pub data SignOf (o : ℕ) : Type 0 where
-  a-sign : {k : ℕ} → Unary k o → T (wordless k) → SignOf o
+  a_sign : {k : ℕ} → Unary k o → T (wordless k) → SignOf o
 
 pub data OperatorOf (s o : ℕ) : Type 0 where
-  an-operator : {k l : ℕ} → Binary s k l o → T (wordless k) → T (not (suffixing k)) → OperatorOf s o
+  an_operator : {k l : ℕ} → Binary s k l o → T (wordless k) → T (not (suffixing k)) → OperatorOf s o
 
 identities : Rows IdentityOf 3 0
-identities = an-identity Identity.self tt row an-identity Identity.super tt row an-identity Identity.dollar tt row none
+identities = an_identity Identity.self tt row an_identity Identity.super tt row an_identity Identity.dollar tt row none
 
 imports : Rows ImportOf 3 0
-imports = an-import Import.import tt row an-import Import.importstr tt row an-import Import.importbin tt row none
+imports = an_import Import.import tt row an_import Import.importstr tt row an_import Import.importbin tt row none
 
 signs : Rows SignOf 4 0
-signs = a-sign Unary.plus tt row a-sign Unary.minus tt row a-sign Unary.bit_not tt row a-sign Unary.not tt row none
+signs = a_sign Unary.plus tt row a_sign Unary.minus tt row a_sign Unary.bit_not tt row a_sign Unary.not tt row none
 
-pub identity-of : (o : ℕ) → o ≤ 2 → IdentityOf o
-identity-of o h = at identities o (omega arith)
+pub identity_of : (o : ℕ) → o ≤ 2 → IdentityOf o
+identity_of o h = at identities o (omega arith)
 
-pub import-of : (o : ℕ) → o ≤ 2 → ImportOf o
-import-of o h = at imports o (omega arith)
+pub import_of : (o : ℕ) → o ≤ 2 → ImportOf o
+import_of o h = at imports o (omega arith)
 
 pub sign_of : (o : ℕ) → o ≤ 3 → SignOf o
 sign_of o h = at signs o (omega arith)
 
-module _ {s : ℕ} (on : T (has s exp-null-coaelse)) where
+module _ {s : ℕ} (on : T (has s exp_null_coaelse)) where
   binaries : Rows (OperatorOf s) 20 0
   binaries =
-      an-operator Binary.mul tt tt row
-      an-operator Binary.div tt tt row
-      an-operator Binary.modulo tt tt row
-      an-operator Binary.plus tt tt row
-      an-operator Binary.minus tt tt row
-      an-operator Binary.lhs tt tt row
-      an-operator Binary.rhs tt tt row
-      an-operator Binary.lt tt tt row
-      an-operator Binary.gt tt tt row
-      an-operator Binary.le tt tt row
-      an-operator Binary.ge tt tt row
-      an-operator Binary.bit_and tt tt row
-      an-operator Binary.bit_or tt tt row
-      an-operator Binary.bit_xor tt tt row
-      an-operator Binary.eq tt tt row
-      an-operator Binary.ne tt tt row
-      an-operator Binary.and tt tt row
-      an-operator Binary.or tt tt row
-      an-operator (Binary.coalesce on) tt tt row
-      an-operator Binary.in-object tt tt row
+      an_operator Binary.mul tt tt row
+      an_operator Binary.div tt tt row
+      an_operator Binary.modulo tt tt row
+      an_operator Binary.plus tt tt row
+      an_operator Binary.minus tt tt row
+      an_operator Binary.lhs tt tt row
+      an_operator Binary.rhs tt tt row
+      an_operator Binary.lt tt tt row
+      an_operator Binary.gt tt tt row
+      an_operator Binary.le tt tt row
+      an_operator Binary.ge tt tt row
+      an_operator Binary.bit_and tt tt row
+      an_operator Binary.bit_or tt tt row
+      an_operator Binary.bit_xor tt tt row
+      an_operator Binary.eq tt tt row
+      an_operator Binary.ne tt tt row
+      an_operator Binary.and tt tt row
+      an_operator Binary.or tt tt row
+      an_operator (Binary.coalesce on) tt tt row
+      an_operator Binary.in_object tt tt row
       none
 
-  pub operator-of : (o : ℕ) → o ≤ 19 → OperatorOf s o
-  operator-of o h = at binaries o (omega arith)
+  pub operator_of : (o : ℕ) → o ≤ 19 → OperatorOf s o
+  operator_of o h = at binaries o (omega arith)

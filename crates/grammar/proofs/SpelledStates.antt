@@ -10,7 +10,7 @@ use lib.Dec.{T, leb, leb→le, nleb→lt}
 use Rattle.lexemes.specs.Kinds.{COMMA}
 use Rattle.grammar.specs.Tags.{PREFIX, INFIX}
 use Rattle.grammar.specs.Trees.{Field, byte, span, Trees, none, tree, ◌⊕◌, count}
-use Rattle.grammar.specs.Lexemes.{kind-of}
+use Rattle.grammar.specs.Lexemes.{kind_of}
 use Rattle.grammar.specs.Spells.{Lexemes, ◌is◌then◌, Unary, Binary, Open, Continues, greedily, Spells}
 use Rattle.grammar.specs.Spells.{Category as C}
 
@@ -49,7 +49,7 @@ module _ (R : Rules) where
 
   -- An expression that is over, and stands before nothing that continues it.
   pub data Over (m : ℕ) : Lexemes → Trees → Lexemes → Type 0 where
-    over : {x₀ x : Lexemes} {t : Trees} → Sp (C.expr m) x₀ t x → count t ≡ 1 → greedily R.setting (Open.operations m) (kind-of x) → Over m x₀ t x
+    over : {x₀ x : Lexemes} {t : Trees} → Sp (C.expr m) x₀ t x → count t ≡ 1 → greedily R.setting (Open.operations m) (kind_of x) → Over m x₀ t x
 
   pub plain : {m : ℕ} {x₀ x : Lexemes} {t : Trees} → Over m x₀ t x → Sp (C.expr m) x₀ t x
   plain (over e c g) = e
@@ -60,7 +60,7 @@ module _ (R : Rules) where
   -- An operation of level m so far; if an operator comes, it is one of that operator's level too.
   pub data Tail (m : ℕ) : Lexemes → Trees → Lexemes → Type 0 where
     tail : {x₀ x : Lexemes} {t : Trees} → count t ≡ 1 → Sp (C.operation m) x₀ t x
-        → ((l o : ℕ) → Binary R.setting (kind-of x) l o → Sp (C.operation l) x₀ t x) → Tail m x₀ t x
+        → ((l o : ℕ) → Binary R.setting (kind_of x) l o → Sp (C.operation l) x₀ t x) → Tail m x₀ t x
 
   -- Rows: with an item last that has no comma yet.
   pub data Last (c : C) : Lexemes → Trees → Lexemes → Type 0 where
@@ -74,29 +74,29 @@ module _ (R : Rules) where
 
   -- ── Operations ──────────────────────────────────────────────────────────────────────────────────
 
-  pub as-operand : {m : ℕ} {x₀ x : Lexemes} {t : Trees} → One C.suffixed x₀ t x → Tail m x₀ t x
-  as-operand (one e o) = tail o (Spells.operand e) (λ l o b. Spells.operand e)
+  pub as_operand : {m : ℕ} {x₀ x : Lexemes} {t : Trees} → One C.suffixed x₀ t x → Tail m x₀ t x
+  as_operand (one e o) = tail o (Spells.operand e) (λ l o b. Spells.operand e)
 
-  pub as-signed : {m k o : ℕ} {x₀ y x : Lexemes} {t : Trees} → Unary k o → x₀ is k then y → Over R.prefix y t x → Tail m x₀ (tree PREFIX (byte o ∷ []) t) x
+  pub as_signed : {m k o : ℕ} {x₀ y x : Lexemes} {t : Trees} → Unary k o → x₀ is k then y → Over R.prefix y t x → Tail m x₀ (tree PREFIX (byte o ∷ []) t) x
   unfolding count
-  as-signed u k a = tail refl (Spells.prefixed u k (plain a)) (λ l o b. Spells.prefixed u k (plain a))
+  as_signed u k a = tail refl (Spells.prefixed u k (plain a)) (λ l o b. Spells.prefixed u k (plain a))
 
   pub chained : {x₀ x : Lexemes} {t : Trees} → One C.basic x₀ t x → One (C.chain 1) x₀ t x
   chained (one e o) = one (Spells.bare e) o
 
-  pub a-string : {x₀ x : Lexemes} {t : Trees} → One C.string x₀ t x → One C.basic x₀ t x
-  a-string (one e o) = one (Spells.literal e) o
+  pub a_string : {x₀ x : Lexemes} {t : Trees} → One C.string x₀ t x → One C.basic x₀ t x
+  a_string (one e o) = one (Spells.literal e) o
 
   pub named_by : {x₀ x : Lexemes} {t : Trees} → One C.string x₀ t x → One (C.name 0) x₀ t x
-  named_by (one e o) = one (Spells.name-literal e) o
+  named_by (one e o) = one (Spells.name_literal e) o
 
   -- The operator that comes next, if one does, is of no higher level: the right operand would have taken it.
-  pub as-binary : {m k l o a e : ℕ} {x₀ y z x : Lexemes} {t u : Trees} → Binary R.setting k l o → m ≤ l → Sp (C.operation l) x₀ t y → y is k then z
+  pub as_binary : {m k l o a e : ℕ} {x₀ y z x : Lexemes} {t u : Trees} → Binary R.setting k l o → m ≤ l → Sp (C.operation l) x₀ t y → y is k then z
       → Over (l + 1) z u x
       → Tail m x₀ (tree INFIX (byte o ∷ span a e ∷ []) (t ⊕ u)) x
   unfolding count
-  as-binary {l = l} {x = x} b le e j (over g c w) = tail refl (Spells.infixed b le e j g) (λ l' o' b'. Spells.infixed b (by l' o' (leb l' l) refl b') e j g)
+  as_binary {l = l} {x = x} b le e j (over g c w) = tail refl (Spells.infixed b le e j g) (λ l' o' b'. Spells.infixed b (by l' o' (leb l' l) refl b') e j g)
     where
-      by : (l' o' : ℕ) (c : Bool) → leb l' l ≡ c → Binary R.setting (kind-of x) l' o' → l' ≤ l
+      by : (l' o' : ℕ) (c : Bool) → leb l' l ≡ c → Binary R.setting (kind_of x) l' o' → l' ≤ l
       by l' o' true q b = leb→le l' l (subst T (sym q) tt)
       by l' o' false q b = absurd (w (Continues.operator b (omega (arith, nleb→lt l' l (subst (λ (c : Bool). T (not c)) (sym q) tt)))))

@@ -5,9 +5,9 @@ use mathlib.Core.List.{List, [], ◌∷◌}
 use Prim.Native.Nat.{ℕ}
 use lib.Dec.{T, T_not, eqb, eqb_refl}
 use Rattle.strings.specs.Utf8.{Utf8}
-use Rattle.lexemes.specs.Kinds.{EOF, OR, NULL-COAELSE, AND, BIT-OR, BIT-XOR, BIT-AND, EQ, NE, LT, GT, LE, GE, LHS, RHS, PLUS, MINUS, MUL, DIV, MODULO}
-use Rattle.lexemes.specs.Kinds.{L-BRACK, R-BRACK, L-PAREN, R-PAREN, L-BRACE, R-BRACE, COLON, SEMI, DOT, COMMA, ASSIGN, QUESTION-MARK, FLOAT, IDENT}
-use Rattle.lexemes.specs.Kinds.{STRING-DOUBLE, IF-KW, THEN-KW, ELSE-KW, IN-KW, FOR-KW}
+use Rattle.lexemes.specs.Kinds.{EOF, OR, NULL_COAELSE, AND, BIT_OR, BIT_XOR, BIT_AND, EQ, NE, LT, GT, LE, GE, LHS, RHS, PLUS, MINUS, MUL, DIV, MODULO}
+use Rattle.lexemes.specs.Kinds.{L_BRACK, R_BRACK, L_PAREN, R_PAREN, L_BRACE, R_BRACE, COLON, SEMI, DOT, COMMA, ASSIGN, QUESTION_MARK, FLOAT, IDENT}
+use Rattle.lexemes.specs.Kinds.{STRING_DOUBLE, IF_KW, THEN_KW, ELSE_KW, IN_KW, FOR_KW}
 use Rattle.grammar.specs.Lexemes.{says, nothing, Lexeme}
 use Rattle.grammar.specs.Words.{NameText, NumberText, Possible, Worded}
 use Rattle.grammar.specs.Spells.{Quoted, Binary, Open, Continues, greedily}
@@ -46,7 +46,7 @@ abbrev pub numbered : (w : List ℕ) → NumberText w → Stretch
 numbered w h = record { before = λ ys. speaking FLOAT w ∷ ys; worded = λ ys x. Worded.more (Possible.numeral h) x }
 
 abbrev pub quoted : (w : List ℕ) → Utf8 w → Stretch
-quoted w h = record { before = λ ys. speaking STRING-DOUBLE w ∷ ys; worded = λ ys x. Worded.more (Possible.string Quoted.double h) x }
+quoted w h = record { before = λ ys. speaking STRING_DOUBLE w ∷ ys; worded = λ ys x. Worded.more (Possible.string Quoted.double h) x }
 
 -- ── Where phrases are over ────────────────────────────────────────────────────────────────────────
 
@@ -55,38 +55,38 @@ among k [] = false
 among k (j ∷ js) = eqb k j || among k js
 
 abbrev pub suffixing : ℕ → Bool
-suffixing k = among k (DOT ∷ L-BRACK ∷ L-PAREN ∷ L-BRACE ∷ QUESTION-MARK ∷ [])
+suffixing k = among k (DOT ∷ L_BRACK ∷ L_PAREN ∷ L_BRACE ∷ QUESTION_MARK ∷ [])
 
 abbrev pub operating : ℕ → Bool
 operating k =
     among k
-    (OR ∷ NULL-COAELSE ∷ AND ∷ BIT-OR ∷ BIT-XOR ∷ BIT-AND ∷ EQ ∷ NE ∷ LT ∷ GT ∷ LE ∷ GE ∷ IN-KW ∷ LHS ∷ RHS ∷ PLUS ∷ MINUS ∷ MUL ∷ DIV ∷ MODULO ∷ [])
+    (OR ∷ NULL_COAELSE ∷ AND ∷ BIT_OR ∷ BIT_XOR ∷ BIT_AND ∷ EQ ∷ NE ∷ LT ∷ GT ∷ LE ∷ GE ∷ IN_KW ∷ LHS ∷ RHS ∷ PLUS ∷ MINUS ∷ MUL ∷ DIV ∷ MODULO ∷ [])
 
-binary-operating : {s k l o : ℕ} → Binary s k l o → T (operating k)
-binary-operating Binary.or = tt
-binary-operating (Binary.coalesce h) = tt
-binary-operating Binary.and = tt
-binary-operating Binary.bit_or = tt
-binary-operating Binary.bit_xor = tt
-binary-operating Binary.bit_and = tt
-binary-operating Binary.eq = tt
-binary-operating Binary.ne = tt
-binary-operating Binary.lt = tt
-binary-operating Binary.gt = tt
-binary-operating Binary.le = tt
-binary-operating Binary.ge = tt
-binary-operating Binary.in-object = tt
-binary-operating Binary.lhs = tt
-binary-operating Binary.rhs = tt
-binary-operating Binary.plus = tt
-binary-operating Binary.minus = tt
-binary-operating Binary.mul = tt
-binary-operating Binary.div = tt
-binary-operating Binary.modulo = tt
+binary_operating : {s k l o : ℕ} → Binary s k l o → T (operating k)
+binary_operating Binary.or = tt
+binary_operating (Binary.coalesce h) = tt
+binary_operating Binary.and = tt
+binary_operating Binary.bit_or = tt
+binary_operating Binary.bit_xor = tt
+binary_operating Binary.bit_and = tt
+binary_operating Binary.eq = tt
+binary_operating Binary.ne = tt
+binary_operating Binary.lt = tt
+binary_operating Binary.gt = tt
+binary_operating Binary.le = tt
+binary_operating Binary.ge = tt
+binary_operating Binary.in_object = tt
+binary_operating Binary.lhs = tt
+binary_operating Binary.rhs = tt
+binary_operating Binary.plus = tt
+binary_operating Binary.minus = tt
+binary_operating Binary.mul = tt
+binary_operating Binary.div = tt
+binary_operating Binary.modulo = tt
 
 module _ {s : ℕ} where
-  pub no-suffix : (k : ℕ) → T (not (suffixing k)) → greedily s Open.suffixes k
-  no-suffix k h c = T_not (suffixing k) h (by c)
+  pub no_suffix : (k : ℕ) → T (not (suffixing k)) → greedily s Open.suffixes k
+  no_suffix k h c = T_not (suffixing k) h (by c)
     where
       by : {k : ℕ} → Continues s Open.suffixes k → T (suffixing k)
       by Continues.dot = tt
@@ -95,14 +95,14 @@ module _ {s : ℕ} where
       by Continues.brace = tt
       by (Continues.question h) = tt
 
-  pub no-operator : (k m : ℕ) → T (not (operating k)) → greedily s (Open.operations m) k
-  no-operator k m h c = T_not (operating k) h (by c)
+  pub no_operator : (k m : ℕ) → T (not (operating k)) → greedily s (Open.operations m) k
+  no_operator k m h c = T_not (operating k) h (by c)
     where
       by : {k : ℕ} → Continues s (Open.operations m) k → T (operating k)
-      by (Continues.operator b le) = binary-operating b
+      by (Continues.operator b le) = binary_operating b
 
-  pub no-option : (j k : ℕ) → T (not (eqb k j)) → greedily s (Open.optional j) k
-  no-option j k h c = T_not (eqb k j) h (by c)
+  pub no_option : (j k : ℕ) → T (not (eqb k j)) → greedily s (Open.optional j) k
+  no_option j k h c = T_not (eqb k j) h (by c)
     where
       by : {k : ℕ} → Continues s (Open.optional j) k → T (eqb k j)
       by Continues.option = eqb_refl j
@@ -120,49 +120,49 @@ pub record Over (s k : ℕ) : Type 0 where
 
 module _ {s : ℕ} where
   pub closing : (k : ℕ) → T (not (suffixing k)) → T (not (operating k)) → Closes s k
-  closing k a b = record { suffix = no-suffix k a; operator = λ m. no-operator k m b }
+  closing k a b = record { suffix = no_suffix k a; operator = λ m. no_operator k m b }
 
   over : (k : ℕ) → T (not (suffixing k)) → T (not (operating k)) → T (not (eqb k COLON)) → T (not (eqb k ASSIGN)) → Over s k
-  over k a b c d = record { closes = closing k a b; colon = no-option COLON k c; assign = no-option ASSIGN k d }
+  over k a b c d = record { closes = closing k a b; colon = no_option COLON k c; assign = no_option ASSIGN k d }
 
-  pub at-paren : Closes s R-PAREN
-  at-paren = closing R-PAREN tt tt
+  pub at_paren : Closes s R_PAREN
+  at_paren = closing R_PAREN tt tt
 
-  pub at_bracket : Closes s R-BRACK
-  at_bracket = closing R-BRACK tt tt
+  pub at_bracket : Closes s R_BRACK
+  at_bracket = closing R_BRACK tt tt
 
-  pub at-comma : Closes s COMMA
-  at-comma = closing COMMA tt tt
+  pub at_comma : Closes s COMMA
+  at_comma = closing COMMA tt tt
 
-  pub at-colon : Closes s COLON
-  at-colon = closing COLON tt tt
+  pub at_colon : Closes s COLON
+  at_colon = closing COLON tt tt
 
-  pub at-then : Closes s THEN-KW
-  at-then = closing THEN-KW tt tt
+  pub at_then : Closes s THEN_KW
+  at_then = closing THEN_KW tt tt
 
-  pub at-else : Closes s ELSE-KW
-  at-else = closing ELSE-KW tt tt
+  pub at_else : Closes s ELSE_KW
+  at_else = closing ELSE_KW tt tt
 
-  pub at-end : Closes s EOF
-  at-end = closing EOF tt tt
+  pub at_end : Closes s EOF
+  at_end = closing EOF tt tt
 
-  pub at-for : Closes s FOR-KW
-  at-for = closing FOR-KW tt tt
+  pub at_for : Closes s FOR_KW
+  at_for = closing FOR_KW tt tt
 
-  pub over-comma : Over s COMMA
-  over-comma = over COMMA tt tt tt tt
+  pub over_comma : Over s COMMA
+  over_comma = over COMMA tt tt tt tt
 
-  pub over-semi : Over s SEMI
-  over-semi = over SEMI tt tt tt tt
+  pub over_semi : Over s SEMI
+  over_semi = over SEMI tt tt tt tt
 
-  pub over-bracket : Over s R-BRACK
-  over-bracket = over R-BRACK tt tt tt tt
+  pub over_bracket : Over s R_BRACK
+  over_bracket = over R_BRACK tt tt tt tt
 
-  pub over-brace : Over s R-BRACE
-  over-brace = over R-BRACE tt tt tt tt
+  pub over_brace : Over s R_BRACE
+  over_brace = over R_BRACE tt tt tt tt
 
-  pub over-for : Over s FOR-KW
-  over-for = over FOR-KW tt tt tt tt
+  pub over_for : Over s FOR_KW
+  over_for = over FOR_KW tt tt tt tt
 
-  pub over-if : Over s IF-KW
-  over-if = over IF-KW tt tt tt tt
+  pub over_if : Over s IF_KW
+  over_if = over IF_KW tt tt tt tt

@@ -6,19 +6,19 @@ use mathlib.Core.Bool.{Bool, true, false, ◌&&◌, ◌||◌, not}
 use Prim.Native.Nat.{ℕ, ◌≤◌, ◌<◌}
 use native.Mathlib.Omega.{arith}
 use lib.Dec.{T, eqb, leb, ltb}
-use Rattle.lexemes.specs.Kinds.{EOF, QUESTION-MARK, NULL-COAELSE}
-use Rattle.lexemes.specs.Kept.{badKinds, bad}
+use Rattle.lexemes.specs.Kinds.{EOF, QUESTION_MARK, NULL_COAELSE}
+use Rattle.lexemes.specs.Kept.{bad_kinds, bad}
 use Rattle.lexemes.proofs.KeptLaws.{every}
-use Rattle.grammar.specs.Numbers.{met-with}
+use Rattle.grammar.specs.Numbers.{met_with}
 use Rattle.grammar.specs.Lexemes.{Said, nothing, good}
-use Rattle.grammar.specs.Productions.{Phrase, Body, end, goto, fail, ◌▸◌, Step, eat, leaf, sub, deep, close, Switch, always, exp-destruct, exp-object-iteration, exp-null-coaelse, Row, row, Table, otherwise, ◌∣◌, View, rule, signs, operators, sign-rows, operator-rows}
-use Rattle.grammar.specs.Productions.{expr, infix-tail, suffixed, suffix, null-safe, null-safe-index, bracket, member-name, null-safe-end, index-or-slice, slice-end, slice-ended, slice-step}
-use Rattle.grammar.specs.Productions.{slice-stepped, arguments, argument, argument-end, call-close, call-end, named-argument, basic, string, array, array-first, array-comp, array-comp-end, elements}
-use Rattle.grammar.specs.Productions.{next-element, inside, member, members, next-member, comprehension, comprehension-end, field, field-named, field-value, params, params-end, param, param-default}
-use Rattle.grammar.specs.Productions.{binds, binds-end, local-body, bind, bind-named, bind-function, else-part, function-body, assertion, condition, asserted, clauses, more-clauses, for-clause}
-use Rattle.grammar.specs.Productions.{header, if-clause, iteration, iteration-value, pattern, array-pattern, pattern-starts, pattern-starts-end, array-rest, array-rest-end, pattern-ends, pattern-ends-end}
-use Rattle.grammar.specs.Productions.{array-pattern-close, object-pattern, pattern-fields, pattern-fields-end, object-rest, object-rest-end, object-pattern-close, pattern-field, pattern-into}
-use Rattle.grammar.specs.Productions.{pattern-default, default-value, default-end}
+use Rattle.grammar.specs.Productions.{Phrase, Body, end, goto, fail, ◌▸◌, Step, eat, leaf, sub, deep, close, Switch, always, exp_destruct, exp_object_iteration, exp_null_coaelse, Row, row, Table, otherwise, ◌∣◌, View, rule, signs, operators, sign_rows, operator_rows}
+use Rattle.grammar.specs.Productions.{expr, infix_tail, suffixed, suffix, null_safe, null_safe_index, bracket, member_name, null_safe_end, index_or_slice, slice_end, slice_ended, slice_step}
+use Rattle.grammar.specs.Productions.{slice_stepped, arguments, argument, argument_end, call_close, call_end, named_argument, basic, string, array, array_first, array_comp, array_comp_end, elements}
+use Rattle.grammar.specs.Productions.{next_element, inside, member, members, next_member, comprehension, comprehension_end, field, field_named, field_value, params, params_end, param, param_default}
+use Rattle.grammar.specs.Productions.{binds, binds_end, local_body, bind, bind_named, bind_function, else_part, function_body, assertion, condition, asserted, clauses, more_clauses, for_clause}
+use Rattle.grammar.specs.Productions.{header, if_clause, iteration, iteration_value, pattern, array_pattern, pattern_starts, pattern_starts_end, array_rest, array_rest_end, pattern_ends, pattern_ends_end}
+use Rattle.grammar.specs.Productions.{array_pattern_close, object_pattern, pattern_fields, pattern_fields_end, object_rest, object_rest_end, object_pattern_close, pattern_field, pattern_into}
+use Rattle.grammar.specs.Productions.{pattern_default, default_value, default_end}
 use Rattle.grammar.specs.Reading.{has, choose}
 
 -- ── What each phrase is like ──────────────────────────────────────────────────────────────────────
@@ -30,105 +30,105 @@ pub data Traits : Type 0 where
 
 unfoldable pub about : Phrase → Traits
 about (expr a) = traits 3 0 true
-about (infix-tail a) = traits 0 1 false
+about (infix_tail a) = traits 0 1 false
 about suffixed = traits 2 0 true
 about (suffix a) = traits 0 1 false
-about (null-safe a) = traits 2 0 true
-about (null-safe-index a) = traits 1 0 true
+about (null_safe a) = traits 2 0 true
+about (null_safe_index a) = traits 1 0 true
 about (bracket a) = traits 1 0 true
-about (member-name a b) = traits 1 0 true
-about (null-safe-end a b) = traits 0 1 true
-about (index-or-slice a b) = traits 0 1 true
-about (slice-end a b c) = traits 1 0 true
-about (slice-ended a b c d) = traits 0 1 true
-about (slice-step a b c d e) = traits 1 0 true
-about (slice-stepped a b c d e f) = traits 0 1 true
+about (member_name a b) = traits 1 0 true
+about (null_safe_end a b) = traits 0 1 true
+about (index_or_slice a b) = traits 0 1 true
+about (slice_end a b c) = traits 1 0 true
+about (slice_ended a b c d) = traits 0 1 true
+about (slice_step a b c d e) = traits 1 0 true
+about (slice_stepped a b c d e f) = traits 0 1 true
 about (arguments a b c) = traits 3 0 true
 about (argument a b c) = traits 2 0 true
-about (argument-end a b c) = traits 1 2 true
-about (call-close a b c) = traits 0 1 true
-about (call-end a b c) = traits 1 2 false
-about named-argument = traits 0 0 true
+about (argument_end a b c) = traits 1 2 true
+about (call_close a b c) = traits 0 1 true
+about (call_end a b c) = traits 1 2 false
+about named_argument = traits 0 0 true
 about basic = traits 1 0 true
 about string = traits 0 0 true
 about array = traits 3 0 true
-about array-first = traits 2 2 true
-about array-comp = traits 1 0 true
-about array-comp-end = traits 0 1 true
+about array_first = traits 2 2 true
+about array_comp = traits 1 0 true
+about array_comp_end = traits 0 1 true
 about elements = traits 0 1 true
-about next-element = traits 1 0 true
+about next_element = traits 1 0 true
 about inside = traits 4 0 false
 about member = traits 3 0 true
 about (members a) = traits 2 1 false
-about (next-member a) = traits 4 0 false
+about (next_member a) = traits 4 0 false
 about (comprehension a) = traits 1 0 true
-about (comprehension-end a) = traits 0 1 false
+about (comprehension_end a) = traits 0 1 false
 about field = traits 2 0 true
-about (field-named a b) = traits 1 2 true
-about (field-value a b c d e) = traits 0 1 true
+about (field_named a b) = traits 1 2 true
+about (field_value a b c d e) = traits 0 1 true
 about params = traits 2 0 false
-about params-end = traits 0 1 false
+about params_end = traits 0 1 false
 about param = traits 1 0 true
-about param-default = traits 0 1 false
+about param_default = traits 0 1 false
 about binds = traits 2 0 true
-about binds-end = traits 1 2 true
-about local-body = traits 0 1 true
+about binds_end = traits 1 2 true
+about local_body = traits 0 1 true
 about bind = traits 1 0 true
-about bind-named = traits 0 0 true
-about bind-function = traits 0 0 true
-about (else-part a b) = traits 0 1 false
-about (function-body a b) = traits 0 0 true
+about bind_named = traits 0 0 true
+about bind_function = traits 0 0 true
+about (else_part a b) = traits 0 1 false
+about (function_body a b) = traits 0 0 true
 about assertion = traits 0 0 true
 about condition = traits 1 0 true
 about (asserted a) = traits 0 1 false
 about clauses = traits 0 0 true
-about more-clauses = traits 0 1 false
-about for-clause = traits 1 0 true
+about more_clauses = traits 0 1 false
+about for_clause = traits 1 0 true
 about header = traits 0 0 true
-about (if-clause a b) = traits 0 0 true
+about (if_clause a b) = traits 0 0 true
 about (iteration a) = traits 0 1 true
-about (iteration-value a b) = traits 1 0 true
+about (iteration_value a b) = traits 1 0 true
 about pattern = traits 0 0 true
-about array-pattern = traits 0 0 true
-about pattern-starts = traits 2 0 true
-about pattern-starts-end = traits 1 2 true
-about (array-rest a) = traits 2 0 true
-about (array-rest-end a b c) = traits 1 0 true
-about (pattern-ends a b c) = traits 2 0 true
-about (pattern-ends-end a b c) = traits 1 2 true
-about (array-pattern-close a b c) = traits 0 1 true
-about object-pattern = traits 0 0 true
-about pattern-fields = traits 2 0 true
-about pattern-fields-end = traits 1 2 true
-about object-rest = traits 2 0 true
-about (object-rest-end a b) = traits 1 0 true
-about (object-pattern-close a b) = traits 0 1 true
-about pattern-field = traits 0 0 true
-about (pattern-into a) = traits 1 0 false
-about (pattern-default a b) = traits 0 1 false
-about (default-value a b) = traits 1 0 true
-about (default-end a b c) = traits 0 1 false
+about array_pattern = traits 0 0 true
+about pattern_starts = traits 2 0 true
+about pattern_starts_end = traits 1 2 true
+about (array_rest a) = traits 2 0 true
+about (array_rest_end a b c) = traits 1 0 true
+about (pattern_ends a b c) = traits 2 0 true
+about (pattern_ends_end a b c) = traits 1 2 true
+about (array_pattern_close a b c) = traits 0 1 true
+about object_pattern = traits 0 0 true
+about pattern_fields = traits 2 0 true
+about pattern_fields_end = traits 1 2 true
+about object_rest = traits 2 0 true
+about (object_rest_end a b) = traits 1 0 true
+about (object_pattern_close a b) = traits 0 1 true
+about pattern_field = traits 0 0 true
+about (pattern_into a) = traits 1 0 false
+about (pattern_default a b) = traits 0 1 false
+about (default_value a b) = traits 1 0 true
+about (default_end a b c) = traits 0 1 false
 
-unfoldable pub order-in : Traits → ℕ
-order-in (traits o r m) = o
+unfoldable pub order_in : Traits → ℕ
+order_in (traits o r m) = o
 
-unfoldable pub rank-in : Traits → ℕ
-rank-in (traits o r m) = r
+unfoldable pub rank_in : Traits → ℕ
+rank_in (traits o r m) = r
 
-unfoldable pub moves-in : Traits → Bool
-moves-in (traits o r m) = m
+unfoldable pub moves_in : Traits → Bool
+moves_in (traits o r m) = m
 
 unfoldable pub order : Phrase → ℕ
-unfolding about order-in
-order q = order-in (about q)
+unfolding about order_in
+order q = order_in (about q)
 
 unfoldable pub rank : Phrase → ℕ
-unfolding about rank-in
-rank q = rank-in (about q)
+unfolding about rank_in
+rank q = rank_in (about q)
 
 unfoldable pub moves : Phrase → Bool
-unfolding about moves-in
-moves q = moves-in (about q)
+unfolding about moves_in
+moves q = moves_in (about q)
 
 -- ── Checkers of one production ────────────────────────────────────────────────────────────────────
 
@@ -152,7 +152,7 @@ unfoldable pub halts : ℕ → Body → Bool
 halts r end = true
 halts r (fail n x) = false
 halts r (goto q) = ltb 0 (rank q) && ltb (rank q) r
-halts r (eat k ▸ b) = not (eqb k QUESTION-MARK || eqb k NULL-COAELSE)
+halts r (eat k ▸ b) = not (eqb k QUESTION_MARK || eqb k NULL_COAELSE)
 halts r (leaf t fs ▸ b) = false
 halts r (close t fs ▸ b) = halts r b
 halts r (sub q ▸ b) = false
@@ -188,9 +188,9 @@ moved (deep q ▸ b) = moves q || moved b
 
 -- It is broken with a number that a reading may meet, and with its detail.
 unfoldable pub numbered : Body → Bool
-unfolding met-with
+unfolding met_with
 numbered end = true
-numbered (fail n x) = met-with n x
+numbered (fail n x) = met_with n x
 numbered (goto q) = true
 numbered (st ▸ b) = numbered b
 
@@ -209,35 +209,35 @@ picky first (deep q ▸ b) = picky false b
 -- ── Checkers of a table ───────────────────────────────────────────────────────────────────────────
 
 -- Every production of phrase q is low, fine and numbered, and moves if q does.
-unfoldable pub sound-body : Phrase → Body → Bool
-sound-body q b = low (order q) b && (fine b && (numbered b && (not (moves q) || moved b)))
+unfoldable pub sound_body : Phrase → Body → Bool
+sound_body q b = low (order q) b && (fine b && (numbered b && (not (moves q) || moved b)))
 
-unfoldable pub sound-table : Phrase → Table → Bool
-sound-table q (otherwise b) = sound-body q b
-sound-table q (row g t b ∣ rest) = sound-body q b && sound-table q rest
+unfoldable pub sound_table : Phrase → Table → Bool
+sound_table q (otherwise b) = sound_body q b
+sound_table q (row g t b ∣ rest) = sound_body q b && sound_table q rest
 
 -- The production chosen without null-coaelse halts.
-unfoldable pub halts-table : ℕ → Table → Bool
-halts-table r (otherwise b) = halts r b
-halts-table r (row always t b ∣ rest) = elim t [ true ↦ halts r b | false ↦ halts-table r rest ]
-halts-table r (row exp-destruct t b ∣ rest) = (not t || halts r b) && halts-table r rest
-halts-table r (row exp-object-iteration t b ∣ rest) = (not t || halts r b) && halts-table r rest
-halts-table r (row exp-null-coaelse t b ∣ rest) = halts-table r rest
+unfoldable pub halts_table : ℕ → Table → Bool
+halts_table r (otherwise b) = halts r b
+halts_table r (row always t b ∣ rest) = elim t [ true ↦ halts r b | false ↦ halts_table r rest ]
+halts_table r (row exp_destruct t b ∣ rest) = (not t || halts r b) && halts_table r rest
+halts_table r (row exp_object_iteration t b ∣ rest) = (not t || halts r b) && halts_table r rest
+halts_table r (row exp_null_coaelse t b ∣ rest) = halts_table r rest
 
 unfoldable pub stops-table : Phrase → Table → Bool
-stops-table q t = not (ltb 0 (rank q)) || halts-table (rank q) t
+stops-table q t = not (ltb 0 (rank q)) || halts_table (rank q) t
 
 unfoldable pub unguarded : Table → Bool
 unguarded (otherwise b) = true
 unguarded (row always t b ∣ rest) = unguarded rest
-unguarded (row exp-destruct t b ∣ rest) = false
-unguarded (row exp-object-iteration t b ∣ rest) = false
-unguarded (row exp-null-coaelse t b ∣ rest) = false
+unguarded (row exp_destruct t b ∣ rest) = false
+unguarded (row exp_object_iteration t b ∣ rest) = false
+unguarded (row exp_null_coaelse t b ∣ rest) = false
 
 -- Every production takes no bad lexeme, but for a leaf at its start.
-unfoldable pub picky-table : Table → Bool
-picky-table (otherwise b) = picky true b
-picky-table (row g t b ∣ rest) = picky true b && picky-table rest
+unfoldable pub picky_table : Table → Bool
+picky_table (otherwise b) = picky true b
+picky_table (row g t b ∣ rest) = picky true b && picky_table rest
 
 -- No production whose test holds begins with a leaf.
 unfoldable pub shuns : Table → Bool
@@ -247,8 +247,8 @@ shuns (row g t b ∣ rest) = (picky false b || not t) && shuns rest
 -- ── The facts ─────────────────────────────────────────────────────────────────────────────────────
 
 -- The view with another lexeme next, of which the kind is known, and what it says.
-abbrev pub with-next : View → ℕ → Said → View
-with-next v k w =
+abbrev pub with_next : View → ℕ → Said → View
+with_next v k w =
     record {
       kind = k;
       kind₁ = v.kind₁;
@@ -262,109 +262,109 @@ with-next v k w =
       count = v.count;
     }
 
-abbrev pub with-kind : View → ℕ → View
-with-kind v k = with-next v k v.says
+abbrev pub with_kind : View → ℕ → View
+with_kind v k = with_next v k v.says
 
 -- The phrases that a switch bears on.
 pub data Switched : Phrase → Type 0 where
-  at-infix-tail : {m : ℕ} → Switched (infix-tail m)
-  at-suffix : {f : ℕ} → Switched (suffix f)
-  at-pattern : Switched pattern
-  at-for-clause : Switched for-clause
+  at_infix_tail : {m : ℕ} → Switched (infix_tail m)
+  at_suffix : {f : ℕ} → Switched (suffix f)
+  at_pattern : Switched pattern
+  at_for_clause : Switched for_clause
 
 module _ (prefix : ℕ) where
   -- It takes no bad lexeme: where one stands, which says nothing, no production begins with a leaf.
   unfoldable pub careful : Phrase → View → Bool
-  careful q v = picky-table (rule prefix q v) && every badKinds (λ (k : ℕ). shuns (rule prefix q (with-next v k nothing)))
+  careful q v = picky_table (rule prefix q v) && every bad_kinds (λ (k : ℕ). shuns (rule prefix q (with_next v k nothing)))
 
   unfoldable pub checked : Phrase → View → Bool
   checked q v =
-      sound-table q (rule prefix q v) && stops-table q (rule prefix q (with-kind v QUESTION-MARK)) && stops-table q (rule prefix q (with-kind v NULL-COAELSE)) && careful q v
+      sound_table q (rule prefix q v) && stops-table q (rule prefix q (with_kind v QUESTION_MARK)) && stops-table q (rule prefix q (with_kind v NULL_COAELSE)) && careful q v
 
   -- What is found of phrase q: its productions are checked; which phrases have switches; and that only expressions ask for the prefix power.
   pub data Facts (q : Phrase) (v : View) : Type 0 where
     plain : T (checked q v && unguarded (rule prefix q v)) → ((other : ℕ) → rule prefix q v ≡ rule other q v) → Facts q v
     switched : Switched q → T (checked q v) → ((other : ℕ) → rule prefix q v ≡ rule other q v) → Facts q v
-    an-expr : {m : ℕ} → q ≡ expr m → T (checked q v && unguarded (rule prefix q v)) → Facts q v
+    an_expr : {m : ℕ} → q ≡ expr m → T (checked q v && unguarded (rule prefix q v)) → Facts q v
 
   pub facts : (q : Phrase) (v : View) → Facts q v
-  unfolding rule checked sound-table sound-body stops-table halts-table low halts fails fine moved numbered moves order rank unguarded careful every picky-table shuns picky good
-  facts (expr a) v = an-expr refl tt
-  facts (infix-tail a) v = switched at-infix-tail tt (λ other. refl)
+  unfolding rule checked sound_table sound_body stops-table halts_table low halts fails fine moved numbered moves order rank unguarded careful every picky_table shuns picky good
+  facts (expr a) v = an_expr refl tt
+  facts (infix_tail a) v = switched at_infix_tail tt (λ other. refl)
   facts suffixed v = plain tt (λ other. refl)
-  facts (suffix a) v = switched at-suffix tt (λ other. refl)
-  facts (null-safe a) v = plain tt (λ other. refl)
-  facts (null-safe-index a) v = plain tt (λ other. refl)
+  facts (suffix a) v = switched at_suffix tt (λ other. refl)
+  facts (null_safe a) v = plain tt (λ other. refl)
+  facts (null_safe_index a) v = plain tt (λ other. refl)
   facts (bracket a) v = plain tt (λ other. refl)
-  facts (member-name a b) v = plain tt (λ other. refl)
-  facts (null-safe-end a b) v = plain tt (λ other. refl)
-  facts (index-or-slice a b) v = plain tt (λ other. refl)
-  facts (slice-end a b c) v = plain tt (λ other. refl)
-  facts (slice-ended a b c d) v = plain tt (λ other. refl)
-  facts (slice-step a b c d e) v = plain tt (λ other. refl)
-  facts (slice-stepped a b c d e f) v = plain tt (λ other. refl)
+  facts (member_name a b) v = plain tt (λ other. refl)
+  facts (null_safe_end a b) v = plain tt (λ other. refl)
+  facts (index_or_slice a b) v = plain tt (λ other. refl)
+  facts (slice_end a b c) v = plain tt (λ other. refl)
+  facts (slice_ended a b c d) v = plain tt (λ other. refl)
+  facts (slice_step a b c d e) v = plain tt (λ other. refl)
+  facts (slice_stepped a b c d e f) v = plain tt (λ other. refl)
   facts (arguments a b c) v = plain tt (λ other. refl)
   facts (argument a b c) v = plain tt (λ other. refl)
-  facts (argument-end a b c) v = plain tt (λ other. refl)
-  facts (call-close a b c) v = plain tt (λ other. refl)
-  facts (call-end a b c) v = plain tt (λ other. refl)
-  facts named-argument v = plain tt (λ other. refl)
+  facts (argument_end a b c) v = plain tt (λ other. refl)
+  facts (call_close a b c) v = plain tt (λ other. refl)
+  facts (call_end a b c) v = plain tt (λ other. refl)
+  facts named_argument v = plain tt (λ other. refl)
   facts basic v = plain tt (λ other. refl)
   facts string v = plain tt (λ other. refl)
   facts array v = plain tt (λ other. refl)
-  facts array-first v = plain tt (λ other. refl)
-  facts array-comp v = plain tt (λ other. refl)
-  facts array-comp-end v = plain tt (λ other. refl)
+  facts array_first v = plain tt (λ other. refl)
+  facts array_comp v = plain tt (λ other. refl)
+  facts array_comp_end v = plain tt (λ other. refl)
   facts elements v = plain tt (λ other. refl)
-  facts next-element v = plain tt (λ other. refl)
+  facts next_element v = plain tt (λ other. refl)
   facts inside v = plain tt (λ other. refl)
   facts member v = plain tt (λ other. refl)
   facts (members a) v = plain tt (λ other. refl)
-  facts (next-member a) v = plain tt (λ other. refl)
+  facts (next_member a) v = plain tt (λ other. refl)
   facts (comprehension a) v = plain tt (λ other. refl)
-  facts (comprehension-end a) v = plain tt (λ other. refl)
+  facts (comprehension_end a) v = plain tt (λ other. refl)
   facts field v = plain tt (λ other. refl)
-  facts (field-named a b) v = plain tt (λ other. refl)
-  facts (field-value a b c d e) v = plain tt (λ other. refl)
+  facts (field_named a b) v = plain tt (λ other. refl)
+  facts (field_value a b c d e) v = plain tt (λ other. refl)
   facts params v = plain tt (λ other. refl)
-  facts params-end v = plain tt (λ other. refl)
+  facts params_end v = plain tt (λ other. refl)
   facts param v = plain tt (λ other. refl)
-  facts param-default v = plain tt (λ other. refl)
+  facts param_default v = plain tt (λ other. refl)
   facts binds v = plain tt (λ other. refl)
-  facts binds-end v = plain tt (λ other. refl)
-  facts local-body v = plain tt (λ other. refl)
+  facts binds_end v = plain tt (λ other. refl)
+  facts local_body v = plain tt (λ other. refl)
   facts bind v = plain tt (λ other. refl)
-  facts bind-named v = plain tt (λ other. refl)
-  facts bind-function v = plain tt (λ other. refl)
-  facts (else-part a b) v = plain tt (λ other. refl)
-  facts (function-body a b) v = plain tt (λ other. refl)
+  facts bind_named v = plain tt (λ other. refl)
+  facts bind_function v = plain tt (λ other. refl)
+  facts (else_part a b) v = plain tt (λ other. refl)
+  facts (function_body a b) v = plain tt (λ other. refl)
   facts assertion v = plain tt (λ other. refl)
   facts condition v = plain tt (λ other. refl)
   facts (asserted a) v = plain tt (λ other. refl)
   facts clauses v = plain tt (λ other. refl)
-  facts more-clauses v = plain tt (λ other. refl)
-  facts for-clause v = switched at-for-clause tt (λ other. refl)
+  facts more_clauses v = plain tt (λ other. refl)
+  facts for_clause v = switched at_for_clause tt (λ other. refl)
   facts header v = plain tt (λ other. refl)
-  facts (if-clause a b) v = plain tt (λ other. refl)
+  facts (if_clause a b) v = plain tt (λ other. refl)
   facts (iteration a) v = plain tt (λ other. refl)
-  facts (iteration-value a b) v = plain tt (λ other. refl)
-  facts pattern v = switched at-pattern tt (λ other. refl)
-  facts array-pattern v = plain tt (λ other. refl)
-  facts pattern-starts v = plain tt (λ other. refl)
-  facts pattern-starts-end v = plain tt (λ other. refl)
-  facts (array-rest a) v = plain tt (λ other. refl)
-  facts (array-rest-end a b c) v = plain tt (λ other. refl)
-  facts (pattern-ends a b c) v = plain tt (λ other. refl)
-  facts (pattern-ends-end a b c) v = plain tt (λ other. refl)
-  facts (array-pattern-close a b c) v = plain tt (λ other. refl)
-  facts object-pattern v = plain tt (λ other. refl)
-  facts pattern-fields v = plain tt (λ other. refl)
-  facts pattern-fields-end v = plain tt (λ other. refl)
-  facts object-rest v = plain tt (λ other. refl)
-  facts (object-rest-end a b) v = plain tt (λ other. refl)
-  facts (object-pattern-close a b) v = plain tt (λ other. refl)
-  facts pattern-field v = plain tt (λ other. refl)
-  facts (pattern-into a) v = plain tt (λ other. refl)
-  facts (pattern-default a b) v = plain tt (λ other. refl)
-  facts (default-value a b) v = plain tt (λ other. refl)
-  facts (default-end a b c) v = plain tt (λ other. refl)
+  facts (iteration_value a b) v = plain tt (λ other. refl)
+  facts pattern v = switched at_pattern tt (λ other. refl)
+  facts array_pattern v = plain tt (λ other. refl)
+  facts pattern_starts v = plain tt (λ other. refl)
+  facts pattern_starts_end v = plain tt (λ other. refl)
+  facts (array_rest a) v = plain tt (λ other. refl)
+  facts (array_rest_end a b c) v = plain tt (λ other. refl)
+  facts (pattern_ends a b c) v = plain tt (λ other. refl)
+  facts (pattern_ends_end a b c) v = plain tt (λ other. refl)
+  facts (array_pattern_close a b c) v = plain tt (λ other. refl)
+  facts object_pattern v = plain tt (λ other. refl)
+  facts pattern_fields v = plain tt (λ other. refl)
+  facts pattern_fields_end v = plain tt (λ other. refl)
+  facts object_rest v = plain tt (λ other. refl)
+  facts (object_rest_end a b) v = plain tt (λ other. refl)
+  facts (object_pattern_close a b) v = plain tt (λ other. refl)
+  facts pattern_field v = plain tt (λ other. refl)
+  facts (pattern_into a) v = plain tt (λ other. refl)
+  facts (pattern_default a b) v = plain tt (λ other. refl)
+  facts (default_value a b) v = plain tt (λ other. refl)
+  facts (default_end a b c) v = plain tt (λ other. refl)

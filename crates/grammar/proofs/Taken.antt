@@ -10,63 +10,63 @@ use lib.Dec.{T}
 use Rattle.strings.specs.Utf8.{Utf8}
 use Rattle.lexemes.specs.declared.Lexeme.{Lexeme as Range}
 use Rattle.lexemes.specs.Kinds.{EOF}
-use Rattle.lexemes.specs.Kept.{badKinds, bad}
+use Rattle.lexemes.specs.Kept.{bad_kinds, bad}
 use Rattle.lexemes.specs.Kept as lexemes
-use Rattle.lexemes.proofs.Laws.{lexeme-not-eof}
-use Rattle.lexemes.proofs.KeptLaws.{every, every-at, NoneBad, kept-none-bad, Rest, kept_step}
+use Rattle.lexemes.proofs.Laws.{lexeme_not_eof}
+use Rattle.lexemes.proofs.KeptLaws.{every, every_at, NoneBad, kept_none_bad, Rest, kept_step}
 use Rattle.grammar.specs.Trees.{Trees, count}
-use Rattle.grammar.specs.Lexemes.{Said, nothing, Lexeme, rest, kind-of}
+use Rattle.grammar.specs.Lexemes.{Said, nothing, Lexeme, rest, kind_of}
 use Rattle.grammar.specs.Words.{Possible, Worded}
 use Rattle.grammar.specs.Spells.{Quoted}
 use Rattle.grammar.specs.Says.{Told}
 use Rattle.grammar.specs.Source.{Kept, kept}
 use Rattle.grammar.specs.Productions.{Phrase, Body, end, goto, fail, ◌▸◌, eat, leaf, sub, deep, close, Row, row, Table, otherwise, ◌∣◌, View, rule}
 use Rattle.grammar.specs.Reading.{has, choose, view, production, done, Reading, ended, gone, eaten, leafed, closed, subbed, deepened, Reads}
-use Rattle.grammar.proofs.Tables.{picky, picky-table, shuns, with-next, careful}
-use Rattle.grammar.proofs.Chosen.{true-false, and_left, and_right, or_cases, pick, careful-chosen}
-use Rattle.grammar.proofs.Possible.{next-possible, rest-worded, worded}
+use Rattle.grammar.proofs.Tables.{picky, picky_table, shuns, with_next, careful}
+use Rattle.grammar.proofs.Chosen.{true_false, and_left, and_right, or_cases, pick, careful_chosen}
+use Rattle.grammar.proofs.Possible.{next_possible, rest_worded, worded}
 
 -- ── The production that is chosen ─────────────────────────────────────────────────────────────────
 
 module _ (s : ℕ) where
-  picky-chosen : (t : Table) → T (picky-table t) → T (picky true (choose s t))
-  unfolding choose picky-table
-  picky-chosen (otherwise b) h = h
-  picky-chosen (row g t b ∣ rest) h =
-      pick (λ (x : Body). T (picky true x)) (t && has s g) b (choose s rest) (and_left (picky true b) (picky-table rest) h)
-      (picky-chosen rest (and_right (picky true b) (picky-table rest) h))
+  picky_chosen : (t : Table) → T (picky_table t) → T (picky true (choose s t))
+  unfolding choose picky_table
+  picky_chosen (otherwise b) h = h
+  picky_chosen (row g t b ∣ rest) h =
+      pick (λ (x : Body). T (picky true x)) (t && has s g) b (choose s rest) (and_left (picky true b) (picky_table rest) h)
+      (picky_chosen rest (and_right (picky true b) (picky_table rest) h))
 
-  shuns-row : (t a : Bool) (b c : Body) → T (picky false b || not t) → T (picky false c) → T (picky false (elim (t && a) [ true ↦ b | false ↦ c ]))
-  shuns-row true true b c h k = by (or_cases (picky false b) false h)
+  shuns_row : (t a : Bool) (b c : Body) → T (picky false b || not t) → T (picky false c) → T (picky false (elim (t && a) [ true ↦ b | false ↦ c ]))
+  shuns_row true true b c h k = by (or_cases (picky false b) false h)
     where
       by : T (picky false b) ⊎ T false → T (picky false b)
       by (inl x) = x
       by (inr x) = absurd x
-  shuns-row true false b c h k = k
-  shuns-row false a b c h k = k
+  shuns_row true false b c h k = k
+  shuns_row false a b c h k = k
 
-  shuns-chosen : (t : Table) → T (shuns t) → T (picky false (choose s t))
+  shuns_chosen : (t : Table) → T (shuns t) → T (picky false (choose s t))
   unfolding choose shuns
-  shuns-chosen (otherwise b) h = h
-  shuns-chosen (row g t b ∣ rest) h =
-      shuns-row t (has s g) b (choose s rest) (and_left (picky false b || not t) (shuns rest) h) (shuns-chosen rest (and_right (picky false b || not t) (shuns rest) h))
+  shuns_chosen (otherwise b) h = h
+  shuns_chosen (row g t b ∣ rest) h =
+      shuns_row t (has s g) b (choose s rest) (and_left (picky false b || not t) (shuns rest) h) (shuns_chosen rest (and_right (picky false b || not t) (shuns rest) h))
 
 quoted-good : {k : ℕ} → Quoted k → bad k ≡ true → ⊥
 unfolding bad
-quoted-good Quoted.double h = true-false (sym h)
-quoted-good Quoted.single h = true-false (sym h)
-quoted-good Quoted.double-verbatim h = true-false (sym h)
-quoted-good Quoted.single-verbatim h = true-false (sym h)
-quoted-good Quoted.block h = true-false (sym h)
+quoted-good Quoted.double h = true_false (sym h)
+quoted-good Quoted.single h = true_false (sym h)
+quoted-good Quoted.double_verbatim h = true_false (sym h)
+quoted-good Quoted.single_verbatim h = true_false (sym h)
+quoted-good Quoted.block h = true_false (sym h)
 
 -- A bad lexeme says nothing.
-silent-bad : {k : ℕ} {v : Said} → Possible k v → bad k ≡ true → v ≡ nothing
+silent_bad : {k : ℕ} {v : Said} → Possible k v → bad k ≡ true → v ≡ nothing
 unfolding bad
-silent-bad (Possible.name n) h = absurd (true-false (sym h))
-silent-bad (Possible.numeral n) h = absurd (true-false (sym h))
-silent-bad (Possible.string q u) h = absurd (quoted-good q h)
-silent-bad (Possible.spoiled q) h = absurd (quoted-good q h)
-silent-bad (Possible.silent n) h = refl
+silent_bad (Possible.name n) h = absurd (true_false (sym h))
+silent_bad (Possible.numeral n) h = absurd (true_false (sym h))
+silent_bad (Possible.string q u) h = absurd (quoted-good q h)
+silent_bad (Possible.spoiled q) h = absurd (quoted-good q h)
+silent_bad (Possible.silent n) h = refl
 
 -- ── Readings ──────────────────────────────────────────────────────────────────────────────────────
 
@@ -79,13 +79,13 @@ join : {xs ys zs : List Lexeme} → Good xs ys → Good ys zs → Good xs zs
 join here h = h
 join (past e g) h = past e (join g h)
 
-step : {xs ys : List Lexeme} → bad (kind-of xs) ≡ false → Good (rest xs) ys → Good xs ys
+step : {xs ys : List Lexeme} → bad (kind_of xs) ≡ false → Good (rest xs) ys → Good xs ys
 step {xs = []} e g = g
 step {xs = x ∷ xs} e g = past e g
 
-worded-on : {xs ys : List Lexeme} → Good xs ys → Worded xs → Worded ys
-worded-on here w = w
-worded-on (past e g) w = worded-on g (rest-worded w)
+worded_on : {xs ys : List Lexeme} → Good xs ys → Worded xs → Worded ys
+worded_on here w = w
+worded_on (past e g) w = worded_on g (rest_worded w)
 
 -- None of these lexemes is the end's.
 pub data Standing : List Lexeme → Type 0 where
@@ -96,9 +96,9 @@ standing_on : {xs ys : List Lexeme} → Good xs ys → Standing xs → Standing 
 standing_on here n = n
 standing_on (past e g) (before h n) = standing_on g n
 
-at-end : {xs : List Lexeme} → Standing xs → kind-of xs ≡ EOF → xs ≡ []
-at-end over e = refl
-at-end (before h n) e = absurd (h e)
+at_end : {xs : List Lexeme} → Standing xs → kind_of xs ≡ EOF → xs ≡ []
+at_end over e = refl
+at_end (before h n) e = absurd (h e)
 
 -- What is picky with no leaf is so with one let pass.
 later : (first : Bool) (b : Body) → T (picky false b) → T (picky first b)
@@ -112,8 +112,8 @@ later first (close t fs ▸ b) h = h
 later first (sub q ▸ b) h = h
 later first (deep q ▸ b) h = h
 
-not-bad : (k : ℕ) → T (not (bad k)) → bad k ≡ false
-not-bad k h = by (bad k) h
+not_bad : (k : ℕ) → T (not (bad k)) → bad k ≡ false
+not_bad k h = by (bad k) h
   where
     by : (b : Bool) → T (not b) → b ≡ false
     by true h = absurd h
@@ -121,28 +121,28 @@ not-bad k h = by (bad k) h
 
 -- With these lexemes left, a body takes no bad one next, and none later.
 abbrev Wary : List Lexeme → Body → Type 0
-Wary xs b = T (picky (not (bad (kind-of xs))) b)
+Wary xs b = T (picky (not (bad (kind_of xs))) b)
 
 module _ (prefix s : ℕ) where
   wary : (q : Phrase) (p : ℕ) (xs : List Lexeme) (n : ℕ) → Worded xs → Wary xs (production prefix s q p xs n)
   unfolding production view careful bad
-  wary q p xs n w = by (bad (kind-of xs)) refl
+  wary q p xs n w = by (bad (kind_of xs)) refl
     where
       v : View
       v = view p xs n
 
       ok : T (careful prefix q v)
-      ok = careful-chosen prefix s q v
+      ok = careful_chosen prefix s q v
 
-      shut : bad (kind-of xs) ≡ true → T (shuns (rule prefix q v))
+      shut : bad (kind_of xs) ≡ true → T (shuns (rule prefix q v))
       shut e =
-          subst (λ (y : Said). T (shuns (rule prefix q (with-next v (kind-of xs) y)))) (sym (silent-bad (next-possible w) e))
-          (every-at badKinds (λ (k : ℕ). shuns (rule prefix q (with-next v k nothing))) (and_right (picky-table (rule prefix q v)) (every badKinds (λ (k : ℕ). shuns (rule prefix q (with-next v k nothing)))) ok)
-          (kind-of xs) (subst T (sym e) tt))
+          subst (λ (y : Said). T (shuns (rule prefix q (with_next v (kind_of xs) y)))) (sym (silent_bad (next_possible w) e))
+          (every_at bad_kinds (λ (k : ℕ). shuns (rule prefix q (with_next v k nothing))) (and_right (picky_table (rule prefix q v)) (every bad_kinds (λ (k : ℕ). shuns (rule prefix q (with_next v k nothing)))) ok)
+          (kind_of xs) (subst T (sym e) tt))
 
-      by : (b : Bool) → bad (kind-of xs) ≡ b → T (picky (not b) (choose s (rule prefix q v)))
-      by true e = shuns-chosen s (rule prefix q v) (shut e)
-      by false e = picky-chosen s (rule prefix q v) (and_left (picky-table (rule prefix q v)) (every badKinds (λ (k : ℕ). shuns (rule prefix q (with-next v k nothing)))) ok)
+      by : (b : Bool) → bad (kind_of xs) ≡ b → T (picky (not b) (choose s (rule prefix q v)))
+      by true e = shuns_chosen s (rule prefix q v) (shut e)
+      by false e = picky_chosen s (rule prefix q v) (and_left (picky_table (rule prefix q v)) (every bad_kinds (λ (k : ℕ). shuns (rule prefix q (with_next v k nothing)))) ok)
 
   -- What a reading that is done has taken.
   pub taken : {b : Body} {ts us : Trees} {d p r : ℕ} {xs ys : List Lexeme} → Worded xs → Wary xs b → Reading prefix s b ts d p xs (done us r ys) → Good xs ys
@@ -150,24 +150,24 @@ module _ (prefix s : ℕ) where
   taken w h ended = here
   taken w h (gone {q} {ts} {d} {p} {xs} z) = taken w (wary q p xs (count ts) w) z
   taken {xs = xs} w h (eaten {k} {b} e z) =
-      let e' : bad (kind-of xs) ≡ false = ap bad e ∙ not-bad k (and_left (not (bad k)) (picky false b) h) in
-      step e' (taken (rest-worded w) (later _ b (and_right (not (bad k)) (picky false b) h)) z)
+      let e' : bad (kind_of xs) ≡ false = ap bad e ∙ not_bad k (and_left (not (bad k)) (picky false b) h) in
+      step e' (taken (rest_worded w) (later _ b (and_right (not (bad k)) (picky false b) h)) z)
   taken {xs = xs} w h (leafed {b = b} z) =
-      step (not-bad (kind-of xs) (and_left (not (bad (kind-of xs))) (picky false b) h)) (taken (rest-worded w) (later _ b (and_right (not (bad (kind-of xs))) (picky false b) h)) z)
+      step (not_bad (kind_of xs) (and_left (not (bad (kind_of xs))) (picky false b) h)) (taken (rest_worded w) (later _ b (and_right (not (bad (kind_of xs))) (picky false b) h)) z)
   taken w h (closed {b = b} z) = taken w (later _ b h) z
   taken w h (subbed {q} {b} {p = p} {xs = xs} y z) =
       let g = taken w (wary q p xs 0 w) y in
-      join g (taken (worded-on g w) (later _ b h) z)
+      join g (taken (worded_on g w) (later _ b h) z)
   taken w h (deepened {q} {b} {p = p} {xs = xs} y z) =
       let g = taken w (wary q p xs 0 w) y in
-      join g (taken (worded-on g w) (later _ b h) z)
+      join g (taken (worded_on g w) (later _ b h) z)
 
   -- A reading of the whole source that is done has taken all its lexemes.
-  pub all-taken : {depth r : ℕ} {us : Trees} {xs ys : List Lexeme} → Worded xs → Standing xs → Reads prefix s depth xs (done us r ys) → Good xs []
+  pub all_taken : {depth r : ℕ} {us : Trees} {xs ys : List Lexeme} → Worded xs → Standing xs → Reads prefix s depth xs (done us r ys) → Good xs []
   unfolding picky
-  all-taken {xs = xs} w n (deepened {q} {b} {p = p} y (eaten e ended)) =
+  all_taken {xs = xs} w n (deepened {q} {b} {p = p} y (eaten e ended)) =
       let g = taken w (wary q p xs 0 w) y in
-      subst (λ (zs : List Lexeme). Good xs zs) (at-end (standing_on g n) e) g
+      subst (λ (zs : List Lexeme). Good xs zs) (at_end (standing_on g n) e) g
 
 -- ── Of sources ────────────────────────────────────────────────────────────────────────────────────
 
@@ -176,13 +176,13 @@ standing k Told.none = over
 standing {s} {at} k (Told.more {k = kind} {a = a} {e = e} {w = w} {xs = ranges} {ys = ys} x t) = by (kept_step k) (λ r. standing r t)
   where
     by : Rest s at (record { kind = kind; start = a; end = e } ∷ ranges) → (lexemes.Kept s e ranges → Standing ys) → Standing (record { kind = kind; start = a; stop = e; word = w } ∷ ys)
-    by (Rest.next f h l d n r) on = before (lexeme-not-eof s (omega arith) d) (on r)
+    by (Rest.next f h l d n r) on = before (lexeme_not_eof s (omega arith) d) (on r)
 
-none-bad : {s : List ℕ} {ranges : List Range} {xs : List Lexeme} → Told s ranges xs → Good xs [] → NoneBad ranges
-none-bad Told.none g = NoneBad.over
-none-bad (Told.more x t) (past e g) = NoneBad.also e (none-bad t g)
+none_bad : {s : List ℕ} {ranges : List Range} {xs : List Lexeme} → Told s ranges xs → Good xs [] → NoneBad ranges
+none_bad Told.none g = NoneBad.over
+none_bad (Told.more x t) (past e g) = NoneBad.also e (none_bad t g)
 
 -- A SOURCE THAT HAS A TREE HAS NO BAD LEXEME.
-pub tree-kept : {prefix g depth r : ℕ} {us : Trees} {s : List ℕ} {ranges : List Range} {xs ys : List Lexeme}
+pub tree_kept : {prefix g depth r : ℕ} {us : Trees} {s : List ℕ} {ranges : List Range} {xs ys : List Lexeme}
     → Utf8 s → lexemes.Kept s 0 ranges → Told s ranges xs → Reads prefix g depth xs (done us r ys) → Kept s xs
-tree-kept {prefix} {g} u k t z = kept (kept-none-bad k (none-bad t (all-taken prefix g (worded u k t) (standing k t) z))) k t
+tree_kept {prefix} {g} u k t z = kept (kept_none_bad k (none_bad t (all_taken prefix g (worded u k t) (standing k t) z))) k t

@@ -14,5 +14,5 @@ pub data AlikeFields : List Field → List Field → Type 0 where
   ◌⋆◌ : {f g : Field} {fs gs : List Field} → AlikeField f g → AlikeFields fs gs → AlikeFields (f ∷ fs) (g ∷ gs)
 
 pub data Alike : Trees → Trees → Type 0 where
-  no-trees : Alike none none
-  a-node : {t : ℕ} {fs gs : List Field} {cs ds ts us : Trees} → AlikeFields fs gs → Alike cs ds → Alike ts us → Alike (node t fs cs ts) (node t gs ds us)
+  no_trees : Alike none none
+  a_node : {t : ℕ} {fs gs : List Field} {cs ds ts us : Trees} → AlikeFields fs gs → Alike cs ds → Alike ts us → Alike (node t fs cs ts) (node t gs ds us)

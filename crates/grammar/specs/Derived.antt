@@ -1,8 +1,8 @@
 -- What some derivation gives: the trees of 01's rules, whatever the source, its length and the depth. Spans are left out (`Alike`), and asked for
--- by themselves (`Spanned`). Which trees these are is proved: those of the table of records (proofs/Derived.antt, `whole-exactly`).
+-- by themselves (`Spanned`). Which trees these are is proved: those of the table of records (proofs/Derived.antt, `whole_exactly`).
 -- Assumes nothing.
 use Rattle.std.specs.Prelude.{◌≡◌, List, [], ◌∷◌, ℕ, ◌/◌, ◌%◌, ◌≤◌}
-use Rattle.grammar.specs.Tags.{SLICE, PATTERN-FIELD}
+use Rattle.grammar.specs.Tags.{SLICE, PATTERN_FIELD}
 use Rattle.grammar.specs.Trees.{Field, byte, number, span, text, Trees}
 use Rattle.grammar.specs.Trees as trees
 use Rattle.grammar.specs.Alike.{Alike}
@@ -25,8 +25,8 @@ Forwards (text w ∷ fs) = Forwards fs
 pub data Zeros : ℕ → List Field → Type 0 where
   slice : {b i₁ j₁ i₂ j₂ i₃ j₃ : ℕ} → (b % 2 ≡ 0 → Absent Spans.forward i₁ j₁) → (b / 2 % 2 ≡ 0 → Absent Spans.forward i₂ j₂)
       → (b / 4 % 2 ≡ 0 → Absent Spans.forward i₃ j₃) → Zeros SLICE (byte b ∷ span i₁ j₁ ∷ span i₂ j₂ ∷ span i₃ j₃ ∷ [])
-  pattern-field : {h d a e : ℕ} {w : List ℕ} → (d ≡ 0 → Absent Spans.forward a e) → Zeros PATTERN-FIELD (byte h ∷ byte d ∷ span a e ∷ text w ∷ [])
-  other : {tag : ℕ} {fs : List Field} → (tag ≡ SLICE → ⊥) → (tag ≡ PATTERN-FIELD → ⊥) → Zeros tag fs
+  pattern_field : {h d a e : ℕ} {w : List ℕ} → (d ≡ 0 → Absent Spans.forward a e) → Zeros PATTERN_FIELD (byte h ∷ byte d ∷ span a e ∷ text w ∷ [])
+  other : {tag : ℕ} {fs : List Field} → (tag ≡ SLICE → ⊥) → (tag ≡ PATTERN_FIELD → ⊥) → Zeros tag fs
 
 -- R43. So in each record.
 pub data Spanned : Trees → Type 0 where

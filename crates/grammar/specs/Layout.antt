@@ -2,8 +2,8 @@
 -- children there are to a record. That every record that Records.antt allows is laid out so is proved (proofs/LayoutLaws.antt).
 -- Assumes nothing.
 use Rattle.std.specs.Prelude.{cond, List, [], ◌∷◌, ◌++◌, ℕ, ◌+◌, ◌-◌, ◌/◌, ◌%◌, ◌<◌, eqb, length, replicate}
-use Rattle.grammar.specs.Tags.{IDENTITY, NULL, BOOL, NUMBER, STRING, VARIABLE, ARRAY, ARRAY-COMP, MEMBERS, OBJECT-COMP, EXTENSION, PREFIX, INFIX, ASSERT-EXPR, LOCAL, IMPORT, ERROR, CALL}
-use Rattle.grammar.specs.Tags.{NAMED-ARGUMENT, INDEX-PART, FUNCTION, IF, SLICE, BIND, NAME-PATTERN, SKIP, ARRAY-PATTERN, OBJECT-PATTERN, PATTERN-FIELD, PARAMETER, FIELD, ASSERT, FOR, IF-CLAUSE, OBJECT-ITERATION}
+use Rattle.grammar.specs.Tags.{IDENTITY, NULL, BOOL, NUMBER, STRING, VARIABLE, ARRAY, ARRAY_COMP, MEMBERS, OBJECT_COMP, EXTENSION, PREFIX, INFIX, ASSERT_EXPR, LOCAL, IMPORT, ERROR, CALL}
+use Rattle.grammar.specs.Tags.{NAMED_ARGUMENT, INDEX_PART, FUNCTION, IF, SLICE, BIND, NAME_PATTERN, SKIP, ARRAY_PATTERN, OBJECT_PATTERN, PATTERN_FIELD, PARAMETER, FIELD, ASSERT, FOR, IF_CLAUSE, OBJECT_ITERATION}
 use Rattle.grammar.specs.Trees.{Field, byte, number, span, text, Trees, count as size}
 use Rattle.grammar.specs.Trees as trees
 
@@ -33,44 +33,44 @@ rows =
     row STRING 0 (words ∷ []) ∷
     row VARIABLE 0 (place ∷ words ∷ []) ∷
     row ARRAY 0 (count ∷ []) ∷
-    row ARRAY-COMP 1 (count ∷ []) ∷
+    row ARRAY_COMP 1 (count ∷ []) ∷
     row MEMBERS 0 (count ∷ []) ∷
-    row OBJECT-COMP 0 (count ∷ count ∷ []) ∷
+    row OBJECT_COMP 0 (count ∷ count ∷ []) ∷
     row EXTENSION 2 [] ∷
     row PREFIX 1 (below 4 ∷ []) ∷
     row INFIX 2 (below 20 ∷ place ∷ []) ∷
-    row ASSERT-EXPR 2 [] ∷
+    row ASSERT_EXPR 2 [] ∷
     row LOCAL 1 (count ∷ []) ∷
     row IMPORT 1 (below 3 ∷ place ∷ []) ∷
     row ERROR 1 (place ∷ []) ∷
     row CALL 1 (place ∷ below 2 ∷ count ∷ count ∷ []) ∷
-    row NAMED-ARGUMENT 1 (words ∷ []) ∷
-    row INDEX-PART 2 (place ∷ below 2 ∷ below 2 ∷ []) ∷
+    row NAMED_ARGUMENT 1 (words ∷ []) ∷
+    row INDEX_PART 2 (place ∷ below 2 ∷ below 2 ∷ []) ∷
     row FUNCTION 1 (place ∷ count ∷ []) ∷
     row IF 2 (place ∷ has ∷ []) ∷
     row SLICE 1 (bits ∷ place ∷ place ∷ place ∷ []) ∷
     row BIND 2 (below 2 ∷ count ∷ []) ∷
-    row NAME-PATTERN 0 (place ∷ words ∷ []) ∷
+    row NAME_PATTERN 0 (place ∷ words ∷ []) ∷
     row SKIP 0 [] ∷
-    row ARRAY-PATTERN 0 (count ∷ below 3 ∷ count ∷ words ∷ []) ∷
-    row OBJECT-PATTERN 0 (count ∷ below 3 ∷ words ∷ []) ∷
-    row PATTERN-FIELD 0 (has ∷ has ∷ place ∷ words ∷ []) ∷
+    row ARRAY_PATTERN 0 (count ∷ below 3 ∷ count ∷ words ∷ []) ∷
+    row OBJECT_PATTERN 0 (count ∷ below 3 ∷ words ∷ []) ∷
+    row PATTERN_FIELD 0 (has ∷ has ∷ place ∷ words ∷ []) ∷
     row PARAMETER 1 (has ∷ []) ∷
     row FIELD 2 (place ∷ below 2 ∷ below 2 ∷ below 2 ∷ count ∷ below 3 ∷ []) ∷
     row ASSERT 1 (place ∷ has ∷ []) ∷
     row FOR 2 [] ∷
-    row IF-CLAUSE 1 (place ∷ []) ∷
-    row OBJECT-ITERATION 2 (below 3 ∷ words ∷ []) ∷
+    row IF_CLAUSE 1 (place ∷ []) ∷
+    row OBJECT_ITERATION 2 (below 3 ∷ words ∷ []) ∷
     []
 
-unfoldable pub layout-in : ℕ → List Row → Layout
-layout-in tag [] = unknown
-layout-in tag (row t own ps ∷ rest) = cond (eqb tag t) (layout own ps) (layout-in tag rest)
+unfoldable pub layout_in : ℕ → List Row → Layout
+layout_in tag [] = unknown
+layout_in tag (row t own ps ∷ rest) = cond (eqb tag t) (layout own ps) (layout_in tag rest)
 
 -- R40. The layout of a tag's records.
 unfoldable pub layout_of : ℕ → Layout
-unfolding layout-in rows
-layout_of tag = layout-in tag rows
+unfolding layout_in rows
+layout_of tag = layout_in tag rows
 
 -- ── Records that are laid out so ──────────────────────────────────────────────────────────────────
 
@@ -81,10 +81,10 @@ bits_in b = b % 2 + (b / 2 % 2 + b / 4 % 2)
 -- R41. The fields have these parts, which tell of n children.
 pub data Laid : List Part → List Field → ℕ → Type 0 where
   over : Laid [] [] 0
-  a-span : {a e n : ℕ} {ps : List Part} {fs : List Field} → Laid ps fs n → Laid (place ∷ ps) (span a e ∷ fs) n
-  a-text : {w : List ℕ} → Laid (words ∷ []) (text w ∷ []) 0
-  a-count : {m n : ℕ} {ps : List Part} {fs : List Field} → Laid ps fs n → Laid (count ∷ ps) (number m ∷ fs) (m + n)
-  a-flag : {b n : ℕ} {ps : List Part} {fs : List Field} → b < 2 → Laid ps fs n → Laid (has ∷ ps) (byte b ∷ fs) (b + n)
+  a_span : {a e n : ℕ} {ps : List Part} {fs : List Field} → Laid ps fs n → Laid (place ∷ ps) (span a e ∷ fs) n
+  a_text : {w : List ℕ} → Laid (words ∷ []) (text w ∷ []) 0
+  a_count : {m n : ℕ} {ps : List Part} {fs : List Field} → Laid ps fs n → Laid (count ∷ ps) (number m ∷ fs) (m + n)
+  a_flag : {b n : ℕ} {ps : List Part} {fs : List Field} → b < 2 → Laid ps fs n → Laid (has ∷ ps) (byte b ∷ fs) (b + n)
   a_slice : {b n : ℕ} {ps : List Part} {fs : List Field} → b < 8 → Laid ps fs n → Laid (bits ∷ ps) (byte b ∷ fs) (bits_in b + n)
   a_byte : {m b n : ℕ} {ps : List Part} {fs : List Field} → b < m → Laid ps fs n → Laid (below m ∷ ps) (byte b ∷ fs) n
 

@@ -20,10 +20,10 @@ said (says w) = w
 said (spoiled n) = []
 said nothing = []
 
-unfoldable pub spoiled-at : Said → ℕ
-spoiled-at (says w) = 0
-spoiled-at (spoiled n) = n
-spoiled-at nothing = 0
+unfoldable pub spoiled_at : Said → ℕ
+spoiled_at (says w) = 0
+spoiled_at (spoiled n) = n
+spoiled_at nothing = 0
 
 -- R7, R42. A kept lexeme: its kind, its range and what it says.
 pub record Lexeme : Type 0 where
@@ -37,9 +37,9 @@ abbrev pub rest : List Lexeme → List Lexeme
 rest [] = []
 rest (x ∷ xs) = xs
 
-abbrev pub kind-of : List Lexeme → ℕ
-kind-of [] = EOF
-kind-of (x ∷ xs) = x.kind
+abbrev pub kind_of : List Lexeme → ℕ
+kind_of [] = EOF
+kind_of (x ∷ xs) = x.kind
 
 abbrev pub word_of : List Lexeme → Said
 word_of [] = nothing
@@ -51,9 +51,9 @@ abbrev pub start_of : ℕ → List Lexeme → ℕ
 start_of p [] = p
 start_of p (x ∷ xs) = x.start
 
-abbrev pub stop-of : ℕ → List Lexeme → ℕ
-stop-of p [] = p
-stop-of p (x ∷ xs) = x.stop
+abbrev pub stop_of : ℕ → List Lexeme → ℕ
+stop_of p [] = p
+stop_of p (x ∷ xs) = x.stop
 
 -- R7. What the lexeme layer owes: from p on, within a source of so many bytes, the ranges go forward, no lexeme is empty, and none says more
 -- bytes than it has.

@@ -79,20 +79,20 @@ table =
 
 -- ── What the table says of numbers ────────────────────────────────────────────────────────────────
 
-unfoldable pub is-met : Order → Bool
-is-met first = false
-is-met met = true
-is-met last = false
+unfoldable pub is_met : Order → Bool
+is_met first = false
+is_met met = true
+is_met last = false
 
 unfoldable pub placed : Place → ℕ → ℕ → Bool
 placed nowhere a e = eqb a 0 && eqb e 0
 placed point a e = eqb a e
 placed lexeme a e = true
 
-unfoldable pub is-lexeme : Place → Bool
-is-lexeme nowhere = false
-is-lexeme point = false
-is-lexeme lexeme = true
+unfoldable pub is_lexeme : Place → Bool
+is_lexeme nowhere = false
+is_lexeme point = false
+is_lexeme lexeme = true
 
 unfoldable pub detailed : Detail → ℕ → Bool
 detailed nothing x = eqb x 0
@@ -105,15 +105,15 @@ sized first n = eqb n 0
 sized met n = eqb n 0
 sized last n = true
 
-unfoldable pub met-in : ℕ → ℕ → List Row → Bool
-unfolding is-met detailed
-met-in n x [] = false
-met-in n x (row m o p d ∷ rows) = cond (eqb n m) (is-met o && detailed d x) (met-in n x rows)
+unfoldable pub met_in : ℕ → ℕ → List Row → Bool
+unfolding is_met detailed
+met_in n x [] = false
+met_in n x (row m o p d ∷ rows) = cond (eqb n m) (is_met o && detailed d x) (met_in n x rows)
 
 -- The reading may meet number n, with detail x.
-unfoldable pub met-with : ℕ → ℕ → Bool
-unfolding met-in table
-met-with n x = met-in n x table
+unfoldable pub met_with : ℕ → ℕ → Bool
+unfolding met_in table
+met_with n x = met_in n x table
 
 unfoldable pub fits_in : ℕ → ℕ → ℕ → ℕ → ℕ → List Row → Bool
 unfolding placed detailed sized
@@ -125,12 +125,12 @@ unfoldable pub fits : ℕ → ℕ → ℕ → ℕ → ℕ → Bool
 unfolding fits_in table
 fits n a e x l = fits_in n a e x l table
 
-unfoldable pub at-lexeme-in : ℕ → List Row → Bool
-unfolding is-lexeme
-at-lexeme-in n [] = false
-at-lexeme-in n (row m o p d ∷ rows) = cond (eqb n m) (is-lexeme p) (at-lexeme-in n rows)
+unfoldable pub at_lexeme_in : ℕ → List Row → Bool
+unfolding is_lexeme
+at_lexeme_in n [] = false
+at_lexeme_in n (row m o p d ∷ rows) = cond (eqb n m) (is_lexeme p) (at_lexeme_in n rows)
 
 -- Number n stands at a lexeme, or at the end.
-unfoldable pub at-lexeme : ℕ → Bool
-unfolding at-lexeme-in table
-at-lexeme n = at-lexeme-in n table
+unfoldable pub at_lexeme : ℕ → Bool
+unfolding at_lexeme_in table
+at_lexeme n = at_lexeme_in n table

@@ -3,15 +3,15 @@
 use Rattle.std.specs.Prelude.{◌≡◌, Bool, true, false, ◌&&◌, List, ℕ, zero, suc, ◌/◌, ◌%◌, eqb}
 use Rattle.grammar.specs.Numbers.{WANTED, DEPTH}
 use Rattle.grammar.specs.Trees.{Field, Trees, none, tree, ◌⊕◌, count}
-use Rattle.grammar.specs.Lexemes.{Lexeme, rest, kind-of, word_of, start_of, stop-of}
-use Rattle.grammar.specs.Productions.{Phrase, Body, end, goto, fail, ◌▸◌, Step, eat, leaf, sub, deep, close, Switch, always, exp-destruct, exp-object-iteration, exp-null-coaelse, Row, row, Table, otherwise, ◌∣◌, View, rule, source}
+use Rattle.grammar.specs.Lexemes.{Lexeme, rest, kind_of, word_of, start_of, stop_of}
+use Rattle.grammar.specs.Productions.{Phrase, Body, end, goto, fail, ◌▸◌, Step, eat, leaf, sub, deep, close, Switch, always, exp_destruct, exp_object_iteration, exp_null_coaelse, Row, row, Table, otherwise, ◌∣◌, View, rule, source}
 
--- R25. "Setting is a sum of 1 (`exp-destruct`), 2 (`exp-object-iteration`), 4 (`exp-null-coaelse`)."
+-- R25. "Setting is a sum of 1 (`exp_destruct`), 2 (`exp_object_iteration`), 4 (`exp_null_coaelse`)."
 unfoldable pub has : ℕ → Switch → Bool
 has s always = true
-has s exp-destruct = eqb (s % 2) 1
-has s exp-object-iteration = eqb (s / 2 % 2) 1
-has s exp-null-coaelse = eqb (s / 4 % 2) 1
+has s exp_destruct = eqb (s % 2) 1
+has s exp_object_iteration = eqb (s / 2 % 2) 1
+has s exp_null_coaelse = eqb (s / 4 % 2) 1
 
 -- R19, R25. 02, Item 9: with 8, signs bind as the Jsonnet specification has it. No production has this switch: it decides on the prefix power.
 unfoldable pub published : ℕ → Bool
@@ -26,12 +26,12 @@ choose s (row g t b ∣ rest) = elim (t && has s g) [ true ↦ b | false ↦ cho
 unfoldable pub view : ℕ → List Lexeme → ℕ → View
 view p xs n =
     record {
-      kind = kind-of xs;
-      kind₁ = kind-of (rest xs);
-      kind₂ = kind-of (rest (rest xs));
-      kind₃ = kind-of (rest (rest (rest xs)));
+      kind = kind_of xs;
+      kind₁ = kind_of (rest xs);
+      kind₂ = kind_of (rest (rest xs));
+      kind₃ = kind_of (rest (rest (rest xs)));
       start = start_of p xs;
-      stop = stop-of p xs;
+      stop = stop_of p xs;
       before = p;
       says = word_of xs;
       says₁ = word_of (rest xs);
@@ -55,10 +55,10 @@ pub data Reading (prefix s : ℕ) : Body → Trees → ℕ → ℕ → List Lexe
   gone : {q : Phrase} {ts : Trees} {d p : ℕ} {xs : List Lexeme} {o : Outcome}
       → Reading prefix s (production prefix s q p xs (count ts)) ts d p xs o → Reading prefix s (goto q) ts d p xs o
   eaten : {k : ℕ} {b : Body} {ts : Trees} {d p : ℕ} {xs : List Lexeme} {o : Outcome}
-      → kind-of xs ≡ k → Reading prefix s b ts d (stop-of p xs) (rest xs) o → Reading prefix s (eat k ▸ b) ts d p xs o
-  uneaten : {k : ℕ} {b : Body} {ts : Trees} {d p : ℕ} {xs : List Lexeme} → ¬ (kind-of xs ≡ k) → Reading prefix s (eat k ▸ b) ts d p xs (broken WANTED p xs k)
+      → kind_of xs ≡ k → Reading prefix s b ts d (stop_of p xs) (rest xs) o → Reading prefix s (eat k ▸ b) ts d p xs o
+  uneaten : {k : ℕ} {b : Body} {ts : Trees} {d p : ℕ} {xs : List Lexeme} → ¬ (kind_of xs ≡ k) → Reading prefix s (eat k ▸ b) ts d p xs (broken WANTED p xs k)
   leafed : {t : ℕ} {fs : List Field} {b : Body} {ts : Trees} {d p : ℕ} {xs : List Lexeme} {o : Outcome}
-      → Reading prefix s b (ts ⊕ tree t fs none) d (stop-of p xs) (rest xs) o → Reading prefix s (leaf t fs ▸ b) ts d p xs o
+      → Reading prefix s b (ts ⊕ tree t fs none) d (stop_of p xs) (rest xs) o → Reading prefix s (leaf t fs ▸ b) ts d p xs o
   closed : {t : ℕ} {fs : List Field} {b : Body} {ts : Trees} {d p : ℕ} {xs : List Lexeme} {o : Outcome}
       → Reading prefix s b (tree t fs ts) d p xs o → Reading prefix s (close t fs ▸ b) ts d p xs o
   subbed : {q : Phrase} {b : Body} {ts us : Trees} {d p r : ℕ} {xs ys : List Lexeme} {o : Outcome}
@@ -73,7 +73,7 @@ pub data Reading (prefix s : ℕ) : Body → Trees → ℕ → ℕ → List Lexe
   undeepened : {q : Phrase} {b : Body} {ts : Trees} {d p n r x : ℕ} {xs ys : List Lexeme}
       → Reading prefix s (production prefix s q p xs 0) none d p xs (broken n r ys x) → Reading prefix s (deep q ▸ b) ts (suc d) p xs (broken n r ys x)
   -- R5, R39. "Depth is tested before the lexeme is."
-  too-deep : {q : Phrase} {b : Body} {ts : Trees} {p : ℕ} {xs : List Lexeme} → Reading prefix s (deep q ▸ b) ts zero p xs (broken DEPTH p xs 0)
+  too_deep : {q : Phrase} {b : Body} {ts : Trees} {p : ℕ} {xs : List Lexeme} → Reading prefix s (deep q ▸ b) ts zero p xs (broken DEPTH p xs 0)
 
 -- R16. The whole source, of which xs are the kept lexemes.
 abbrev pub Reads : ℕ → ℕ → ℕ → List Lexeme → Outcome → Type 0

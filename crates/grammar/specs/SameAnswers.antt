@@ -4,7 +4,7 @@
 use Rattle.std.specs.Prelude.{◌≡◌, List, ℕ, ◌+◌, T}
 use Rattle.lexemes.specs.declared.Lexeme.{Lexeme as Range}
 use Rattle.lexemes.specs.Same.{Place}
-use Rattle.grammar.specs.Numbers.{SETTING, ESCAPE, at-lexeme}
+use Rattle.grammar.specs.Numbers.{SETTING, ESCAPE, at_lexeme}
 use Rattle.grammar.specs.Trees.{Trees}
 use Rattle.grammar.specs.Alike.{Alike}
 use Rattle.grammar.specs.Answer.{Verdict, refused, tree}
@@ -13,11 +13,11 @@ use Rattle.grammar.specs.Answer.{Verdict, refused, tree}
 -- one's start as behind the other's.
 pub data SameDetail : ℕ → ℕ → ℕ → ℕ → ℕ → Type 0 where
   equal : {n a x b : ℕ} → (n ≡ ESCAPE → ⊥) → SameDetail n a x b x
-  as-far : {a b : ℕ} (o : ℕ) → SameDetail ESCAPE a (a + o) b (b + o)
+  as_far : {a b : ℕ} (o : ℕ) → SameDetail ESCAPE a (a + o) b (b + o)
 
 -- Of two sources whose kept lexemes are xs and ys.
 pub data SameVerdict (xs ys : List Range) : Verdict → Verdict → Type 0 where
   trees : {ts us : Trees} → Alike ts us → SameVerdict xs ys (tree ts) (tree us)
   settings : SameVerdict xs ys (refused SETTING 0 0 0) (refused SETTING 0 0 0)
-  refusals : {n a e x b f y i : ℕ} → T (at-lexeme n) → Place 0 xs i a e → Place 0 ys i b f → SameDetail n a x b y
+  refusals : {n a e x b f y i : ℕ} → T (at_lexeme n) → Place 0 xs i a e → Place 0 ys i b f → SameDetail n a x b y
       → SameVerdict xs ys (refused n a e x) (refused n b f y)

@@ -8,7 +8,7 @@ use Rattle.lexemes.specs.Kept.{FirstBad}
 use Rattle.lexemes.specs.Kept as lexemes
 use Rattle.grammar.specs.Lexemes.{Lexeme}
 use Rattle.grammar.specs.Says.{Told}
-use Rattle.grammar.specs.Answer.{Answer, Answers, document-01}
+use Rattle.grammar.specs.Answer.{Answer, Answers, document_01}
 
 -- R35. Number 4's "first one": it has kind k and stands from a to e.
 pub data Bad (source : List ℕ) (k a e : ℕ) : Type 0 where
@@ -20,4 +20,4 @@ pub data Kept (source : List ℕ) (xs : List Lexeme) : Type 0 where
 
 -- R1. Document 01: the answer and the output for a setting, a source and an output of so many bytes. The reader's contract.
 abbrev pub Reads01 : ℕ → List ℕ → ℕ → Answer → List ℕ → Type 0
-Reads01 setting source room answer out = Answers Bad Kept document-01 setting source room answer out
+Reads01 setting source room answer out = Answers Bad Kept document_01 setting source room answer out

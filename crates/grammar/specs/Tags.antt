@@ -23,14 +23,14 @@ VARIABLE = 6
 abbrev pub ARRAY : ℕ
 ARRAY = 7
 
-abbrev pub ARRAY-COMP : ℕ
-ARRAY-COMP = 8
+abbrev pub ARRAY_COMP : ℕ
+ARRAY_COMP = 8
 
 abbrev pub MEMBERS : ℕ
 MEMBERS = 9
 
-abbrev pub OBJECT-COMP : ℕ
-OBJECT-COMP = 10
+abbrev pub OBJECT_COMP : ℕ
+OBJECT_COMP = 10
 
 abbrev pub EXTENSION : ℕ
 EXTENSION = 11
@@ -41,8 +41,8 @@ PREFIX = 12
 abbrev pub INFIX : ℕ
 INFIX = 13
 
-abbrev pub ASSERT-EXPR : ℕ
-ASSERT-EXPR = 14
+abbrev pub ASSERT_EXPR : ℕ
+ASSERT_EXPR = 14
 
 abbrev pub LOCAL : ℕ
 LOCAL = 15
@@ -56,11 +56,11 @@ ERROR = 17
 abbrev pub CALL : ℕ
 CALL = 18
 
-abbrev pub NAMED-ARGUMENT : ℕ
-NAMED-ARGUMENT = 19
+abbrev pub NAMED_ARGUMENT : ℕ
+NAMED_ARGUMENT = 19
 
-abbrev pub INDEX-PART : ℕ
-INDEX-PART = 20
+abbrev pub INDEX_PART : ℕ
+INDEX_PART = 20
 
 abbrev pub FUNCTION : ℕ
 FUNCTION = 21
@@ -74,20 +74,20 @@ SLICE = 23
 abbrev pub BIND : ℕ
 BIND = 24
 
-abbrev pub NAME-PATTERN : ℕ
-NAME-PATTERN = 25
+abbrev pub NAME_PATTERN : ℕ
+NAME_PATTERN = 25
 
 abbrev pub SKIP : ℕ
 SKIP = 26
 
-abbrev pub ARRAY-PATTERN : ℕ
-ARRAY-PATTERN = 27
+abbrev pub ARRAY_PATTERN : ℕ
+ARRAY_PATTERN = 27
 
-abbrev pub OBJECT-PATTERN : ℕ
-OBJECT-PATTERN = 28
+abbrev pub OBJECT_PATTERN : ℕ
+OBJECT_PATTERN = 28
 
-abbrev pub PATTERN-FIELD : ℕ
-PATTERN-FIELD = 29
+abbrev pub PATTERN_FIELD : ℕ
+PATTERN_FIELD = 29
 
 abbrev pub PARAMETER : ℕ
 PARAMETER = 30
@@ -101,8 +101,8 @@ ASSERT = 32
 abbrev pub FOR : ℕ
 FOR = 33
 
-abbrev pub IF-CLAUSE : ℕ
-IF-CLAUSE = 34
+abbrev pub IF_CLAUSE : ℕ
+IF_CLAUSE = 34
 
-abbrev pub OBJECT-ITERATION : ℕ
-OBJECT-ITERATION = 35
+abbrev pub OBJECT_ITERATION : ℕ
+OBJECT_ITERATION = 35

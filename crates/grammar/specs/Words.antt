@@ -11,12 +11,12 @@ use Rattle.grammar.specs.Spells.{Quoted}
 -- R42. A name: an identifier and no keyword.
 pub record NameText (w : List ℕ) : Type 0 where
   pub identifier : Identifier w
-  pub no-keyword : Among w keywords → ⊥
+  pub no_keyword : Among w keywords → ⊥
 
 -- A number: a numeral without underscores, below what a double holds.
 pub record NumberText (w : List ℕ) : Type 0 where
   pub numeral : Numeral w
-  pub in-range : TooLarge w → ⊥
+  pub in_range : TooLarge w → ⊥
 
 -- R42. A lexeme of kind k may say v: an identifier its name, a number its numeral, a string literal a text of UTF-8, or where its bad escape is; all
 -- but identifiers nothing.

@@ -1,7 +1,7 @@
 // Operators by the kinds of their lexemes: unary_op, binary_op, infix_binding_power. Whether a setting has `??` is the caller's question.
 ghost use Rattle.std.specs.Prelude.{◌≡◌};
-ghost use Rattle.grammar.specs.Answer.{prefix-power};
-ghost use Rattle.grammar.specs.Operators.{prefix-of, infix-of};
+ghost use Rattle.grammar.specs.Answer.{prefix_power};
+ghost use Rattle.grammar.specs.Operators.{prefix_of, infix_of};
 
 use crate::settings::has_published;
 use lexemes::kinds::Kind;
@@ -21,7 +21,7 @@ pub enum Infix {
 }
 
 pub fn unary_op(kind: u8) -> Prefix
-    ensures { result ≡ prefix-of kind }
+    ensures { result ≡ prefix_of kind }
 {
     match kind {
         Kind::PLUS => Prefix::Unary(0),
@@ -34,7 +34,7 @@ pub fn unary_op(kind: u8) -> Prefix
 
 // prefix_binding_power
 pub fn prefix_power(setting: u64) -> u8
-    ensures { result ≡ prefix-power setting }
+    ensures { result ≡ prefix_power setting }
 {
     if has_published(setting) {
         return 22;
@@ -43,7 +43,7 @@ pub fn prefix_power(setting: u64) -> u8
 }
 
 pub fn binary_op(kind: u8) -> Infix
-    ensures { result ≡ infix-of kind }
+    ensures { result ≡ infix_of kind }
 {
     match kind {
         Kind::OR => Infix::Binary(17, 2, 3),

@@ -1,30 +1,30 @@
 // What a setting is and switches on, each test once. The switches are named as the Rust's cargo features.
 ghost use Rattle.std.specs.Prelude.{◌≡◌};
-ghost use Rattle.grammar.specs.Productions.{exp-destruct, exp-object-iteration, exp-null-coaelse};
+ghost use Rattle.grammar.specs.Productions.{exp_destruct, exp_object_iteration, exp_null_coaelse};
 ghost use Rattle.grammar.specs.Reading.{has, published};
-ghost use Rattle.grammar.specs.Answer.{valid-setting};
+ghost use Rattle.grammar.specs.Answer.{valid_setting};
 
 // "number 1 moves to above 15".
 pub fn valid(setting: u64) -> bool
-    ensures { result ≡ valid-setting setting }
+    ensures { result ≡ valid_setting setting }
 {
     setting <= 15
 }
 
 pub fn has_destruct(setting: u64) -> bool
-    ensures { result ≡ has setting exp-destruct }
+    ensures { result ≡ has setting exp_destruct }
 {
     setting % 2 == 1
 }
 
 pub fn has_object_iteration(setting: u64) -> bool
-    ensures { result ≡ has setting exp-object-iteration }
+    ensures { result ≡ has setting exp_object_iteration }
 {
     setting / 2 % 2 == 1
 }
 
 pub fn has_null_coaelse(setting: u64) -> bool
-    ensures { result ≡ has setting exp-null-coaelse }
+    ensures { result ≡ has setting exp_null_coaelse }
 {
     setting / 4 % 2 == 1
 }

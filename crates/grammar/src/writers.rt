@@ -1,7 +1,7 @@
 // Records into a lent output, at a place: house tagged fields, one-byte tag, two-byte length, payload. Each writer hands back the place
 // after what it wrote; where the output is full it stores nothing, and the count runs on.
 ghost use Rattle.std.specs.Prelude.{[], ◌∷◌, ◌++◌, ◌+◌, ◌<◌, ◌^◌, length};
-ghost use Rattle.grammar.specs.Tags.{OBJECT-COMP, CALL, INDEX-PART, FUNCTION, SLICE, BIND, ARRAY-PATTERN, OBJECT-PATTERN, PATTERN-FIELD, FIELD, OBJECT-ITERATION};
+ghost use Rattle.grammar.specs.Tags.{OBJECT_COMP, CALL, INDEX_PART, FUNCTION, SLICE, BIND, ARRAY_PATTERN, OBJECT_PATTERN, PATTERN_FIELD, FIELD, OBJECT_ITERATION};
 ghost use Rattle.grammar.specs.Trees.{byte, number, span, text};
 ghost use Rattle.grammar.specs.Image.{two, entry};
 ghost use Rattle.grammar.specs.Writing.{Wrote};
@@ -130,7 +130,7 @@ pub fn put_count(out: &mut [u8], w: usize, tag: u8, n: usize) -> usize
 // OBJECT_COMP: member count, clause count.
 pub fn put_counts(out: &mut [u8], w: usize, members: usize, clauses: usize) -> usize
     requires { (w < 2 ^ 40) × (members < 2 ^ 16) × (clauses < 2 ^ 16) }
-    ensures { Wrote out.old w (entry OBJECT-COMP (number members ∷ number clauses ∷ [])) result out.new }
+    ensures { Wrote out.old w (entry OBJECT_COMP (number members ∷ number clauses ∷ [])) result out.new }
 {
     let w1 = put_head(out, w, Tag::OBJECT_COMP, 4);
     let w2 = put_number(out, w1, members);
@@ -218,7 +218,7 @@ pub fn put_call(
 // INDEX_PART: span, first-of-run, null-safe.
 pub fn put_index(out: &mut [u8], w: usize, a: u16, e: u16, first: u8, safe: u8) -> usize
     requires { (w < 2 ^ 40) × (a < 2 ^ 16) × (e < 2 ^ 16) }
-    ensures { Wrote out.old w (entry INDEX-PART (span a e ∷ byte first ∷ byte safe ∷ [])) result out.new }
+    ensures { Wrote out.old w (entry INDEX_PART (span a e ∷ byte first ∷ byte safe ∷ [])) result out.new }
 {
     let w1 = put_head(out, w, Tag::INDEX_PART, 6);
     let w2 = put_span(out, w1, a, e);
@@ -268,7 +268,7 @@ pub fn put_array_pattern(
     s: &[u8],
 ) -> usize
     requires { (w < 2 ^ 40) × (starts < 2 ^ 16) × (ends < 2 ^ 16) × (5 + length s.now < 2 ^ 16) }
-    ensures { Wrote out.old w (entry ARRAY-PATTERN (number starts ∷ byte rest ∷ number ends ∷ text s.now ∷ [])) result out.new }
+    ensures { Wrote out.old w (entry ARRAY_PATTERN (number starts ∷ byte rest ∷ number ends ∷ text s.now ∷ [])) result out.new }
 {
     let w1 = put_head(out, w, Tag::ARRAY_PATTERN, 5 + s.len());
     let w2 = put_number(out, w1, starts);
@@ -280,7 +280,7 @@ pub fn put_array_pattern(
 // OBJECT_PATTERN: field count, rest byte, rest name.
 pub fn put_object_pattern(out: &mut [u8], w: usize, n: usize, rest: u8, s: &[u8]) -> usize
     requires { (w < 2 ^ 40) × (n < 2 ^ 16) × (3 + length s.now < 2 ^ 16) }
-    ensures { Wrote out.old w (entry OBJECT-PATTERN (number n ∷ byte rest ∷ text s.now ∷ [])) result out.new }
+    ensures { Wrote out.old w (entry OBJECT_PATTERN (number n ∷ byte rest ∷ text s.now ∷ [])) result out.new }
 {
     let w1 = put_head(out, w, Tag::OBJECT_PATTERN, 3 + s.len());
     let w2 = put_number(out, w1, n);
@@ -299,7 +299,7 @@ pub fn put_pattern_field(
     s: &[u8],
 ) -> usize
     requires { (w < 2 ^ 40) × (a < 2 ^ 16) × (e < 2 ^ 16) × (6 + length s.now < 2 ^ 16) }
-    ensures { Wrote out.old w (entry PATTERN-FIELD (byte into ∷ byte default ∷ span a e ∷ text s.now ∷ [])) result out.new }
+    ensures { Wrote out.old w (entry PATTERN_FIELD (byte into ∷ byte default ∷ span a e ∷ text s.now ∷ [])) result out.new }
 {
     let w1 = put_head(out, w, Tag::PATTERN_FIELD, 6 + s.len());
     let w2 = put_byte(out, w1, into);
@@ -311,7 +311,7 @@ pub fn put_pattern_field(
 // OBJECT_ITERATION: visibility, key.
 pub fn put_iteration(out: &mut [u8], w: usize, visibility: u8, s: &[u8]) -> usize
     requires { (w < 2 ^ 40) × (1 + length s.now < 2 ^ 16) }
-    ensures { Wrote out.old w (entry OBJECT-ITERATION (byte visibility ∷ text s.now ∷ [])) result out.new }
+    ensures { Wrote out.old w (entry OBJECT_ITERATION (byte visibility ∷ text s.now ∷ [])) result out.new }
 {
     let w1 = put_head(out, w, Tag::OBJECT_ITERATION, 1 + s.len());
     let w2 = put_byte(out, w1, visibility);

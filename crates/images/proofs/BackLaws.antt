@@ -16,30 +16,30 @@ use Rattle.images.specs.Inner.{Whole}
 use Rattle.images.specs.contracts.Answer.{the_type}
 use Rattle.images.proofs.LinkLaws.{links-length}
 
-pub back-short : {bytes array : List ℕ} (n : ℕ) → array ≡ replicate n 0 → n < needed bytes → ReadsBack bytes n (Short (needed bytes)) array
-back-short {bytes} n e h = subst (λ (l : List ℕ). ReadsBack bytes n (Short (needed bytes)) l) (sym e) (ReadsBack.short h)
+pub back_short : {bytes array : List ℕ} (n : ℕ) → array ≡ replicate n 0 → n < needed bytes → ReadsBack bytes n (Short (needed bytes)) array
+back_short {bytes} n e h = subst (λ (l : List ℕ). ReadsBack bytes n (Short (needed bytes)) l) (sym e) (ReadsBack.short h)
 
-pub back-refused : {bytes array cleared : List ℕ} (n : ℕ) (a : Answer) → OneOf (1 ∷ 2 ∷ 3 ∷ 4 ∷ 5 ∷ []) (tag_of the_type a) → Whole bytes n a array → needed bytes ≤ n
+pub back_refused : {bytes array cleared : List ℕ} (n : ℕ) (a : Answer) → OneOf (1 ∷ 2 ∷ 3 ∷ 4 ∷ 5 ∷ []) (tag_of the_type a) → Whole bytes n a array → needed bytes ≤ n
     → cleared ≡ replicate (length array) 0 → ReadsBack bytes n a cleared
-back-refused {bytes} {array} n a o (Whole.accepted rest x e l) h z = absurd (no-tree o)
+back_refused {bytes} {array} n a o (Whole.accepted rest x e l) h z = absurd (no_tree o)
   where
-    no-tree : OneOf (1 ∷ 2 ∷ 3 ∷ 4 ∷ 5 ∷ []) 0 → ⊥
-    no-tree x = ⊎_elim (λ e. omega arith) (λ y. ⊎_elim (λ e. omega arith) (λ z. ⊎_elim (λ e. omega arith) (λ u. ⊎_elim (λ e. omega arith) (λ e. omega arith) u) z) y) x
-back-refused {bytes} {array} n a o (Whole.refused l x) h z =
+    no_tree : OneOf (1 ∷ 2 ∷ 3 ∷ 4 ∷ 5 ∷ []) 0 → ⊥
+    no_tree x = ⊎_elim (λ e. omega arith) (λ y. ⊎_elim (λ e. omega arith) (λ z. ⊎_elim (λ e. omega arith) (λ u. ⊎_elim (λ e. omega arith) (λ e. omega arith) u) z) y) x
+back_refused {bytes} {array} n a o (Whole.refused l x) h z =
     subst (λ (w : List ℕ). ReadsBack bytes n a w) (sym (z ∙ ap (λ (i : ℕ). replicate i 0) l)) (ReadsBack.refused h x)
 
-never-tree : {bytes : List ℕ} {a : Answer} → Refused bytes a → tag_of the_type a ≡ 0 → ⊥
-never-tree (Refused.unknown b e) q = omega (arith, q)
-never-tree (Refused.malformed b k n) q = omega (arith, q)
-never-tree (Refused.missing b x l) q = omega (arith, q)
-never-tree (Refused.underived b x l n) q = omega (arith, q)
-never-tree (Refused.left_over b n) q = omega (arith, q)
-never-tree (Refused.lone-root b n) q = omega (arith, q)
+never_tree : {bytes : List ℕ} {a : Answer} → Refused bytes a → tag_of the_type a ≡ 0 → ⊥
+never_tree (Refused.unknown b e) q = omega (arith, q)
+never_tree (Refused.malformed b k n) q = omega (arith, q)
+never_tree (Refused.missing b x l) q = omega (arith, q)
+never_tree (Refused.underived b x l n) q = omega (arith, q)
+never_tree (Refused.left_over b n) q = omega (arith, q)
+never_tree (Refused.lone_root b n) q = omega (arith, q)
 
 -- The links of a tree's records fit, and what is behind them is cleared.
 fits : {bytes array : List ℕ} {room n : ℕ} → Whole bytes room (Tree n) array → n * 2 ≤ length array
 fits (Whole.accepted {t} rest x e l) = omega (arith, ap length e, length-append (links 0 0 t) rest, links-length 0 0 t)
-fits (Whole.refused l x) = absurd (never-tree x refl)
+fits (Whole.refused l x) = absurd (never_tree x refl)
 
 zeroed : {bytes array : List ℕ} {room n : ℕ} {last : List ℕ} → Whole bytes room (Tree n) array → needed bytes ≤ room
     → last ≡ replicate (length (take (length array - n * 2) (drop (n * 2) array))) 0
@@ -58,15 +58,15 @@ zeroed {bytes} {array} {room} {last = last} (Whole.accepted {t} rest x e l) h z 
         ap (λ (w : List ℕ). take (records t * 2) array ++ (last ++ w)) (drop_of_length-le (drop (records t * 2) array) {i = behind} (omega (arith, length-drop (records t * 2) array)))
         ∙ ap (λ (w : List ℕ). take (records t * 2) array ++ w) (append-nil last ∙ z ∙ ap (λ (m : ℕ). replicate m 0) long)
         ∙ ap (λ (w : List ℕ). w ++ replicate (room - 2 * records t) 0) (ap (take (records t * 2)) e ∙ take_at (links 0 0 t) rest (records t * 2) (links-length 0 0 t))
-zeroed (Whole.refused l x) h z = absurd (never-tree x refl)
+zeroed (Whole.refused l x) h z = absurd (never_tree x refl)
 
 module _ {bytes array : List ℕ} {room n : ℕ} {a : Answer} (q : a ≡ Tree n) (w : Whole bytes room a array) where
   tree : Whole bytes room (Tree n) array
   tree = subst (λ (b : Answer). Whole bytes room b array) q w
 
-  pub links-fit : n * 2 ≤ length array
-  links-fit = fits tree
+  pub links_fit : n * 2 ≤ length array
+  links_fit = fits tree
 
-  pub back-accepted : {last : List ℕ} → needed bytes ≤ room → last ≡ replicate (length (take (length array - n * 2) (drop (n * 2) array))) 0
+  pub back_accepted : {last : List ℕ} → needed bytes ≤ room → last ≡ replicate (length (take (length array - n * 2) (drop (n * 2) array))) 0
       → ReadsBack bytes room (Tree n) (take (n * 2) array ++ (last ++ drop (length array - n * 2) (drop (n * 2) array)))
-  back-accepted h z = zeroed tree h z
+  back_accepted h z = zeroed tree h z

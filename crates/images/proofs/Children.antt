@@ -15,9 +15,9 @@ use Rattle.grammar.specs.Trees as trees
 use Rattle.grammar.specs.Image.{entry, image}
 use Rattle.images.specs.declared.Answer.TheVariants.{Tree}
 use Rattle.images.specs.Images.{Accepted, records, links, ReadsBack}
-use Rattle.images.specs.Children.{Record, root-numbers, Holds, first_of, Backward, Found}
+use Rattle.images.specs.Children.{Record, root_numbers, Holds, first_of, Backward, Found}
 use Rattle.images.proofs.LinkLaws.{links-length}
-use Rattle.images.proofs.Sole.{no-tree}
+use Rattle.images.proofs.Sole.{no_tree}
 
 -- ── Where a row stands ────────────────────────────────────────────────────────────────────────────
 
@@ -43,9 +43,9 @@ module _ {bytes array : List ℕ} {at first tag : ℕ} {fields : List Field} {ch
   own = first + records children
 
   -- its children, its own record, and what stands to the right
-  bytes-parts : bytes ≡ s.before ++ (image children ++ (entry tag fields ++ (image ts ++ s.after)))
+  bytes_parts : bytes ≡ s.before ++ (image children ++ (entry tag fields ++ (image ts ++ s.after)))
   unfolding image
-  bytes-parts =
+  bytes_parts =
       s.split
       ∙ ap (λ (l : List ℕ). s.before ++ l)
       (append_assoc (image children ++ entry tag fields) (image ts) s.after ∙ append_assoc (image children) (entry tag fields) (image ts ++ s.after))
@@ -54,11 +54,11 @@ module _ {bytes array : List ℕ} {at first tag : ℕ} {fields : List Field} {ch
   unfolding links
   array_parts = s.linked ∙ ap (λ (l : List ℕ). s.left ++ l) (append_assoc (links at first children) (offset ∷ first ∷ links next (own + 1) ts) s.right)
 
-  in-children : Stored bytes array at first children
-  in-children = record {
+  in_children : Stored bytes array at first children
+  in_children = record {
     before = s.before;
     after = entry tag fields ++ (image ts ++ s.after);
-    split = bytes-parts;
+    split = bytes_parts;
     place = s.place;
     left = s.left;
     right = offset ∷ first ∷ (links next (own + 1) ts ++ s.right);
@@ -66,17 +66,17 @@ module _ {bytes array : List ℕ} {at first tag : ℕ} {fields : List Field} {ch
     number = s.number;
   }
 
-  before-own : length (s.before ++ image children) ≡ offset
-  before-own = omega (arith, length-append s.before (image children), s.place)
+  before_own : length (s.before ++ image children) ≡ offset
+  before_own = omega (arith, length-append s.before (image children), s.place)
 
-  left-own : length (s.left ++ links at first children) ≡ own * 2
-  left-own = omega (arith, length-append s.left (links at first children), s.number, links-length at first children)
+  left_own : length (s.left ++ links at first children) ≡ own * 2
+  left_own = omega (arith, length-append s.left (links at first children), s.number, links-length at first children)
 
-  bytes-own : bytes ≡ (s.before ++ image children) ++ (entry tag fields ++ (image ts ++ s.after))
-  bytes-own = bytes-parts ∙ sym (append_assoc s.before (image children) (entry tag fields ++ (image ts ++ s.after)))
+  bytes_own : bytes ≡ (s.before ++ image children) ++ (entry tag fields ++ (image ts ++ s.after))
+  bytes_own = bytes_parts ∙ sym (append_assoc s.before (image children) (entry tag fields ++ (image ts ++ s.after)))
 
-  array-own : array ≡ (s.left ++ links at first children) ++ (offset ∷ first ∷ (links next (own + 1) ts ++ s.right))
-  array-own = array_parts ∙ sym (append_assoc s.left (links at first children) (offset ∷ first ∷ (links next (own + 1) ts ++ s.right)))
+  array_own : array ≡ (s.left ++ links at first children) ++ (offset ∷ first ∷ (links next (own + 1) ts ++ s.right))
+  array_own = array_parts ∙ sym (append_assoc s.left (links at first children) (offset ∷ first ∷ (links next (own + 1) ts ++ s.right)))
 
   in_right : Stored bytes array next (own + 1) ts
   in_right =
@@ -84,42 +84,42 @@ module _ {bytes array : List ℕ} {at first tag : ℕ} {fields : List Field} {ch
       record {
         before = (s.before ++ image children) ++ entry tag fields;
         after = s.after;
-        split = bytes-own ∙ sym (append_assoc (s.before ++ image children) (entry tag fields) (image ts ++ s.after));
-        place = omega (arith, length-append (s.before ++ image children) (entry tag fields), before-own);
+        split = bytes_own ∙ sym (append_assoc (s.before ++ image children) (entry tag fields) (image ts ++ s.after));
+        place = omega (arith, length-append (s.before ++ image children) (entry tag fields), before_own);
         left = l ++ offset ∷ first ∷ [];
         right = s.right;
-        linked = array-own ∙ sym (append_assoc l (offset ∷ first ∷ []) (links next (own + 1) ts ++ s.right));
-        number = omega (arith, length-append l (offset ∷ first ∷ []), left-own);
+        linked = array_own ∙ sym (append_assoc l (offset ∷ first ∷ []) (links next (own + 1) ts ++ s.right));
+        number = omega (arith, length-append l (offset ∷ first ∷ []), left_own);
       }
 
-  own-bytes : drop offset bytes ≡ entry tag fields ++ (image ts ++ s.after)
-  own-bytes = ap (drop offset) bytes-own ∙ drop_at (s.before ++ image children) (entry tag fields ++ (image ts ++ s.after)) offset before-own
+  own_bytes : drop offset bytes ≡ entry tag fields ++ (image ts ++ s.after)
+  own_bytes = ap (drop offset) bytes_own ∙ drop_at (s.before ++ image children) (entry tag fields ++ (image ts ++ s.after)) offset before_own
 
-  own-offset : get_or array (own * 2) 0 ≡ offset
-  own-offset = ap (λ (l : List ℕ). get_or l (own * 2) 0) array-own ∙ get_or_at (s.left ++ links at first children) offset (first ∷ (links next (own + 1) ts ++ s.right)) 0 (own * 2) left-own
+  own_offset : get_or array (own * 2) 0 ≡ offset
+  own_offset = ap (λ (l : List ℕ). get_or l (own * 2) 0) array_own ∙ get_or_at (s.left ++ links at first children) offset (first ∷ (links next (own + 1) ts ++ s.right)) 0 (own * 2) left_own
 
   own_first : first_of array own ≡ first
   own_first =
       let l = s.left ++ links at first children in
       let r = links next (own + 1) ts ++ s.right in
-      ap (λ (w : List ℕ). get_or w (own * 2 + 1) 0) (array-own ∙ sym (append_assoc l (offset ∷ []) (first ∷ r)))
-      ∙ get_or_at (l ++ offset ∷ []) first r 0 (own * 2 + 1) (omega (arith, length-append l (offset ∷ []), left-own))
+      ap (λ (w : List ℕ). get_or w (own * 2 + 1) 0) (array_own ∙ sym (append_assoc l (offset ∷ []) (first ∷ r)))
+      ∙ get_or_at (l ++ offset ∷ []) first r 0 (own * 2 + 1) (omega (arith, length-append l (offset ∷ []), left_own))
 
 -- ── Found backward ────────────────────────────────────────────────────────────────────────────────
 
-backward-as : {array ks ls : List ℕ} {first m n : ℕ} → m ≡ n → ks ≡ ls → Backward array first m ks → Backward array first n ls
-backward-as {array} {ks} {ls} {first} {m} {n} e q b = subst (λ (i : ℕ). Backward array first i ls) e (subst (λ (l : List ℕ). Backward array first m l) q b)
+backward_as : {array ks ls : List ℕ} {first m n : ℕ} → m ≡ n → ks ≡ ls → Backward array first m ks → Backward array first n ls
+backward_as {array} {ks} {ls} {first} {m} {n} e q b = subst (λ (i : ℕ). Backward array first i ls) e (subst (λ (l : List ℕ). Backward array first m l) q b)
 
 -- A row's roots are found behind those that are found before it.
-roots-found : {bytes array before : List ℕ} {at first m : ℕ} (ts : Trees) → Stored bytes array at m ts → first ≤ m → Backward array first m before
-    → Backward array first (m + records ts) (before ++ root-numbers m ts)
-unfolding records root-numbers
-roots-found {before = before} {m = m} trees.none s h b = backward-as (omega arith) (sym (append-nil before)) b
-roots-found {array = array} {before} {first = first} {m} (trees.node tag fields children ts) s h b =
+roots_found : {bytes array before : List ℕ} {at first m : ℕ} (ts : Trees) → Stored bytes array at m ts → first ≤ m → Backward array first m before
+    → Backward array first (m + records ts) (before ++ root_numbers m ts)
+unfolding records root_numbers
+roots_found {before = before} {m = m} trees.none s h b = backward_as (omega arith) (sym (append-nil before)) b
+roots_found {array = array} {before} {first = first} {m} (trees.node tag fields children ts) s h b =
     let own = m + records children in
     let c : Backward array first (suc own) (before ++ own ∷ []) = Backward.child {m = own} (omega arith) (subst (λ (i : ℕ). Backward array first i before) (sym (own_first s)) b) in
-    let d = roots-found ts (in_right s) (omega arith) (backward-as (omega arith) refl c) in
-    backward-as (omega arith) (append_assoc before (own ∷ []) (root-numbers (own + 1) ts)) d
+    let d = roots_found ts (in_right s) (omega arith) (backward_as (omega arith) refl c) in
+    backward_as (omega arith) (append_assoc before (own ∷ []) (root_numbers (own + 1) ts)) d
 
 -- ── Every record ──────────────────────────────────────────────────────────────────────────────────
 
@@ -130,30 +130,30 @@ pub record Told (bytes array : List ℕ) (r : Record) : Type 0 where
   pub own : drop r.offset bytes ≡ entry r.tag r.fields ++ after
   pub children : Found array r.number r.children
 
-holds-told : {bytes array : List ℕ} {at first : ℕ} {ts : Trees} {r : Record} → Stored bytes array at first ts → Holds at first ts r → Told bytes array r
-holds-told {array = array} {first = first} s (Holds.root {children = children}) =
+holds_told : {bytes array : List ℕ} {at first : ℕ} {ts : Trees} {r : Record} → Stored bytes array at first ts → Holds at first ts r → Told bytes array r
+holds_told {array = array} {first = first} s (Holds.root {children = children}) =
     let i = first + records children in
     record {
-      offset = own-offset s;
+      offset = own_offset s;
       after = _;
-      own = own-bytes s;
-      children = subst (λ (f : ℕ). Backward array f i (root-numbers first children)) (sym (own_first s)) (roots-found children (in-children s) (omega arith) Backward.over);
+      own = own_bytes s;
+      children = subst (λ (f : ℕ). Backward array f i (root_numbers first children)) (sym (own_first s)) (roots_found children (in_children s) (omega arith) Backward.over);
     }
-holds-told s (Holds.under h) = holds-told (in-children s) h
-holds-told s (Holds.beside h) = holds-told (in_right s) h
+holds_told s (Holds.under h) = holds_told (in_children s) h
+holds_told s (Holds.beside h) = holds_told (in_right s) h
 
 -- The links of a whole tree.
-pub tree-told : {bytes : List ℕ} {t : Trees} (rest : List ℕ) → bytes ≡ image t → (r : Record) → Holds 0 0 t r → Told bytes (links 0 0 t ++ rest) r
-tree-told {bytes} {t} rest e r h = holds-told stored h
+pub tree_told : {bytes : List ℕ} {t : Trees} (rest : List ℕ) → bytes ≡ image t → (r : Record) → Holds 0 0 t r → Told bytes (links 0 0 t ++ rest) r
+tree_told {bytes} {t} rest e r h = holds_told stored h
   where
     stored : Stored bytes (links 0 0 t ++ rest) 0 0 t
     stored = record { before = []; after = []; split = e ∙ sym (append-nil (image t)); place = refl; left = []; right = rest; linked = refl; number = refl }
 
 -- THE LINKS ARE THE TREE'S.
-pub links-are-the-trees : {bytes array : List ℕ} {room n : ℕ} → ReadsBack bytes room (Tree n) array
+pub links_are_the_trees : {bytes array : List ℕ} {room n : ℕ} → ReadsBack bytes room (Tree n) array
     → (t : Trees) × Accepted bytes t × (records t ≡ n) × ((r : Record) → Holds 0 0 t r → Told bytes array r)
-links-are-the-trees {room = room} (ReadsBack.accepted {t} h a) = (t, a, refl, tree-told (replicate (room - 2 * records t) 0) a.written)
-links-are-the-trees (ReadsBack.refused h x) = absurd (omega (arith, no-tree x))
+links_are_the_trees {room = room} (ReadsBack.accepted {t} h a) = (t, a, refl, tree_told (replicate (room - 2 * records t) 0) a.written)
+links_are_the_trees (ReadsBack.refused h x) = absurd (omega (arith, no_tree x))
 
 -- ── Every number, and one record only ─────────────────────────────────────────────────────────────
 
@@ -163,13 +163,13 @@ pub record Numbered (at first : ℕ) (ts : Trees) (i : ℕ) : Type 0 where
   pub held : Holds at first ts there
   pub numbered : there.number ≡ i
 
-pub numbers-held : (at first : ℕ) (ts : Trees) (i : ℕ) → first ≤ i → i < first + records ts → Numbered at first ts i
+pub numbers_held : (at first : ℕ) (ts : Trees) (i : ℕ) → first ≤ i → i < first + records ts → Numbered at first ts i
 unfolding records
-numbers-held at first trees.none i h g = absurd (omega arith)
-numbers-held at first (trees.node tag fields children ts) i h g =
+numbers_held at first trees.none i h g = absurd (omega arith)
+numbers_held at first (trees.node tag fields children ts) i h g =
     by (ltb i (first + records children)) refl (eqb i (first + records children)) refl
-    (λ l. numbers-held at first children i h l)
-    (λ l. numbers-held (at + length (image children) + length (entry tag fields)) (first + records children + 1) ts i l (omega arith))
+    (λ l. numbers_held at first children i h l)
+    (λ l. numbers_held (at + length (image children) + length (entry tag fields)) (first + records children + 1) ts i l (omega arith))
   where
     by : (b : Bool) → ltb i (first + records children) ≡ b → (c : Bool) → eqb i (first + records children) ≡ c → (i < first + records children → Numbered at first children i)
         → (first + records children + 1 ≤ i → Numbered (at + length (image children) + length (entry tag fields)) (first + records children + 1) ts i) → Numbered at first (trees.node tag fields children ts) i
@@ -189,20 +189,20 @@ within (Holds.under h) = let x = within h in (omega (arith, x.0), omega (arith, 
 within (Holds.beside h) = let x = within h in (omega (arith, x.0), omega (arith, x.1))
 
 -- A number is one record's.
-pub holds-once : {at first : ℕ} {ts : Trees} {r q : Record} → Holds at first ts r → Holds at first ts q → r.number ≡ q.number → r ≡ q
-holds-once Holds.root Holds.root e = refl
-holds-once Holds.root (Holds.under h) e = absurd (omega (arith, (within h).1, e))
-holds-once Holds.root (Holds.beside h) e = absurd (omega (arith, (within h).0, e))
-holds-once (Holds.under h) Holds.root e = absurd (omega (arith, (within h).1, e))
-holds-once (Holds.under h) (Holds.under g) e = holds-once h g e
-holds-once (Holds.under h) (Holds.beside g) e = absurd (omega (arith, (within h).1, (within g).0, e))
-holds-once (Holds.beside h) Holds.root e = absurd (omega (arith, (within h).0, e))
-holds-once (Holds.beside h) (Holds.under g) e = absurd (omega (arith, (within h).0, (within g).1, e))
-holds-once (Holds.beside h) (Holds.beside g) e = holds-once h g e
+pub holds_once : {at first : ℕ} {ts : Trees} {r q : Record} → Holds at first ts r → Holds at first ts q → r.number ≡ q.number → r ≡ q
+holds_once Holds.root Holds.root e = refl
+holds_once Holds.root (Holds.under h) e = absurd (omega (arith, (within h).1, e))
+holds_once Holds.root (Holds.beside h) e = absurd (omega (arith, (within h).0, e))
+holds_once (Holds.under h) Holds.root e = absurd (omega (arith, (within h).1, e))
+holds_once (Holds.under h) (Holds.under g) e = holds_once h g e
+holds_once (Holds.under h) (Holds.beside g) e = absurd (omega (arith, (within h).1, (within g).0, e))
+holds_once (Holds.beside h) Holds.root e = absurd (omega (arith, (within h).0, e))
+holds_once (Holds.beside h) (Holds.under g) e = absurd (omega (arith, (within h).0, (within g).1, e))
+holds_once (Holds.beside h) (Holds.beside g) e = holds_once h g e
 
 -- The array tells of one row of children.
-pub found-once : {array ks ls : List ℕ} {first n : ℕ} → Backward array first n ks → Backward array first n ls → ks ≡ ls
-found-once Backward.over Backward.over = refl
-found-once Backward.over (Backward.child h b) = absurd (omega arith)
-found-once (Backward.child h b) Backward.over = absurd (omega arith)
-found-once (Backward.child {m = m} h b) (Backward.child g c) = ap (λ (l : List ℕ). l ++ m ∷ []) (found-once b c)
+pub found_once : {array ks ls : List ℕ} {first n : ℕ} → Backward array first n ks → Backward array first n ls → ks ≡ ls
+found_once Backward.over Backward.over = refl
+found_once Backward.over (Backward.child h b) = absurd (omega arith)
+found_once (Backward.child h b) Backward.over = absurd (omega arith)
+found_once (Backward.child {m = m} h b) (Backward.child g c) = ap (λ (l : List ℕ). l ++ m ∷ []) (found_once b c)

@@ -16,7 +16,7 @@ use Rattle.images.specs.Images.{Accepted, Refused, records, links, needed, Reads
 use Rattle.images.specs.Numbers.{Numbers, numbers, answered}
 use Rattle.images.proofs.LinkLaws.{links-length}
 use Rattle.images.proofs.WalkLaws.{records-image}
-use Rattle.images.proofs.Sole.{no-tree, reads-back-once}
+use Rattle.images.proofs.Sole.{no_tree, reads_back_once}
 use contract.Lifetimes.{Lfts}
 use borrow.Fn.Kinds.{Dens}
 use Rattle.images.proofs.back.Kinds.{ps}
@@ -36,38 +36,38 @@ asks_nothing κs a = tt
 
 -- No second answer and no second array meet the contract.
 pub no_second : {bytes : List ℕ} {room : ℕ} {a a' : Answer} {links links' : List ℕ} → ReadsBack bytes room a links → ReadsBack bytes room a' links' → (a ≡ a') × (links ≡ links')
-no_second = reads-back-once
+no_second = reads_back_once
 
 -- ── Which answer it is ────────────────────────────────────────────────────────────────────────────
 
 module _ {bytes : List ℕ} {room : ℕ} {a : Answer} {array : List ℕ} (x : ReadsBack bytes room a array) where
   -- An accepted image is answered with its tree, one that is refused with its refusal; but first of all, an array that is too short with 24.
-  pub accepted-is-tree : {t : Trees} → needed bytes ≤ room → Accepted bytes t → (a ≡ Tree (records t)) × (array ≡ links 0 0 t ++ replicate (room - 2 * records t) 0)
-  accepted-is-tree h y = reads-back-once x (ReadsBack.accepted h y)
+  pub accepted_is_tree : {t : Trees} → needed bytes ≤ room → Accepted bytes t → (a ≡ Tree (records t)) × (array ≡ links 0 0 t ++ replicate (room - 2 * records t) 0)
+  accepted_is_tree h y = reads_back_once x (ReadsBack.accepted h y)
 
-  pub refused-is-refusal : {b : Answer} → needed bytes ≤ room → Refused bytes b → (a ≡ b) × (array ≡ replicate room 0)
-  refused-is-refusal h y = reads-back-once x (ReadsBack.refused h y)
+  pub refused_is_refusal : {b : Answer} → needed bytes ≤ room → Refused bytes b → (a ≡ b) × (array ≡ replicate room 0)
+  refused_is_refusal h y = reads_back_once x (ReadsBack.refused h y)
 
-  pub short-is-first : room < needed bytes → (a ≡ Short (needed bytes)) × (array ≡ replicate room 0)
-  short-is-first h = reads-back-once x (ReadsBack.short h)
+  pub short_is_first : room < needed bytes → (a ≡ Short (needed bytes)) × (array ≡ replicate room 0)
+  short_is_first h = reads_back_once x (ReadsBack.short h)
 
 -- A tree is answered for an accepted image only.
-pub tree-is-accepted : {bytes array : List ℕ} {room n : ℕ} → ReadsBack bytes room (Tree n) array
+pub tree_is_accepted : {bytes array : List ℕ} {room n : ℕ} → ReadsBack bytes room (Tree n) array
     → (t : Trees) × Accepted bytes t × (records t ≡ n) × (array ≡ links 0 0 t ++ replicate (room - 2 * records t) 0)
-tree-is-accepted (ReadsBack.accepted {t} h y) = (t, y, refl, refl)
-tree-is-accepted (ReadsBack.refused h y) = absurd (omega (arith, no-tree y))
+tree_is_accepted (ReadsBack.accepted {t} h y) = (t, y, refl, refl)
+tree_is_accepted (ReadsBack.refused h y) = absurd (omega (arith, no_tree y))
 
 -- And any other answer, where the array is long enough, for one that is refused so.
-pub refusal-is-refused : {bytes array : List ℕ} {room : ℕ} {a : Answer} → ReadsBack bytes room a array → needed bytes ≤ room → ((n : ℕ) → a ≡ Tree n → ⊥) → Refused bytes a
-refusal-is-refused (ReadsBack.short h) g n = absurd (omega arith)
-refusal-is-refused (ReadsBack.accepted {t} h y) g n = absurd (n (records t) refl)
-refusal-is-refused (ReadsBack.refused h y) g n = y
+pub refusal_is_refused : {bytes array : List ℕ} {room : ℕ} {a : Answer} → ReadsBack bytes room a array → needed bytes ≤ room → ((n : ℕ) → a ≡ Tree n → ⊥) → Refused bytes a
+refusal_is_refused (ReadsBack.short h) g n = absurd (omega arith)
+refusal_is_refused (ReadsBack.accepted {t} h y) g n = absurd (n (records t) refl)
+refusal_is_refused (ReadsBack.refused h y) g n = y
 
 -- After every other answer the array is all zero.
-pub zero-after-refusal : {bytes array : List ℕ} {room : ℕ} {a : Answer} → ReadsBack bytes room a array → ((n : ℕ) → a ≡ Tree n → ⊥) → array ≡ replicate room 0
-zero-after-refusal (ReadsBack.short h) n = refl
-zero-after-refusal (ReadsBack.accepted {t} h y) n = absurd (n (records t) refl)
-zero-after-refusal (ReadsBack.refused h y) n = refl
+pub zero_after_refusal : {bytes array : List ℕ} {room : ℕ} {a : Answer} → ReadsBack bytes room a array → ((n : ℕ) → a ≡ Tree n → ⊥) → array ≡ replicate room 0
+zero_after_refusal (ReadsBack.short h) n = refl
+zero_after_refusal (ReadsBack.accepted {t} h y) n = absurd (n (records t) refl)
+zero_after_refusal (ReadsBack.refused h y) n = refl
 
 -- The array is as long as it was: there is room for the links of every image that is accepted.
 pub array-length : {bytes array : List ℕ} {room : ℕ} {a : Answer} → ReadsBack bytes room a array → length array ≡ room
@@ -81,8 +81,8 @@ array-length {room = room} (ReadsBack.refused h y) = length-replicate {A = ℕ} 
 -- ── An answer in 02's numbers ─────────────────────────────────────────────────────────────────────
 
 -- The case that has these numbers.
-case-of : Numbers → Answer
-case-of n = by (eqb n.number)
+case_of : Numbers → Answer
+case_of n = by (eqb n.number)
   where
     by : (ℕ → Bool) → Answer
     by is =
@@ -93,22 +93,22 @@ case-of n = by (eqb n.number)
         (cond (is 16) (Underived n.offset)
         (Short n.count)))))
 
-case-back : (a : Answer) → case-of (numbers a) ≡ a
-unfolding numbers case-of
-case-back (Tree n) = refl
-case-back (Unknown at) = refl
-case-back (Malformed at) = refl
-case-back (Children at) = refl
-case-back (Underived at) = refl
-case-back (Short n) = refl
+case_back : (a : Answer) → case_of (numbers a) ≡ a
+unfolding numbers case_of
+case_back (Tree n) = refl
+case_back (Unknown at) = refl
+case_back (Malformed at) = refl
+case_back (Children at) = refl
+case_back (Underived at) = refl
+case_back (Short n) = refl
 
 -- No two answers have the same numbers.
 pub same_case : (a a' : Answer) → numbers a ≡ numbers a' → a ≡ a'
-same_case a a' e = sym (case-back a) ∙ ap case-of e ∙ case-back a'
+same_case a a' e = sym (case_back a) ∙ ap case_of e ∙ case_back a'
 
 -- No second fields meet the contract of `numbers`.
-pub numbers-once : (a : Answer) {f g : Fields} → answered f ≡ numbers a → answered g ≡ numbers a → f ≡ g
-numbers-once a p q = ap fields-of (p ∙ sym q)
+pub numbers_once : (a : Answer) {f g : Fields} → answered f ≡ numbers a → answered g ≡ numbers a → f ≡ g
+numbers_once a p q = ap fields_of (p ∙ sym q)
   where
-    fields-of : Numbers → Fields
-    fields-of n = record { number = n.number; offset = n.offset; count = n.count }
+    fields_of : Numbers → Fields
+    fields_of n = record { number = n.number; offset = n.offset; count = n.count }

@@ -9,7 +9,7 @@ use lib.Seq.{get_or-append-add, get_or_at}
 use Rattle.grammar.specs.Trees.{Field, Trees, tree, ◌⊕◌, count}
 use Rattle.grammar.specs.Trees as trees
 use Rattle.grammar.specs.Image.{entry, image}
-use Rattle.grammar.proofs.ImageLaws.{row-assoc, count-row, image-row, image-close, row-length}
+use Rattle.grammar.proofs.ImageLaws.{row_assoc, count-row, image-row, image_close, row-length}
 use Rattle.images.specs.Images.{records, links}
 use Rattle.images.specs.Inner.{pops}
 use Rattle.images.proofs.RowLaws.{records-row, Parted, part-row}
@@ -38,9 +38,9 @@ links-row at first (trees.node tag fields children ts) us =
     ∙ sym (append_assoc (links at first children) ((at + length (image children)) ∷ first ∷ links a f ts) (links (at + length ((image children ++ entry tag fields) ++ image ts)) (first + (records children + suc (records ts))) us))
 
 -- One record more, over the last trees.
-pub links-more : (us cs : Trees) (tag : ℕ) (fields : List Field) → links 0 0 (us ⊕ tree tag fields cs) ≡ links 0 0 (us ⊕ cs) ++ length (image (us ⊕ cs)) ∷ records us ∷ []
+pub links_more : (us cs : Trees) (tag : ℕ) (fields : List Field) → links 0 0 (us ⊕ tree tag fields cs) ≡ links 0 0 (us ⊕ cs) ++ length (image (us ⊕ cs)) ∷ records us ∷ []
 unfolding links
-links-more us cs tag fields =
+links_more us cs tag fields =
     let o : 0 + length (image us) + length (image cs) ≡ length (image (us ⊕ cs)) = omega (arith, row-length us cs) in
     let z : 0 + records us ≡ records us = omega arith in
     links-row 0 0 us (tree tag fields cs)
@@ -71,7 +71,7 @@ first_of array rest us cs tag fields e =
     let m = records-row us (tree tag fields cs) in
     let i : (records (us ⊕ tree tag fields cs) - 1) * 2 + 1 ≡ length (links 0 0 (us ⊕ cs)) + 1 = omega (arith, l, n, m) in
     let a : array ≡ links 0 0 (us ⊕ cs) ++ (length (image (us ⊕ cs)) ∷ records us ∷ [] ++ rest) =
-    e ∙ ap (λ (x : List ℕ). x ++ rest) (links-more us cs tag fields) ∙ append_assoc (links 0 0 (us ⊕ cs)) (length (image (us ⊕ cs)) ∷ records us ∷ []) rest in
+    e ∙ ap (λ (x : List ℕ). x ++ rest) (links_more us cs tag fields) ∙ append_assoc (links 0 0 (us ⊕ cs)) (length (image (us ⊕ cs)) ∷ records us ∷ []) rest in
     ap (λ (x : List ℕ). get_or x ((records (us ⊕ tree tag fields cs) - 1) * 2 + 1) 0) a
     ∙ ap (λ (k : ℕ). get_or (links 0 0 (us ⊕ cs) ++ (length (image (us ⊕ cs)) ∷ records us ∷ [] ++ rest)) k 0) i
     ∙ get_or-append-add (links 0 0 (us ⊕ cs)) (length (image (us ⊕ cs)) ∷ records us ∷ [] ++ rest) 1 0
@@ -89,7 +89,7 @@ pops-row (suc k) array rest us cs c e =
     let p = part-row cs 1 k (omega (arith, c)) in
     let s = single p.cs p.many in
     let q : us ⊕ cs ≡ (us ⊕ p.us) ⊕ tree s.tag s.fields s.children =
-    ap (λ (t : Trees). us ⊕ t) (p.whole ∙ ap (λ (t : Trees). p.us ⊕ t) s.whole) ∙ sym (row-assoc us p.us (tree s.tag s.fields s.children)) in
+    ap (λ (t : Trees). us ⊕ t) (p.whole ∙ ap (λ (t : Trees). p.us ⊕ t) s.whole) ∙ sym (row_assoc us p.us (tree s.tag s.fields s.children)) in
     let f = first_of array rest (us ⊕ p.us) s.children s.tag s.fields (e ∙ ap (λ (t : Trees). links 0 0 t ++ rest) q) in
     let r = links-row 0 0 (us ⊕ p.us) (tree s.tag s.fields s.children) in
     let n : count p.us ≡ k = omega (arith, c, ap count p.whole, count-row p.us p.cs, p.many) in

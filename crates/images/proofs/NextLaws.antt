@@ -22,109 +22,109 @@ use Rattle.images.specs.declared.records.Extent.TheVariants.{End, Cut}
 use Rattle.images.specs.declared.records.Step.TheVariants.{Next, Unknown, Malformed, Missing, Underived}
 use Rattle.images.specs.Images.{Stands, More, dated}
 use Rattle.images.specs.Images as images
-use Rattle.images.specs.Inner.{two_at, Takes, Fails, Walks, Extends, dates, dated-row, asks, pops, Lands, beyond, Chain, Checks, Checked, Dating, State, Stepped, roots}
+use Rattle.images.specs.Inner.{two_at, Takes, Fails, Walks, Extends, dates, dated_row, asks, pops, Lands, beyond, Chain, Checks, Checked, Dating, State, Stepped, roots}
 use Rattle.images.proofs.FormLaws.{values, words_of}
 use Rattle.images.proofs.RootLaws.{no_true}
-use Rattle.images.proofs.RowLaws.{tags, tags-count, roots-back, back-length, row-less, row_more}
-use Rattle.images.proofs.StepLaws.{age-of, row-age}
-use Rattle.images.proofs.EntryLaws.{Known, known as known-layout, Entry, entry-there}
+use Rattle.images.proofs.RowLaws.{tags, tags_count, roots_back, back_length, row_less, row_more}
+use Rattle.images.proofs.StepLaws.{age_of, row_age}
+use Rattle.images.proofs.EntryLaws.{Known, known as known-layout, Entry, entry_there}
 use Rattle.images.proofs.HereLaws.{six, Here}
 use Rattle.images.proofs.SumLaws.{sums}
 use Rattle.images.proofs.LinkLaws.{pops-row}
-use Rattle.images.proofs.DateLaws.{dating-more}
-use Rattle.images.proofs.RecordLaws.{LayoutIs, fs, is-here, stands, Taken, taken, over-checks}
+use Rattle.images.proofs.DateLaws.{dating_more}
+use Rattle.images.proofs.RecordLaws.{LayoutIs, fs, is_here, stands, Taken, taken, over_checks}
 
 pub roots-length : (ts : Trees) → length (roots ts []) ≡ count ts
-roots-length ts = ap length (roots-back ts []) ∙ (let l = back-length (tags ts) [] in omega (arith, l, tags-count ts))
+roots-length ts = ap length (roots_back ts []) ∙ (let l = back_length (tags ts) [] in omega (arith, l, tags_count ts))
 
-pub walks-row : {bytes : List ℕ} {from end : ℕ} {row other : List ℕ} {p : Parts} → row ≡ other → Walks bytes from end (drop 1 row) p → Walks bytes from end (drop 1 other) p
-walks-row {bytes} {from} {end} {p = p} e w = subst (λ (r : List ℕ). Walks bytes from end (drop 1 r) p) e w
+pub walks_row : {bytes : List ℕ} {from end : ℕ} {row other : List ℕ} {p : Parts} → row ≡ other → Walks bytes from end (drop 1 row) p → Walks bytes from end (drop 1 other) p
+walks_row {bytes} {from} {end} {p = p} e w = subst (λ (r : List ℕ). Walks bytes from end (drop 1 r) p) e w
 
-pub walks-bad : {bytes : List ℕ} {from end : ℕ} {codes : List ℕ} {p : Parts} → Walks bytes from end codes p → p.good ≡ false → Fails bytes end from codes
-walks-bad (Walks.good g t c v) e = absurd (no_true g e)
-walks-bad (Walks.bad g f) e = f
+pub walks_bad : {bytes : List ℕ} {from end : ℕ} {codes : List ℕ} {p : Parts} → Walks bytes from end codes p → p.good ≡ false → Fails bytes end from codes
+walks_bad (Walks.good g t c v) e = absurd (no_true g e)
+walks_bad (Walks.bad g f) e = f
 
 pub record Walk (bytes : List ℕ) (from end : ℕ) (codes : List ℕ) (p : Parts) : Type 0 where
   pub vs : List ℕ
   pub takes : Takes bytes end from codes vs p.children
   pub values : p.values ≡ six vs
 
-pub walks-good : {bytes : List ℕ} {from end : ℕ} {codes : List ℕ} {p : Parts} → Walks bytes from end codes p → p.good ≡ true → Walk bytes from end codes p
-walks-good {bytes} {from} {end} {codes} (Walks.good {vs = vs} g t c v) e = record { vs = vs; takes = subst (λ (n : ℕ). Takes bytes end from codes vs n) (sym c) t; values = v }
-walks-good (Walks.bad g f) e = absurd (no_true e g)
+pub walks_good : {bytes : List ℕ} {from end : ℕ} {codes : List ℕ} {p : Parts} → Walks bytes from end codes p → p.good ≡ true → Walk bytes from end codes p
+walks_good {bytes} {from} {end} {codes} (Walks.good {vs = vs} g t c v) e = record { vs = vs; takes = subst (λ (n : ℕ). Takes bytes end from codes vs n) (sym c) t; values = v }
+walks_good (Walks.bad g f) e = absurd (no_true e g)
 
 module _ {bytes array : List ℕ} {at n standing age : ℕ} (small : (i : ℕ) → get_or bytes i 0 < 256) (inside : at < length bytes) (s : State bytes array at n standing age)
-    {end : ℕ} (is-end : end ≡ at + 3 + two_at bytes (at + 1)) (within : end ≤ length bytes) (known : layout_of (get_or bytes at 0) ≡ unknown → ⊥) (k : LayoutIs (get_or bytes at 0))
-    {vs : List ℕ} {m : ℕ} (t : Takes bytes end (at + 3) (drop 1 (dated-row (get_or bytes at 0) (dates (get_or bytes at 0) (end - at - 3) age))) vs m) where
-  pub here : Here bytes at end (get_or bytes at 0) (age-of (dates (get_or bytes at 0) (end - at - 3) age)) vs m
-  here = is-here small inside s is-end within k t
+    {end : ℕ} (is_end : end ≡ at + 3 + two_at bytes (at + 1)) (within : end ≤ length bytes) (known : layout_of (get_or bytes at 0) ≡ unknown → ⊥) (k : LayoutIs (get_or bytes at 0))
+    {vs : List ℕ} {m : ℕ} (t : Takes bytes end (at + 3) (drop 1 (dated_row (get_or bytes at 0) (dates (get_or bytes at 0) (end - at - 3) age))) vs m) where
+  pub here : Here bytes at end (get_or bytes at 0) (age_of (dates (get_or bytes at 0) (end - at - 3) age)) vs m
+  here = is_here small inside s is_end within k t
 
-  pub is-missing : standing < here.own + m → Stepped bytes array at s.ts Missing
-  is-missing h = Stepped.missing (stands small inside s is-end within k here) (omega (arith, s.opened))
+  pub is_missing : standing < here.own + m → Stepped bytes array at s.ts Missing
+  is_missing h = Stepped.missing (stands small inside s is_end within k here) (omega (arith, s.opened))
 
   -- the checks fail
   same_tag : (x : More s.ts (drop at bytes)) → x.tag ≡ get_or bytes at 0
-  same_tag x = (entry-there bytes at x.tag x.fields x.after (omega arith) x.here).tagged
+  same_tag x = (entry_there bytes at x.tag x.fields x.after (omega arith) x.here).tagged
 
-  pub is-underived : here.own + m ≤ standing → (Checks bytes (get_or bytes at 0) end (six vs) (roots s.ts []) → ⊥) → Stepped bytes array at s.ts Underived
-  is-underived h never = Stepped.underived (stands small inside s is-end within k here) (omega (arith, s.opened)) (λ x. never (by x.tag (same_tag x) x refl))
+  pub is_underived : here.own + m ≤ standing → (Checks bytes (get_or bytes at 0) end (six vs) (roots s.ts []) → ⊥) → Stepped bytes array at s.ts Underived
+  is_underived h never = Stepped.underived (stands small inside s is_end within k here) (omega (arith, s.opened)) (λ x. never (by x.tag (same_tag x) x refl))
     where
       by : (g : ℕ) → g ≡ get_or bytes at 0 → (x : More s.ts (drop at bytes)) → x.tag ≡ g → Checks bytes (get_or bytes at 0) end (six vs) (roots s.ts [])
       by g e x q =
           let w = subst (λ (i : ℕ). images.Row x.age (x.us ⊕ tree i x.fields x.children)) (q ∙ e) x.row in
-          let o = row-less x.age x.us x.children (get_or bytes at 0) x.fields w in
-          over-checks small inside s is-end within k x.age x.fields x.us x.children x.after t x.roots
+          let o = row_less x.age x.us x.children (get_or bytes at 0) x.fields w in
+          over_checks small inside s is_end within k x.age x.fields x.us x.children x.after t x.roots
           (subst (λ (i : ℕ). drop at bytes ≡ entry i x.fields ++ x.after) (q ∙ e) x.here) o.0 o.1
 
   -- they hold
-  pub is-next : {first : ℕ} → here.own + m ≤ standing → Checks bytes (get_or bytes at 0) end (six vs) (roots s.ts [])
+  pub is_next : {first : ℕ} → here.own + m ≤ standing → Checks bytes (get_or bytes at 0) end (six vs) (roots s.ts [])
       → Chain bytes array first (beyond (asks (get_or bytes at 0) (six vs)) (roots s.ts []))
       → first ≡ pops array n ((asks (get_or bytes at 0) (six vs)).n3 + ((asks (get_or bytes at 0) (six vs)).n2 + (asks (get_or bytes at 0) (six vs)).n1))
       → Stepped bytes array at s.ts (Next end first (standing - (here.own + m) + 1) (dates (get_or bytes at 0) (end - at - 3) age))
-  is-next {first} h c ch lands =
+  is_next {first} h c ch lands =
       let tag = get_or bytes at 0 in
       let v = sym here.valued in
       let c' = subst (λ (w : List ℕ). Checks bytes tag end w (roots s.ts [])) v c in
-      let x = taken small inside s is-end within k here known (omega (arith, s.opened)) c' in
+      let x = taken small inside s is_end within k here known (omega (arith, s.opened)) c' in
       let ch' = subst (λ (w : List ℕ). Chain bytes array first (beyond (asks tag w) (roots s.ts []))) v ch in
       let l' = subst (λ (w : List ℕ). first ≡ pops array n ((asks tag w).n3 + ((asks tag w).n2 + (asks tag w).n1))) v lands in
-      let a = asks tag (values (fs small inside s is-end within k here)) in
+      let a = asks tag (values (fs small inside s is_end within k here)) in
       let sum : a.n3 + (a.n2 + a.n1) ≡ count x.children = omega (arith, x.sum, x.many) in
       let stored = s.stored ∙ ap (λ (u : Trees). images.links 0 0 u ++ s.rest) x.whole in
       let f : first ≡ images.records x.us =
       l' ∙ ap (pops array n) sum ∙ ap (λ (i : ℕ). pops array i (count x.children)) (s.number ∙ ap images.records x.whole) ∙ pops-row (count x.children) array s.rest x.us x.children refl stored in
       let cr = ap count x.whole ∙ count-row x.us x.children in
       Stepped.next {standing = standing - (here.own + m) + 1} tag here.fields x.us x.children x.whole here.there here.ends f (omega (arith, s.opened, cr, x.many))
-      (dating-more x.us x.children tag here.fields (end - at - 3) (subst (λ (u : Trees). Dating u age) x.whole s.dating)
-      (subst (λ (u : Trees). images.Row (age-of (dates tag (end - at - 3) age)) u) x.whole (row-age tag (end - at - 3) s.dating)) x.over)
+      (dating_more x.us x.children tag here.fields (end - at - 3) (subst (λ (u : Trees). Dating u age) x.whole s.dating)
+      (subst (λ (u : Trees). images.Row (age_of (dates tag (end - at - 3) age)) u) x.whole (row_age tag (end - at - 3) s.dating)) x.over)
       (subst (λ (w : List ℕ). Chain bytes array first w) x.beyond ch')
 
 -- ── What the functions of `record` say ────────────────────────────────────────────────────────────
 
-pub ext-as : {bytes : List ℕ} {at : ℕ} {r q : Extent} → r ≡ q → Extends bytes at r → Extends bytes at q
-ext-as {bytes} {at} e x = subst (λ (r : Extent). Extends bytes at r) e x
+pub ext_as : {bytes : List ℕ} {at : ℕ} {r q : Extent} → r ≡ q → Extends bytes at r → Extends bytes at q
+ext_as {bytes} {at} e x = subst (λ (r : Extent). Extends bytes at r) e x
 
-pub ext-end : {bytes : List ℕ} {at e : ℕ} → Extends bytes at (End e) → (e ≡ at + 3 + two_at bytes (at + 1)) × (e ≤ length bytes)
-ext-end (Extends.end h) = (refl, h)
+pub ext_end : {bytes : List ℕ} {at e : ℕ} → Extends bytes at (End e) → (e ≡ at + 3 + two_at bytes (at + 1)) × (e ≤ length bytes)
+ext_end (Extends.end h) = (refl, h)
 
 codes-length : (ps : List Part) → length (codes ps) ≡ length ps
 unfolding codes
 codes-length [] = refl
 codes-length (p ∷ ps) = ap suc (codes-length ps)
 
-seven-numbers : (l : Layout) → Known l → length (numbers l) ≡ 7
+seven_numbers : (l : Layout) → Known l → length (numbers l) ≡ 7
 unfolding numbers
-seven-numbers unknown k = refl
-seven-numbers (layout own ps) (Known.some h p q) = omega (arith, length-append (codes ps) (replicate (6 - length ps) 0), codes-length ps, length-replicate {A = ℕ} (6 - length ps) 0)
+seven_numbers unknown k = refl
+seven_numbers (layout own ps) (Known.some h p q) = omega (arith, length-append (codes ps) (replicate (6 - length ps) 0), codes-length ps, length-replicate {A = ℕ} (6 - length ps) 0)
 
-pub seven : (tag kind : ℕ) {row : List ℕ} → row ≡ dated-row tag kind → length row ≡ 7
-unfolding dated-row
+pub seven : (tag kind : ℕ) {row : List ℕ} → row ≡ dated_row tag kind → length row ≡ 7
+unfolding dated_row
 seven tag kind e = ap length e ∙ by (eqb tag INFIX) (eqb kind 1)
   where
     by : (b c : Bool) → length (cond b (cond c (2 ∷ 28 ∷ replicate 5 0) (numbers (layout_of tag))) (numbers (layout_of tag))) ≡ 7
     by true true = refl
-    by true false = seven-numbers (layout_of tag) (known-layout tag)
-    by false c = seven-numbers (layout_of tag) (known-layout tag)
+    by true false = seven_numbers (layout_of tag) (known-layout tag)
+    by false c = seven_numbers (layout_of tag) (known-layout tag)
 
 -- All that is known of a record once its parts are taken.
 pub record Ready (bytes : List ℕ) (at age end : ℕ) (p : Parts) : Type 0 where
@@ -132,62 +132,62 @@ pub record Ready (bytes : List ℕ) (at age end : ℕ) (p : Parts) : Type 0 wher
   pub inside : at < length bytes
   pub known : layout_of (get_or bytes at 0) ≡ unknown → ⊥
   pub layout : LayoutIs (get_or bytes at 0)
-  pub is-end : end ≡ at + 3 + two_at bytes (at + 1)
+  pub is_end : end ≡ at + 3 + two_at bytes (at + 1)
   pub within : end ≤ length bytes
-  pub walk : Walk bytes (at + 3) end (drop 1 (dated-row (get_or bytes at 0) (dates (get_or bytes at 0) (end - at - 3) age))) p
+  pub walk : Walk bytes (at + 3) end (drop 1 (dated_row (get_or bytes at 0) (dates (get_or bytes at 0) (end - at - 3) age))) p
 
 module _ {bytes array : List ℕ} {at n standing age end : ℕ} {p : Parts} (r : Ready bytes at age end p) (s : State bytes array at n standing age) where
-  abbrev pub record-here : Here bytes at end (get_or bytes at 0) (age-of (dates (get_or bytes at 0) (end - at - 3) age)) r.walk.vs p.children
-  record-here = here r.small r.inside s r.is-end r.within r.known r.layout r.walk.takes
+  abbrev pub record_here : Here bytes at end (get_or bytes at 0) (age_of (dates (get_or bytes at 0) (end - at - 3) age)) r.walk.vs p.children
+  record_here = here r.small r.inside s r.is_end r.within r.known r.layout r.walk.takes
 
-  pub told-children : get_or (numbers (layout_of (get_or bytes at 0))) 0 0 + p.children ≡ record-here.own + p.children
-  told-children = ap (λ (i : ℕ). i + p.children) record-here.first
+  pub told_children : get_or (numbers (layout_of (get_or bytes at 0))) 0 0 + p.children ≡ record_here.own + p.children
+  told_children = ap (λ (i : ℕ). i + p.children) record_here.first
 
-  pub ready-missing : {k : ℕ} → k ≡ get_or (numbers (layout_of (get_or bytes at 0))) 0 0 + p.children → standing < k → Stepped bytes array at s.ts Missing
-  ready-missing e h = is-missing r.small r.inside s r.is-end r.within r.known r.layout r.walk.takes (omega (arith, told-children))
+  pub ready_missing : {k : ℕ} → k ≡ get_or (numbers (layout_of (get_or bytes at 0))) 0 0 + p.children → standing < k → Stepped bytes array at s.ts Missing
+  ready_missing e h = is_missing r.small r.inside s r.is_end r.within r.known r.layout r.walk.takes (omega (arith, told_children))
 
-  pub ready-underived : {k : ℕ} → k ≡ get_or (numbers (layout_of (get_or bytes at 0))) 0 0 + p.children → k ≤ standing
+  pub ready_underived : {k : ℕ} → k ≡ get_or (numbers (layout_of (get_or bytes at 0))) 0 0 + p.children → k ≤ standing
       → Checked bytes array (get_or bytes at 0) end p.values (roots s.ts []) Other → Stepped bytes array at s.ts Underived
-  ready-underived e h c =
-      is-underived r.small r.inside s r.is-end r.within r.known r.layout r.walk.takes (omega (arith, told-children))
-      (λ x. no-checks c (subst (λ (w : List ℕ). Checks bytes (get_or bytes at 0) end w (roots s.ts [])) (sym r.walk.values) x))
+  ready_underived e h c =
+      is_underived r.small r.inside s r.is_end r.within r.known r.layout r.walk.takes (omega (arith, told_children))
+      (λ x. no_checks c (subst (λ (w : List ℕ). Checks bytes (get_or bytes at 0) end w (roots s.ts [])) (sym r.walk.values) x))
     where
-      no-checks : {v tags : List ℕ} → Checked bytes array (get_or bytes at 0) end v tags Other → Checks bytes (get_or bytes at 0) end v tags → ⊥
-      no-checks (Checked.other f) = f
+      no_checks : {v tags : List ℕ} → Checked bytes array (get_or bytes at 0) end v tags Other → Checks bytes (get_or bytes at 0) end v tags → ⊥
+      no_checks (Checked.other f) = f
 
   -- what number 16 looks at is there: as many roots as are asked for, and the text
-  pub ready-sums : (asks (get_or bytes at 0) p.values).fine ≡ true
+  pub ready_sums : (asks (get_or bytes at 0) p.values).fine ≡ true
       → (asks (get_or bytes at 0) p.values).n3 + (asks (get_or bytes at 0) p.values).n2 + (asks (get_or bytes at 0) p.values).n1 ≡ get_or (numbers (layout_of (get_or bytes at 0))) 0 0 + p.children
-  ready-sums f =
-      let v = r.walk.values ∙ sym record-here.valued in
-      let x = sums (get_or bytes at 0) r.known (dated (age-of (dates (get_or bytes at 0) (end - at - 3) age)) (get_or bytes at 0) record-here.fields) (record-here.own + p.children) record-here.told in
+  ready_sums f =
+      let v = r.walk.values ∙ sym record_here.valued in
+      let x = sums (get_or bytes at 0) r.known (dated (age_of (dates (get_or bytes at 0) (end - at - 3) age)) (get_or bytes at 0) record_here.fields) (record_here.own + p.children) record_here.told in
       ap (λ (w : List ℕ). (asks (get_or bytes at 0) w).n3 + (asks (get_or bytes at 0) w).n2 + (asks (get_or bytes at 0) w).n1) v
-      ∙ x.0 (sym (ap (λ (w : List ℕ). (asks (get_or bytes at 0) w).fine) v) ∙ f) ∙ sym told-children
+      ∙ x.0 (sym (ap (λ (w : List ℕ). (asks (get_or bytes at 0) w).fine) v) ∙ f) ∙ sym told_children
 
-  pub ready-next : {k first : ℕ} → k ≡ get_or (numbers (layout_of (get_or bytes at 0))) 0 0 + p.children → k ≤ standing
+  pub ready_next : {k first : ℕ} → k ≡ get_or (numbers (layout_of (get_or bytes at 0))) 0 0 + p.children → k ≤ standing
       → Checked bytes array (get_or bytes at 0) end p.values (roots s.ts []) (From first)
       → first ≡ pops array n ((asks (get_or bytes at 0) p.values).n3 + ((asks (get_or bytes at 0) p.values).n2 + (asks (get_or bytes at 0) p.values).n1))
       → Stepped bytes array at s.ts (Next end first (standing - k + 1) (dates (get_or bytes at 0) (end - at - 3) age))
-  ready-next {k} {first} e h (Checked.from c ch) l =
+  ready_next {k} {first} e h (Checked.from c ch) l =
       let w = r.walk.values in
-      let q : standing - (record-here.own + p.children) + 1 ≡ standing - k + 1 = omega (arith, told-children, e) in
+      let q : standing - (record_here.own + p.children) + 1 ≡ standing - k + 1 = omega (arith, told_children, e) in
       subst (λ (i : ℕ). Stepped bytes array at s.ts (Next end first i (dates (get_or bytes at 0) (end - at - 3) age))) q
-      (is-next r.small r.inside s r.is-end r.within r.known r.layout r.walk.takes (omega (arith, told-children, e))
+      (is_next r.small r.inside s r.is_end r.within r.known r.layout r.walk.takes (omega (arith, told_children, e))
       (subst (λ (v : List ℕ). Checks bytes (get_or bytes at 0) end v (roots s.ts [])) w c)
       (subst (λ (v : List ℕ). Chain bytes array first (beyond (asks (get_or bytes at 0) v) (roots s.ts []))) w ch)
       (subst (λ (v : List ℕ). first ≡ pops array n ((asks (get_or bytes at 0) v).n3 + ((asks (get_or bytes at 0) v).n2 + (asks (get_or bytes at 0) v).n1))) w l))
 
-  pub ready-size : (asks (get_or bytes at 0) p.values).size ≤ end
-  ready-size =
-      let v = r.walk.values ∙ sym record-here.valued in
-      let fs' = dated (age-of (dates (get_or bytes at 0) (end - at - 3) age)) (get_or bytes at 0) record-here.fields in
-      let x = sums (get_or bytes at 0) r.known fs' (record-here.own + p.children) record-here.told in
+  pub ready_size : (asks (get_or bytes at 0) p.values).size ≤ end
+  ready_size =
+      let v = r.walk.values ∙ sym record_here.valued in
+      let fs' = dated (age_of (dates (get_or bytes at 0) (end - at - 3) age)) (get_or bytes at 0) record_here.fields in
+      let x = sums (get_or bytes at 0) r.known fs' (record_here.own + p.children) record_here.told in
       let n = length (words_of fs') in
       let l = length-take (end - (end - n)) (drop (end - n) bytes) in
-      omega (arith, ap (λ (w : List ℕ). (asks (get_or bytes at 0) w).size) v, x.1, ap length record-here.words, l, min-le_left (end - (end - n)) (length (drop (end - n) bytes)))
+      omega (arith, ap (λ (w : List ℕ). (asks (get_or bytes at 0) w).size) v, x.1, ap length record_here.words, l, min-le_left (end - (end - n)) (length (drop (end - n) bytes)))
 
-pub checked-as : {bytes array : List ℕ} {tag end : ℕ} {values tags : List ℕ} {r q : Roots} → r ≡ q → Checked bytes array tag end values tags r → Checked bytes array tag end values tags q
-checked-as {bytes} {array} {tag} {end} {values} {tags} e x = subst (λ (r : Roots). Checked bytes array tag end values tags r) e x
+pub checked_as : {bytes array : List ℕ} {tag end : ℕ} {values tags : List ℕ} {r q : Roots} → r ≡ q → Checked bytes array tag end values tags r → Checked bytes array tag end values tags q
+checked_as {bytes} {array} {tag} {end} {values} {tags} e x = subst (λ (r : Roots). Checked bytes array tag end values tags r) e x
 
 -- A row has no more trees than a third of its bytes.
 pub count-image : (ts : Trees) → count ts * 3 ≤ length (image ts)
@@ -195,5 +195,5 @@ unfolding count
 count-image trees.none = omega arith
 count-image (trees.node tag fields children ts) = omega (arith, image-length tag fields children ts, count-image ts)
 
-pub next-as : {bytes array : List ℕ} {at end first standing kind other : ℕ} {ts : Trees} → other ≡ kind → Stepped bytes array at ts (Next end first standing kind) → Stepped bytes array at ts (Next end first standing other)
-next-as {bytes} {array} {at} {end} {first} {standing} {ts = ts} e x = subst (λ (k : ℕ). Stepped bytes array at ts (Next end first standing k)) (sym e) x
+pub next_as : {bytes array : List ℕ} {at end first standing kind other : ℕ} {ts : Trees} → other ≡ kind → Stepped bytes array at ts (Next end first standing kind) → Stepped bytes array at ts (Next end first standing other)
+next_as {bytes} {array} {at} {end} {first} {standing} {ts = ts} e x = subst (λ (k : ℕ). Stepped bytes array at ts (Next end first standing k)) (sym e) x

@@ -11,11 +11,11 @@ use lib.ListN.{length, drop, get_or, replicate}
 use lib.Seq.{slice, slice_empty, slice-cons, length-slice}
 use Rattle.grammar.specs.Trees.{Field, byte, number, span, text}
 use Rattle.grammar.specs.Image.{two, payload}
-use Rattle.grammar.specs.Layout.{Part, place, words, count, has, bits, below, bits_in, Laid, over, a-span, a-text, a-count, a-flag, a_slice, a_byte, code, codes}
+use Rattle.grammar.specs.Layout.{Part, place, words, count, has, bits, below, bits_in, Laid, over, a_span, a_text, a_count, a_flag, a_slice, a_byte, code, codes}
 use Rattle.images.specs.declared.parts.Got.{Got}
 use Rattle.images.specs.declared.parts.Got.TheVariants.{Value, Wrong}
-use Rattle.images.specs.Inner.{two_at, span_value, limit, told-by, Gets, Takes, Fails}
-use Rattle.images.proofs.CodeLaws.{limit-other, told-other}
+use Rattle.images.specs.Inner.{two_at, span_value, limit, told_by, Gets, Takes, Fails}
+use Rattle.images.proofs.CodeLaws.{limit_other, told_other}
 
 -- A field in one number.
 unfoldable pub value : Field → ℕ
@@ -97,7 +97,7 @@ module _ (bytes : List ℕ) (end : ℕ) (within : end ≤ length bytes) where
         let q : at + 2 + 2 ≡ at + 4 = omega arith in
         record {
           fields = span a e ∷ x.fields;
-          laid = laid_as (omega arith) (a-span {a = a} {e = e} x.laid);
+          laid = laid_as (omega arith) (a_span {a = a} {e = e} x.laid);
           paid =
               ap (λ (l : List ℕ). two a ++ (two e ++ l)) x.paid
               ∙ sym (two-slice at h1 ∙ ap (λ (l : List ℕ). two a ++ l) (two-slice (at + 2) h2 ∙ ap (λ (i : ℕ). two e ++ slice i end bytes) q));
@@ -110,7 +110,7 @@ module _ (bytes : List ℕ) (end : ℕ) (within : end ≤ length bytes) where
         let a = two_at bytes at in
         record {
           fields = number a ∷ x.fields;
-          laid = a-count x.laid;
+          laid = a_count x.laid;
           paid = ap (λ (l : List ℕ). two a ++ l) x.paid ∙ sym (two-slice at h);
           valued = ap (λ (l : List ℕ). a ∷ l) x.valued;
         }
@@ -128,67 +128,67 @@ module _ (bytes : List ℕ) (end : ℕ) (within : end ≤ length bytes) where
 
     worded : {at : ℕ} → Laidly (words ∷ []) at ((end - at) ∷ []) 0
     unfolding payload value
-    worded {at} = record { fields = text (slice at end bytes) ∷ []; laid = a-text; paid = refl; valued = ap (λ (n : ℕ). n ∷ []) (length-slice at end bytes within) }
+    worded {at} = record { fields = text (slice at end bytes) ∷ []; laid = a_text; paid = refl; valued = ap (λ (n : ℕ). n ∷ []) (length-slice at end bytes within) }
 
-    over-only : (k : ℕ) {at n : ℕ} {vs : List ℕ} → Takes bytes end at (replicate k 0) vs n → ([] ≡ vs) × (0 ≡ n)
-    over-only zero Takes.last = (refl, refl)
-    over-only (suc k) Takes.over = (refl, refl)
-    over-only (suc k) (Takes.more z g t) = absurd (z refl)
+    over_only : (k : ℕ) {at n : ℕ} {vs : List ℕ} → Takes bytes end at (replicate k 0) vs n → ([] ≡ vs) × (0 ≡ n)
+    over_only zero Takes.last = (refl, refl)
+    over_only (suc k) Takes.over = (refl, refl)
+    over_only (suc k) (Takes.more z g t) = absurd (z refl)
 
-    worded-as : {at n : ℕ} {vs : List ℕ} → ([] ≡ vs) × (0 ≡ n) → Laidly (words ∷ []) at ((end - at) ∷ vs) (0 + n)
-    worded-as {at} {n} e = subst (λ (l : List ℕ). Laidly (words ∷ []) at ((end - at) ∷ l) (0 + n)) e.0 (subst (λ (m : ℕ). Laidly (words ∷ []) at ((end - at) ∷ []) (0 + m)) e.1 worded)
+    worded_as : {at n : ℕ} {vs : List ℕ} → ([] ≡ vs) × (0 ≡ n) → Laidly (words ∷ []) at ((end - at) ∷ vs) (0 + n)
+    worded_as {at} {n} e = subst (λ (l : List ℕ). Laidly (words ∷ []) at ((end - at) ∷ l) (0 + n)) e.0 (subst (λ (m : ℕ). Laidly (words ∷ []) at ((end - at) ∷ []) (0 + m)) e.1 worded)
 
     record ByteFirst (at c : ℕ) (cs vs : List ℕ) (n : ℕ) : Type 0 where
       pub tails : List ℕ
       pub others : ℕ
-      pub in-time : at < end
+      pub in_time : at < end
       pub bounded : get_or bytes at 0 < limit c
       pub onward : Takes bytes end (at + 1) cs tails others
       pub values : get_or bytes at 0 ∷ tails ≡ vs
-      pub sum : told-by c (get_or bytes at 0) + others ≡ n
+      pub sum : told_by c (get_or bytes at 0) + others ≡ n
 
-    byte-first : {at c n : ℕ} {cs vs : List ℕ} → 4 ≤ c → Takes bytes end at (c ∷ cs) vs n → ByteFirst at c cs vs n
-    byte-first h Takes.over = absurd (omega arith)
-    byte-first h (Takes.more z (Gets.a-span f) t) = absurd (omega arith)
-    byte-first h (Takes.more z Gets.a-text t) = absurd (omega arith)
-    byte-first h (Takes.more z (Gets.a-count f) t) = absurd (omega arith)
-    byte-first h (Takes.more z (Gets.a_byte f g i) t) = record { tails = _; others = _; in-time = g; bounded = i; onward = t; values = refl; sum = refl }
+    byte_first : {at c n : ℕ} {cs vs : List ℕ} → 4 ≤ c → Takes bytes end at (c ∷ cs) vs n → ByteFirst at c cs vs n
+    byte_first h Takes.over = absurd (omega arith)
+    byte_first h (Takes.more z (Gets.a_span f) t) = absurd (omega arith)
+    byte_first h (Takes.more z Gets.a_text t) = absurd (omega arith)
+    byte_first h (Takes.more z (Gets.a_count f) t) = absurd (omega arith)
+    byte_first h (Takes.more z (Gets.a_byte f g i) t) = record { tails = _; others = _; in_time = g; bounded = i; onward = t; values = refl; sum = refl }
 
-    below-byte : {m at n : ℕ} {ps : List Part} {vs : List ℕ} {cs : List ℕ} (x : ByteFirst at (8 + m) cs vs n) → Laidly ps (at + 1) x.tails x.others → Laidly (below m ∷ ps) at vs n
-    below-byte {m} {at} {n} {ps} {vs} x y =
-        let l = limit-other (8 + m) (λ e. omega arith) (λ e. omega arith) in
-        let o = told-other (8 + m) (get_or bytes at 0) (λ e. omega arith) (λ e. omega arith) in
+    below_byte : {m at n : ℕ} {ps : List Part} {vs : List ℕ} {cs : List ℕ} (x : ByteFirst at (8 + m) cs vs n) → Laidly ps (at + 1) x.tails x.others → Laidly (below m ∷ ps) at vs n
+    below_byte {m} {at} {n} {ps} {vs} x y =
+        let l = limit_other (8 + m) (λ e. omega arith) (λ e. omega arith) in
+        let o = told_other (8 + m) (get_or bytes at 0) (λ e. omega arith) (λ e. omega arith) in
         let b : get_or bytes at 0 < m = omega (arith, x.bounded, l) in
         let k : x.others ≡ n = omega (arith, o, x.sum) in
-        subst (λ (l : List ℕ). Laidly (below m ∷ ps) at l n) x.values (lettered x.in-time (λ fs z. laid_as k (a_byte b z)) y)
+        subst (λ (l : List ℕ). Laidly (below m ∷ ps) at l n) x.values (lettered x.in_time (λ fs z. laid_as k (a_byte b z)) y)
 
-    pub takes-laid : (ps : List Part) (k : ℕ) {at n : ℕ} {vs : List ℕ} → T (proper ps) → Takes bytes end at (codes ps ++ replicate k 0) vs n → Laidly ps at vs n
-    unfolding proper codes code payload value limit told-by
-    takes-laid [] zero h Takes.last = record { fields = []; laid = over; paid = sym (slice_empty end bytes); valued = refl }
-    takes-laid [] (suc k) h Takes.over = record { fields = []; laid = over; paid = sym (slice_empty end bytes); valued = refl }
-    takes-laid [] (suc k) h (Takes.more n g t) = absurd (n refl)
-    takes-laid (place ∷ ps) k h (Takes.more n (Gets.a-span f) t) = spanned f (takes-laid ps k h t)
-    takes-laid (place ∷ ps) k h (Takes.more n (Gets.a_byte f g i) t) = absurd (omega arith)
-    takes-laid (words ∷ []) k h (Takes.more n Gets.a-text t) = worded-as (over-only k t)
-    takes-laid (words ∷ []) k h (Takes.more n (Gets.a_byte f g i) t) = absurd (omega arith)
-    takes-laid (count ∷ ps) k h (Takes.more n (Gets.a-count f) t) = counted f (takes-laid ps k h t)
-    takes-laid (count ∷ ps) k h (Takes.more n (Gets.a_byte f g i) t) = absurd (omega arith)
-    takes-laid (has ∷ ps) k h (Takes.more n (Gets.a_byte f g i) t) = lettered g (λ fs x. a-flag i x) (takes-laid ps k h t)
-    takes-laid (bits ∷ ps) k h (Takes.more n (Gets.a_byte f g i) t) = lettered g (λ fs x. a_slice i x) (takes-laid ps k h t)
-    takes-laid (below m ∷ ps) k h t = let x = byte-first (omega arith) t in below-byte x (takes-laid ps k h x.onward)
+    pub takes_laid : (ps : List Part) (k : ℕ) {at n : ℕ} {vs : List ℕ} → T (proper ps) → Takes bytes end at (codes ps ++ replicate k 0) vs n → Laidly ps at vs n
+    unfolding proper codes code payload value limit told_by
+    takes_laid [] zero h Takes.last = record { fields = []; laid = over; paid = sym (slice_empty end bytes); valued = refl }
+    takes_laid [] (suc k) h Takes.over = record { fields = []; laid = over; paid = sym (slice_empty end bytes); valued = refl }
+    takes_laid [] (suc k) h (Takes.more n g t) = absurd (n refl)
+    takes_laid (place ∷ ps) k h (Takes.more n (Gets.a_span f) t) = spanned f (takes_laid ps k h t)
+    takes_laid (place ∷ ps) k h (Takes.more n (Gets.a_byte f g i) t) = absurd (omega arith)
+    takes_laid (words ∷ []) k h (Takes.more n Gets.a_text t) = worded_as (over_only k t)
+    takes_laid (words ∷ []) k h (Takes.more n (Gets.a_byte f g i) t) = absurd (omega arith)
+    takes_laid (count ∷ ps) k h (Takes.more n (Gets.a_count f) t) = counted f (takes_laid ps k h t)
+    takes_laid (count ∷ ps) k h (Takes.more n (Gets.a_byte f g i) t) = absurd (omega arith)
+    takes_laid (has ∷ ps) k h (Takes.more n (Gets.a_byte f g i) t) = lettered g (λ fs x. a_flag i x) (takes_laid ps k h t)
+    takes_laid (bits ∷ ps) k h (Takes.more n (Gets.a_byte f g i) t) = lettered g (λ fs x. a_slice i x) (takes_laid ps k h t)
+    takes_laid (below m ∷ ps) k h t = let x = byte_first (omega arith) t in below_byte x (takes_laid ps k h x.onward)
 
     -- ── And back ────────────────────────────────────────────────────────────────────────────────────
 
-    pub two-cut : (at : ℕ) {n : ℕ} {rest : List ℕ} → two n ++ rest ≡ slice at end bytes → (at + 2 ≤ end) × (two_at bytes at ≡ n) × (rest ≡ slice (at + 2) end bytes)
-    two-cut at {n} {rest} e =
+    pub two_cut : (at : ℕ) {n : ℕ} {rest : List ℕ} → two n ++ rest ≡ slice at end bytes → (at + 2 ≤ end) × (two_at bytes at ≡ n) × (rest ≡ slice (at + 2) end bytes)
+    two_cut at {n} {rest} e =
         let x = cut at e in
         let y = cut (at + 1) x.2 in
         let q : at + 1 + 1 ≡ at + 2 = omega arith in
         (omega (arith, y.0), two_is n (get_or bytes at 0) (get_or bytes (at + 1) 0) x.1 y.1, y.2 ∙ ap (λ (i : ℕ). slice i end bytes) q)
 
-    more-as : {at v w next onto k n m c : ℕ} {cs vs : List ℕ} → (c ≡ 0 → ⊥) → Gets bytes at end c (Value v next k) → next ≡ onto → v ≡ w → k + n ≡ m → Takes bytes end onto cs vs n
+    more_as : {at v w next onto k n m c : ℕ} {cs vs : List ℕ} → (c ≡ 0 → ⊥) → Gets bytes at end c (Value v next k) → next ≡ onto → v ≡ w → k + n ≡ m → Takes bytes end onto cs vs n
         → Takes bytes end at (c ∷ cs) (w ∷ vs) m
-    more-as {at} {v} {w} {next} {onto} {k} {n} {m} {c} {cs} {vs} z g e f h t =
+    more_as {at} {v} {w} {next} {onto} {k} {n} {m} {c} {cs} {vs} z g e f h t =
         subst (λ (i : ℕ). Takes bytes end at (c ∷ cs) (i ∷ vs) m) f
         (subst (λ (i : ℕ). Takes bytes end at (c ∷ cs) (v ∷ vs) i) h (Takes.more z g (subst (λ (i : ℕ). Takes bytes end i cs vs n) (sym e) t)))
 
@@ -196,65 +196,65 @@ module _ (bytes : List ℕ) (end : ℕ) (within : end ≤ length bytes) where
     ends zero e = subst (λ (i : ℕ). Takes bytes end i [] [] 0) (sym e) Takes.last
     ends (suc k) e = subst (λ (i : ℕ). Takes bytes end i (0 ∷ replicate k 0) [] 0) (sym e) Takes.over
 
-    pub laid-takes : {ps : List Part} {fs : List Field} {n : ℕ} (k at : ℕ) → at ≤ end → Laid ps fs n → payload fs ≡ slice at end bytes
+    pub laid_takes : {ps : List Part} {fs : List Field} {n : ℕ} (k at : ℕ) → at ≤ end → Laid ps fs n → payload fs ≡ slice at end bytes
         → Takes bytes end at (codes ps ++ replicate k 0) (map value fs) n
-    unfolding codes code payload value limit told-by
-    laid-takes k at le over e = ends k (omega (arith, ap length e ∙ length-slice at end bytes within))
-    laid-takes k at le (a-span {a = a} {e = b} l) e =
-        let x = two-cut at e in
-        let y = two-cut (at + 2) x.2 in
+    unfolding codes code payload value limit told_by
+    laid_takes k at le over e = ends k (omega (arith, ap length e ∙ length-slice at end bytes within))
+    laid_takes k at le (a_span {a = a} {e = b} l) e =
+        let x = two_cut at e in
+        let y = two_cut (at + 2) x.2 in
         let h : at + 4 ≤ end = omega (arith, y.0) in
         let v = ap (λ (i : ℕ). span_value i (two_at bytes (at + 2))) x.1 ∙ ap (λ (i : ℕ). span_value a i) y.1 in
-        more-as (λ z. omega arith) (Gets.a-span h) (omega arith) v (omega arith) (laid-takes k (at + 2 + 2) (omega arith) l y.2)
-    laid-takes k at le a-text e = more-as (λ z. omega arith) Gets.a-text refl (sym (ap length e ∙ length-slice at end bytes within)) (omega arith) (ends k refl)
-    laid-takes k at le (a-count {m = m} {n = n} l) e =
-        let x = two-cut at e in
-        more-as (λ z. omega arith) (Gets.a-count x.0) refl x.1 (ap (λ (i : ℕ). i + n) x.1) (laid-takes k (at + 2) x.0 l x.2)
-    laid-takes k at le (a-flag {b = b} h l) e =
+        more_as (λ z. omega arith) (Gets.a_span h) (omega arith) v (omega arith) (laid_takes k (at + 2 + 2) (omega arith) l y.2)
+    laid_takes k at le a_text e = more_as (λ z. omega arith) Gets.a_text refl (sym (ap length e ∙ length-slice at end bytes within)) (omega arith) (ends k refl)
+    laid_takes k at le (a_count {m = m} {n = n} l) e =
+        let x = two_cut at e in
+        more_as (λ z. omega arith) (Gets.a_count x.0) refl x.1 (ap (λ (i : ℕ). i + n) x.1) (laid_takes k (at + 2) x.0 l x.2)
+    laid_takes k at le (a_flag {b = b} h l) e =
         let x = cut at e in
-        more-as (λ z. omega arith) (Gets.a_byte (omega arith) x.0 (omega (arith, x.1))) refl (sym x.1) (omega (arith, x.1)) (laid-takes k (at + 1) (omega (arith, x.0)) l x.2)
-    laid-takes k at le (a_slice {b = b} {n = n} h l) e =
+        more_as (λ z. omega arith) (Gets.a_byte (omega arith) x.0 (omega (arith, x.1))) refl (sym x.1) (omega (arith, x.1)) (laid_takes k (at + 1) (omega (arith, x.0)) l x.2)
+    laid_takes k at le (a_slice {b = b} {n = n} h l) e =
         let x = cut at e in
-        more-as (λ z. omega arith) (Gets.a_byte (omega arith) x.0 (omega (arith, x.1))) refl (sym x.1) (sym (ap (λ (i : ℕ). bits_in i + n) x.1)) (laid-takes k (at + 1) (omega (arith, x.0)) l x.2)
-    laid-takes k at le (a_byte {m = m} {b = b} h l) e =
+        more_as (λ z. omega arith) (Gets.a_byte (omega arith) x.0 (omega (arith, x.1))) refl (sym x.1) (sym (ap (λ (i : ℕ). bits_in i + n) x.1)) (laid_takes k (at + 1) (omega (arith, x.0)) l x.2)
+    laid_takes k at le (a_byte {m = m} {b = b} h l) e =
         let x = cut at e in
-        let i = limit-other (8 + m) (λ e. omega arith) (λ e. omega arith) in
-        let o = told-other (8 + m) (get_or bytes at 0) (λ e. omega arith) (λ e. omega arith) in
-        more-as (λ z. omega arith) (Gets.a_byte (omega arith) x.0 (omega (arith, x.1, i))) refl (sym x.1) (omega (arith, o)) (laid-takes k (at + 1) (omega (arith, x.0)) l x.2)
+        let i = limit_other (8 + m) (λ e. omega arith) (λ e. omega arith) in
+        let o = told_other (8 + m) (get_or bytes at 0) (λ e. omega arith) (λ e. omega arith) in
+        more_as (λ z. omega arith) (Gets.a_byte (omega arith) x.0 (omega (arith, x.1, i))) refl (sym x.1) (omega (arith, o)) (laid_takes k (at + 1) (omega (arith, x.0)) l x.2)
 
 -- ── Never both ────────────────────────────────────────────────────────────────────────────────────
 
-gets-not : {bytes : List ℕ} {at end c v next k : ℕ} → Gets bytes at end c (Value v next k) → Gets bytes at end c Wrong → ⊥
-gets-not (Gets.a-span h) (Gets.no_span g) = omega arith
-gets-not (Gets.a-span h) (Gets.no_byte f g) = omega arith
-gets-not (Gets.a-span h) (Gets.bad-byte f g i) = omega arith
-gets-not Gets.a-text (Gets.no_byte f g) = omega arith
-gets-not Gets.a-text (Gets.bad-byte f g i) = omega arith
-gets-not (Gets.a-count h) (Gets.no-count g) = omega arith
-gets-not (Gets.a-count h) (Gets.no_byte f g) = omega arith
-gets-not (Gets.a-count h) (Gets.bad-byte f g i) = omega arith
-gets-not (Gets.a_byte h i j) (Gets.no_span g) = omega arith
-gets-not (Gets.a_byte h i j) (Gets.no-count g) = omega arith
-gets-not (Gets.a_byte h i j) (Gets.no_byte f g) = omega arith
-gets-not (Gets.a_byte h i j) (Gets.bad-byte f g l) = omega arith
+gets_not : {bytes : List ℕ} {at end c v next k : ℕ} → Gets bytes at end c (Value v next k) → Gets bytes at end c Wrong → ⊥
+gets_not (Gets.a_span h) (Gets.no_span g) = omega arith
+gets_not (Gets.a_span h) (Gets.no_byte f g) = omega arith
+gets_not (Gets.a_span h) (Gets.bad_byte f g i) = omega arith
+gets_not Gets.a_text (Gets.no_byte f g) = omega arith
+gets_not Gets.a_text (Gets.bad_byte f g i) = omega arith
+gets_not (Gets.a_count h) (Gets.no_count g) = omega arith
+gets_not (Gets.a_count h) (Gets.no_byte f g) = omega arith
+gets_not (Gets.a_count h) (Gets.bad_byte f g i) = omega arith
+gets_not (Gets.a_byte h i j) (Gets.no_span g) = omega arith
+gets_not (Gets.a_byte h i j) (Gets.no_count g) = omega arith
+gets_not (Gets.a_byte h i j) (Gets.no_byte f g) = omega arith
+gets_not (Gets.a_byte h i j) (Gets.bad_byte f g l) = omega arith
 
-pub gets-equal : {bytes : List ℕ} {at end c v w next onto k l : ℕ} → Gets bytes at end c (Value v next k) → Gets bytes at end c (Value w onto l) → (onto ≡ next) × (v ≡ w)
-gets-equal (Gets.a-span h) (Gets.a-span g) = (refl, refl)
-gets-equal (Gets.a-span h) (Gets.a_byte f g i) = absurd (omega arith)
-gets-equal Gets.a-text Gets.a-text = (refl, refl)
-gets-equal Gets.a-text (Gets.a_byte f g i) = absurd (omega arith)
-gets-equal (Gets.a-count h) (Gets.a-count g) = (refl, refl)
-gets-equal (Gets.a-count h) (Gets.a_byte f g i) = absurd (omega arith)
-gets-equal (Gets.a_byte h i j) (Gets.a-span g) = absurd (omega arith)
-gets-equal (Gets.a_byte h i j) Gets.a-text = absurd (omega arith)
-gets-equal (Gets.a_byte h i j) (Gets.a-count g) = absurd (omega arith)
-gets-equal (Gets.a_byte h i j) (Gets.a_byte f g l) = (refl, refl)
+pub gets_equal : {bytes : List ℕ} {at end c v w next onto k l : ℕ} → Gets bytes at end c (Value v next k) → Gets bytes at end c (Value w onto l) → (onto ≡ next) × (v ≡ w)
+gets_equal (Gets.a_span h) (Gets.a_span g) = (refl, refl)
+gets_equal (Gets.a_span h) (Gets.a_byte f g i) = absurd (omega arith)
+gets_equal Gets.a_text Gets.a_text = (refl, refl)
+gets_equal Gets.a_text (Gets.a_byte f g i) = absurd (omega arith)
+gets_equal (Gets.a_count h) (Gets.a_count g) = (refl, refl)
+gets_equal (Gets.a_count h) (Gets.a_byte f g i) = absurd (omega arith)
+gets_equal (Gets.a_byte h i j) (Gets.a_span g) = absurd (omega arith)
+gets_equal (Gets.a_byte h i j) Gets.a_text = absurd (omega arith)
+gets_equal (Gets.a_byte h i j) (Gets.a_count g) = absurd (omega arith)
+gets_equal (Gets.a_byte h i j) (Gets.a_byte f g l) = (refl, refl)
 
-pub takes-fails : {bytes : List ℕ} {end at n : ℕ} {cs vs : List ℕ} → Takes bytes end at cs vs n → Fails bytes end at cs → ⊥
-takes-fails Takes.over (Fails.left n) = n refl
-takes-fails Takes.over (Fails.wrong n g) = n refl
-takes-fails Takes.over (Fails.later n g f) = n refl
-takes-fails Takes.last (Fails.left-last n) = n refl
-takes-fails (Takes.more n g t) (Fails.left m) = n refl
-takes-fails (Takes.more n g t) (Fails.wrong m h) = gets-not g h
-takes-fails {bytes} {end} (Takes.more {cs = cs} n g t) (Fails.later m h f) = takes-fails t (subst (λ (i : ℕ). Fails bytes end i cs) (gets-equal g h).0 f)
+pub takes_fails : {bytes : List ℕ} {end at n : ℕ} {cs vs : List ℕ} → Takes bytes end at cs vs n → Fails bytes end at cs → ⊥
+takes_fails Takes.over (Fails.left n) = n refl
+takes_fails Takes.over (Fails.wrong n g) = n refl
+takes_fails Takes.over (Fails.later n g f) = n refl
+takes_fails Takes.last (Fails.left_last n) = n refl
+takes_fails (Takes.more n g t) (Fails.left m) = n refl
+takes_fails (Takes.more n g t) (Fails.wrong m h) = gets_not g h
+takes_fails {bytes} {end} (Takes.more {cs = cs} n g t) (Fails.later m h f) = takes_fails t (subst (λ (i : ℕ). Fails bytes end i cs) (gets_equal g h).0 f)

@@ -91,13 +91,13 @@ module _ (bytes : List ℕ) (from end : ℕ) (row : List ℕ) (seven : length ro
         (λ n. subst (λ (l : List ℕ). Fails bytes end at l) codes (Fails.left n))
 
     -- after the last
-    pub is-over : 6 ≤ i → Walks bytes from end (drop 1 row) (record { good = eqb at end; children = children; values = values })
-    is-over h =
+    pub is_over : 6 ≤ i → Walks bytes from end (drop 1 row) (record { good = eqb at end; children = children; values = values })
+    is_over h =
         let j : i + 1 ≡ length row = omega (arith, x.few, seven) in
         let codes : [] ≡ drop (i + 1) row = sym (ap (λ (n : ℕ). drop n row) j ∙ drop-length row) in
         ended (eqb at end) refl
         (λ e. subst (λ (l : List ℕ). Takes bytes end at l [] 0) codes (subst (λ (k : ℕ). Takes bytes end k [] [] 0) (sym e) Takes.last))
-        (λ n. subst (λ (l : List ℕ). Fails bytes end at l) codes (Fails.left-last n))
+        (λ n. subst (λ (l : List ℕ). Fails bytes end at l) codes (Fails.left_last n))
 
     -- where a part is wrong
     pub fails : {c : ℕ} → i < 6 → c ≡ get_or row (i + 1) 0 → (c ≡ 0 → ⊥) → Gets bytes at end c Wrong
@@ -108,8 +108,8 @@ module _ (bytes : List ℕ) (from end : ℕ) (row : List ℕ) (seven : length ro
         Walks.bad refl (x.bad (subst (λ (l : List ℕ). Fails bytes end at l) codes (Fails.wrong z g)))
 
 -- Where a part ends.
-pub gets-within : {bytes : List ℕ} {at end c v next k : ℕ} → at ≤ end → Gets bytes at end c (Value v next k) → next ≤ end
-gets-within h (Gets.a-span g) = g
-gets-within h Gets.a-text = omega arith
-gets-within h (Gets.a-count g) = g
-gets-within h (Gets.a_byte f g i) = omega arith
+pub gets_within : {bytes : List ℕ} {at end c v next k : ℕ} → at ≤ end → Gets bytes at end c (Value v next k) → next ≤ end
+gets_within h (Gets.a_span g) = g
+gets_within h Gets.a_text = omega arith
+gets_within h (Gets.a_count g) = g
+gets_within h (Gets.a_byte f g i) = omega arith

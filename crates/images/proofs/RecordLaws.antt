@@ -11,25 +11,25 @@ use borrow.Author.Tests.{eqb-true, eqb-false, eq-eqb, ne_eqb}
 use Rattle.grammar.specs.Tags.{INFIX}
 use Rattle.grammar.specs.Trees.{Field, byte, number, span, text, Trees, tree, ◌⊕◌, count}
 use Rattle.grammar.specs.Image.{entry, image, payload}
-use Rattle.grammar.specs.Layout.{Part, Layout, layout, unknown, layout_of, Laid, over, a-span, a-text, a-count, a-flag, a_slice, a_byte, Tells, codes, numbers}
+use Rattle.grammar.specs.Layout.{Part, Layout, layout, unknown, layout_of, Laid, over, a_span, a_text, a_count, a_flag, a_slice, a_byte, Tells, codes, numbers}
 use Rattle.grammar.specs.Records.{Sort, Fits, Spans, Form}
 use Rattle.grammar.specs.Derived.{Forwards}
-use Rattle.grammar.proofs.LayoutLaws.{form-laid}
+use Rattle.grammar.proofs.LayoutLaws.{form_laid}
 use Rattle.grammar.proofs.Spanned.{forwards}
 use Rattle.grammar.proofs.Sorts.{fits-length}
 use Rattle.images.specs.declared.records.Extent.TheVariants.{End, Cut}
 use Rattle.images.specs.Images.{Age, old, new, dated, Row, Stands, More}
-use Rattle.images.specs.Inner.{two_at, tail-part, Takes, Fails, Extends, dates, dated-row, asks, forward, sort-of, Worded, Fit, Checks, Dating, State, roots}
-use Rattle.images.proofs.PartLaws.{proper, gets-equal, takes-fails}
-use Rattle.images.proofs.EntryLaws.{Known, known, Entry, entry-there}
-use Rattle.images.proofs.FormLaws.{values, words_of, form-asked}
+use Rattle.images.specs.Inner.{two_at, tail_part, Takes, Fails, Extends, dates, dated_row, asks, forward, sort_of, Worded, Fit, Checks, Dating, State, roots}
+use Rattle.images.proofs.PartLaws.{proper, gets_equal, takes_fails}
+use Rattle.images.proofs.EntryLaws.{Known, known, Entry, entry_there}
+use Rattle.images.proofs.FormLaws.{values, words_of, form_asked}
 use Rattle.images.proofs.FormBack.{Made, makes}
-use Rattle.images.proofs.FitLaws.{plain_fits, comp-fits, fits-wanted, three, beyond-all}
+use Rattle.images.proofs.FitLaws.{plain_fits, comp_fits, fits_wanted, three, beyond_all}
 use Rattle.images.proofs.SumLaws.{sums}
-use Rattle.images.proofs.SpanLaws.{Small, small-laid, values-below, forward-of, forward-is, forward-fields}
-use Rattle.images.proofs.RowLaws.{tags, tags-count, roots-back, roots-row, back, Parted, part-row, Over, row-less, row_more, dated-other}
-use Rattle.images.proofs.StepLaws.{age-of, row-age, row_plain, row_old, told-laid}
-use Rattle.images.proofs.HereLaws.{six, Here, here-plain, here-old, Found, found}
+use Rattle.images.proofs.SpanLaws.{Small, small_laid, values_below, forward_of, forward_is, forward_fields}
+use Rattle.images.proofs.RowLaws.{tags, tags_count, roots_back, roots-row, back, Parted, part-row, Over, row_less, row_more, dated_other}
+use Rattle.images.proofs.StepLaws.{age_of, row_age, row_plain, row_old, told_laid}
+use Rattle.images.proofs.HereLaws.{six, Here, here-plain, here_old, Found, found}
 
 -- ── The layout of a known tag ─────────────────────────────────────────────────────────────────────
 
@@ -47,19 +47,19 @@ layout_is tag n = by (layout_of tag) refl (known tag)
     by unknown e k = absurd (n e)
     by (layout own ps) e (Known.some h p q) = record { own = own; ps = ps; is = e; right = p; few = q }
 
-laid-count : {ps : List Part} {fs : List Field} {n : ℕ} → Laid ps fs n → length fs ≡ length ps
-laid-count over = refl
-laid-count (a-span l) = ap suc (laid-count l)
-laid-count a-text = refl
-laid-count (a-count l) = ap suc (laid-count l)
-laid-count (a-flag h l) = ap suc (laid-count l)
-laid-count (a_slice h l) = ap suc (laid-count l)
-laid-count (a_byte h l) = ap suc (laid-count l)
+laid_count : {ps : List Part} {fs : List Field} {n : ℕ} → Laid ps fs n → length fs ≡ length ps
+laid_count over = refl
+laid_count (a_span l) = ap suc (laid_count l)
+laid_count a_text = refl
+laid_count (a_count l) = ap suc (laid_count l)
+laid_count (a_flag h l) = ap suc (laid_count l)
+laid_count (a_slice h l) = ap suc (laid_count l)
+laid_count (a_byte h l) = ap suc (laid_count l)
 
-told-count : (tag : ℕ) {fs : List Field} {n : ℕ} → LayoutIs tag → Tells (layout_of tag) fs n → length fs ≤ 6
-told-count tag {fs} {n} k t =
-    let l = told-laid (subst (λ (y : Layout). Tells y fs n) k.is t) in
-    omega (arith, laid-count l.1, k.few)
+told_count : (tag : ℕ) {fs : List Field} {n : ℕ} → LayoutIs tag → Tells (layout_of tag) fs n → length fs ≤ 6
+told_count tag {fs} {n} k t =
+    let l = told_laid (subst (λ (y : Layout). Tells y fs n) k.is t) in
+    omega (arith, laid_count l.1, k.few)
 
 -- ── The record at a place ─────────────────────────────────────────────────────────────────────────
 
@@ -71,43 +71,43 @@ module _ {bytes array : List ℕ} {at n standing age : ℕ} (small : (i : ℕ) �
   is_cut x k st = by x
     where
       there : Entry bytes at tag st.fields st.after
-      there = entry-there bytes at tag st.fields st.after (omega arith) st.here
+      there = entry_there bytes at tag st.fields st.after (omega arith) st.here
 
       by : Extends bytes at Cut → ⊥
-      by (Extends.cut-header h) = omega (arith, there.within)
-      by (Extends.cut-payload h g) = omega (arith, there.within, there.sized)
+      by (Extends.cut_header h) = omega (arith, there.within)
+      by (Extends.cut_payload h g) = omega (arith, there.within, there.sized)
 
-  module _ {end : ℕ} (is-end : end ≡ at + 3 + two_at bytes (at + 1)) (within : end ≤ length bytes) (k : LayoutIs tag) where
+  module _ {end : ℕ} (is_end : end ≡ at + 3 + two_at bytes (at + 1)) (within : end ≤ length bytes) (k : LayoutIs tag) where
     abbrev kind : ℕ
     kind = dates tag (end - at - 3) age
 
-    pub is-bad : Fails bytes end (at + 3) (drop 1 (dated-row tag kind)) → (m : ℕ) → Stands s.ts (drop at bytes) tag m → ⊥
-    is-bad f m st = takes-fails (found bytes small at end inside is-end within s.dating k.is st).takes f
+    pub is_bad : Fails bytes end (at + 3) (drop 1 (dated_row tag kind)) → (m : ℕ) → Stands s.ts (drop at bytes) tag m → ⊥
+    is_bad f m st = takes_fails (found bytes small at end inside is_end within s.dating k.is st).takes f
 
-    pub is-here : {vs : List ℕ} {m : ℕ} → Takes bytes end (at + 3) (drop 1 (dated-row tag kind)) vs m → Here bytes at end tag (age-of kind) vs m
-    unfolding age-of dated
-    is-here {vs} {m} t = by (eqb tag INFIX) refl (eqb kind 1) refl
+    pub is_here : {vs : List ℕ} {m : ℕ} → Takes bytes end (at + 3) (drop 1 (dated_row tag kind)) vs m → Here bytes at end tag (age_of kind) vs m
+    unfolding age_of dated
+    is_here {vs} {m} t = by (eqb tag INFIX) refl (eqb kind 1) refl
       where
-        as-old : kind ≡ 1 → Here bytes at end tag old vs m → Here bytes at end tag (age-of kind) vs m
-        as-old e h = subst (λ (g : Age). Here bytes at end tag g vs m) (sym (rw (eq-eqb kind 1 e))) h
+        as_old : kind ≡ 1 → Here bytes at end tag old vs m → Here bytes at end tag (age_of kind) vs m
+        as_old e h = subst (λ (g : Age). Here bytes at end tag g vs m) (sym (rw (eq-eqb kind 1 e))) h
 
-        plain : (tag ≡ INFIX → kind ≡ 1 → ⊥) → ((fs : List Field) → dated (age-of kind) tag fs ≡ fs) → Here bytes at end tag (age-of kind) vs m
-        plain q d = here-plain bytes small at end inside is-end within (age-of kind) k.ps k.is k.right d (subst (λ (l : List ℕ). Takes bytes end (at + 3) l vs m) (row_plain tag kind k.own k.ps k.is q) t)
+        plain : (tag ≡ INFIX → kind ≡ 1 → ⊥) → ((fs : List Field) → dated (age_of kind) tag fs ≡ fs) → Here bytes at end tag (age_of kind) vs m
+        plain q d = here-plain bytes small at end inside is_end within (age_of kind) k.ps k.is k.right d (subst (λ (l : List ℕ). Takes bytes end (at + 3) l vs m) (row_plain tag kind k.own k.ps k.is q) t)
 
-        new_is : (kind ≡ 1 → ⊥) → (fs : List Field) → dated (age-of kind) tag fs ≡ fs
+        new_is : (kind ≡ 1 → ⊥) → (fs : List Field) → dated (age_of kind) tag fs ≡ fs
         new_is q fs = ap (λ (b : Bool). dated (cond b old new) tag fs) (ne_eqb kind 1 q)
 
-        by : (b : Bool) → eqb tag INFIX ≡ b → (c : Bool) → eqb kind 1 ≡ c → Here bytes at end tag (age-of kind) vs m
-        by true p true q = as-old (eqb-true kind 1 q) (here-old bytes small at end inside is-end within (eqb-true tag INFIX p) (subst (λ (l : List ℕ). Takes bytes end (at + 3) l vs m) (row_old tag kind (eqb-true tag INFIX p) (eqb-true kind 1 q)) t))
+        by : (b : Bool) → eqb tag INFIX ≡ b → (c : Bool) → eqb kind 1 ≡ c → Here bytes at end tag (age_of kind) vs m
+        by true p true q = as_old (eqb-true kind 1 q) (here_old bytes small at end inside is_end within (eqb-true tag INFIX p) (subst (λ (l : List ℕ). Takes bytes end (at + 3) l vs m) (row_old tag kind (eqb-true tag INFIX p) (eqb-true kind 1 q)) t))
         by true p false q = plain (λ i e. eqb-false kind 1 q e) (new_is (eqb-false kind 1 q))
-        by false p c q = plain (λ i e. eqb-false tag INFIX p i) (λ fs. dated-other (age-of kind) tag fs (eqb-false tag INFIX p))
+        by false p c q = plain (λ i e. eqb-false tag INFIX p i) (λ fs. dated_other (age_of kind) tag fs (eqb-false tag INFIX p))
 
-    module _ {vs : List ℕ} {m : ℕ} (h : Here bytes at end tag (age-of kind) vs m) where
+    module _ {vs : List ℕ} {m : ℕ} (h : Here bytes at end tag (age_of kind) vs m) where
       pub stands : Stands s.ts (drop at bytes) tag (h.own + m)
-      stands = record { age = age-of kind; row = row-age tag (end - at - 3) s.dating; fields = h.fields; after = drop end bytes; here = h.there; told = h.told }
+      stands = record { age = age_of kind; row = row_age tag (end - at - 3) s.dating; fields = h.fields; after = drop end bytes; here = h.there; told = h.told }
 
       abbrev pub fs : List Field
-      fs = dated (age-of kind) tag h.fields
+      fs = dated (age_of kind) tag h.fields
 
       -- ── The checks hold ─────────────────────────────────────────────────────────────────────────
 
@@ -116,7 +116,7 @@ module _ {bytes array : List ℕ} {at n standing age : ℕ} (small : (i : ℕ) �
         pub children : Trees
         pub whole : s.ts ≡ us ⊕ children
         pub many : count children ≡ h.own + m
-        pub over : Over (age-of kind) tag h.fields children
+        pub over : Over (age_of kind) tag h.fields children
         pub beyond : drop (asks tag (values fs)).n1 (drop (asks tag (values fs)).n2 (drop (asks tag (values fs)).n3 (roots s.ts []))) ≡ roots us []
         pub sum : (asks tag (values fs)).n3 + (asks tag (values fs)).n2 + (asks tag (values fs)).n1 ≡ h.own + m
 
@@ -126,21 +126,21 @@ module _ {bytes array : List ℕ} {at n standing age : ℕ} (small : (i : ℕ) �
           let p = part-row s.ts (h.own + m) (count s.ts - (h.own + m)) (omega arith) in
           let xs = tags p.cs in
           let l = roots p.us [] in
-          let r : roots s.ts [] ≡ back xs l = ap (λ (t : Trees). roots t []) p.whole ∙ roots-row p.us p.cs [] ∙ roots-back p.cs l in
+          let r : roots s.ts [] ≡ back xs l = ap (λ (t : Trees). roots t []) p.whole ∙ roots-row p.us p.cs [] ∙ roots_back p.cs l in
           let sm = sums tag known-tag fs (h.own + m) h.told in
           let sum = sm.0 c.fine in
-          let len : length xs ≡ a.n1 + (a.n2 + a.n3) = omega (arith, tags-count p.cs, p.many, sum) in
+          let len : length xs ≡ a.n1 + (a.n2 + a.n3) = omega (arith, tags_count p.cs, p.many, sum) in
           let fit = subst (λ (w : List ℕ). Fit a w) r c.fit in
-          let fw = forward-fields fs (6 - length fs) (λ i b. forward-is (values fs) c.forwards i (omega (arith, told-count tag k h.told))) in
-          let w = subst (λ (u : List ℕ). Worded a.text u) (ap (λ (i : ℕ). tail-part i end bytes) sm.1 ∙ h.words) c.worded in
-          let made = makes (λ ws. Fits (map sort-of xs) ws) tag known-tag fs (h.own + m) h.told fw c.fine w (plain_fits a xs l len fit) (λ e n2 s2 s3. comp-fits a xs l len fit e n2 s2 s3) in
+          let fw = forward_fields fs (6 - length fs) (λ i b. forward_is (values fs) c.forwards i (omega (arith, told_count tag k h.told))) in
+          let w = subst (λ (u : List ℕ). Worded a.text u) (ap (λ (i : ℕ). tail_part i end bytes) sm.1 ∙ h.words) c.worded in
+          let made = makes (λ ws. Fits (map sort_of xs) ws) tag known-tag fs (h.own + m) h.told fw c.fine w (plain_fits a xs l len fit) (λ e n2 s2 s3. comp_fits a xs l len fit e n2 s2 s3) in
           record {
             us = p.us;
             children = p.cs;
             whole = p.whole;
             many = p.many;
-            over = record { sort = sort-of tag; wanted = made.wanted; form = made.form; fits = made.kept };
-            beyond = ap (λ (w : List ℕ). drop a.n1 (drop a.n2 (drop a.n3 w))) r ∙ beyond-all a xs l (three xs a.n1 a.n2 a.n3 len);
+            over = record { sort = sort_of tag; wanted = made.wanted; form = made.form; fits = made.kept };
+            beyond = ap (λ (w : List ℕ). drop a.n1 (drop a.n2 (drop a.n3 w))) r ∙ beyond_all a xs l (three xs a.n1 a.n2 a.n3 len);
             sum = sum;
           }
 
@@ -155,12 +155,12 @@ takes_same Takes.over (Takes.more z g t) = absurd (z refl)
 takes_same Takes.last Takes.last = refl
 takes_same (Takes.more z g t) Takes.over = absurd (z refl)
 takes_same {bytes} {end} (Takes.more {v = v} {cs = cs} z g t) (Takes.more {vs = us} y f u) =
-    let e = gets-equal g f in
+    let e = gets_equal g f in
     ap (λ (l : List ℕ). v ∷ l) (takes_same t (takes_at e.0 u)) ∙ ap (λ (i : ℕ). i ∷ us) e.1
 
-dated-small : (of : Age) (tag : ℕ) (fields : List Field) → Small fields → Small (dated of tag fields)
+dated_small : (of : Age) (tag : ℕ) (fields : List Field) → Small fields → Small (dated of tag fields)
 unfolding dated
-dated-small old tag fields s = by (eqb tag INFIX)
+dated_small old tag fields s = by (eqb tag INFIX)
   where
     onto : (gs : List Field) → Small gs → Small (gs ++ span 0 0 ∷ [])
     onto [] g = (omega arith, tt)
@@ -172,27 +172,27 @@ dated-small old tag fields s = by (eqb tag INFIX)
     by : (b : Bool) → Small (cond b (fields ++ span 0 0 ∷ []) fields)
     by true = onto fields s
     by false = s
-dated-small new tag fields s = s
+dated_small new tag fields s = s
 
 module _ {bytes array : List ℕ} {at n standing age : ℕ} (small : (i : ℕ) → get_or bytes i 0 < 256) (inside : at < length bytes) (s : State bytes array at n standing age)
-    {end : ℕ} (is-end : end ≡ at + 3 + two_at bytes (at + 1)) (within : end ≤ length bytes) (k : LayoutIs (get_or bytes at 0)) where
+    {end : ℕ} (is_end : end ≡ at + 3 + two_at bytes (at + 1)) (within : end ≤ length bytes) (k : LayoutIs (get_or bytes at 0)) where
   -- the record that More speaks of is the one that stands here
-  pub over-checks : {vs : List ℕ} {m : ℕ} (of : Age) (fields : List Field) (us children : Trees) (after : List ℕ)
-      → Takes bytes end (at + 3) (drop 1 (dated-row (get_or bytes at 0) (dates (get_or bytes at 0) (end - at - 3) age))) vs m
+  pub over_checks : {vs : List ℕ} {m : ℕ} (of : Age) (fields : List Field) (us children : Trees) (after : List ℕ)
+      → Takes bytes end (at + 3) (drop 1 (dated_row (get_or bytes at 0) (dates (get_or bytes at 0) (end - at - 3) age))) vs m
       → s.ts ≡ us ⊕ children → drop at bytes ≡ entry (get_or bytes at 0) fields ++ after → Over of (get_or bytes at 0) fields children → Row of (us ⊕ children)
       → Checks bytes (get_or bytes at 0) end (six vs) (roots s.ts [])
-  over-checks {vs} of fields us children after t whole here o row =
+  over_checks {vs} of fields us children after t whole here o row =
       let tag = get_or bytes at 0 in
-      let st : Stands s.ts (drop at bytes) tag _ = record { age = of; row = subst (λ (u : Trees). Row of u) (sym whole) row; fields = fields; after = after; here = here; told = form-laid o.form } in
-      let f = found bytes small at end inside is-end within s.dating k.is st in
+      let st : Stands s.ts (drop at bytes) tag _ = record { age = of; row = subst (λ (u : Trees). Row of u) (sym whole) row; fields = fields; after = after; here = here; told = form_laid o.form } in
+      let f = found bytes small at end inside is_end within s.dating k.is st in
       let v : values (dated of tag fields) ≡ six vs = f.valued ∙ ap six (takes_same f.takes t) in
-      let q = form-asked o.form in
-      let sm = small-laid bytes small end within (at + 3) (omega arith) (omega (arith, small (at + 1), small (at + 1 + 1))) f.laying f.paying in
-      let fo : forward (values (dated of tag fields)) ≡ true = forward-of (values (dated of tag fields)) (values-below (dated of tag fields) (6 - length (dated of tag fields)) (dated-small of tag fields sm) (forwards o.form).0) in
-      let r : back (tags children) (roots us []) ≡ roots s.ts [] = sym (ap (λ (u : Trees). roots u []) whole ∙ roots-row us children [] ∙ roots-back children (roots us [])) in
+      let q = form_asked o.form in
+      let sm = small_laid bytes small end within (at + 3) (omega arith) (omega (arith, small (at + 1), small (at + 1 + 1))) f.laying f.paying in
+      let fo : forward (values (dated of tag fields)) ≡ true = forward_of (values (dated of tag fields)) (values_below (dated of tag fields) (6 - length (dated of tag fields)) (dated_small of tag fields sm) (forwards o.form).0) in
+      let r : back (tags children) (roots us []) ≡ roots s.ts [] = sym (ap (λ (u : Trees). roots u []) whole ∙ roots-row us children [] ∙ roots_back children (roots us [])) in
       subst (λ (w : List ℕ). Checks bytes tag end w (roots s.ts [])) v (record {
         forwards = fo;
         fine = q.fine;
-        worded = subst (λ (u : List ℕ). Worded (asks tag (values (dated of tag fields))).text u) (sym (ap (λ (i : ℕ). tail-part i end bytes) q.size ∙ f.words)) q.text;
-        fit = subst (λ (u : List ℕ). Fit (asks tag (values (dated of tag fields))) u) r (fits-wanted (asks tag (values (dated of tag fields))) (tags children) (roots us []) q.wanted o.fits);
+        worded = subst (λ (u : List ℕ). Worded (asks tag (values (dated of tag fields))).text u) (sym (ap (λ (i : ℕ). tail_part i end bytes) q.size ∙ f.words)) q.text;
+        fit = subst (λ (u : List ℕ). Fit (asks tag (values (dated of tag fields))) u) r (fits_wanted (asks tag (values (dated of tag fields))) (tags children) (roots us []) q.wanted o.fits);
       })

@@ -10,7 +10,7 @@ use Rattle.grammar.specs.Tags.{FIELD}
 use Rattle.images.specs.declared.asks.Question.{Question}
 use Rattle.images.specs.declared.roots.Roots.{Roots}
 use Rattle.images.specs.declared.roots.Roots.TheVariants.{From, Other}
-use Rattle.images.specs.Inner.{is-a, sort-of, code, wide-code, COMP, Chain, pops, Lands, Open, Each, OneField, Group, Walked, Fit, Fitted, beyond}
+use Rattle.images.specs.Inner.{is_a, sort_of, code, wide_code, COMP, Chain, pops, Lands, Open, Each, OneField, Group, Walked, Fit, Fitted, beyond}
 
 pub no_true : {b : Bool} → b ≡ true → b ≡ false → ⊥
 no_true {b} e f = by (sym e ∙ f)
@@ -18,29 +18,29 @@ no_true {b} e f = by (sym e ∙ f)
     by : true ≡ false → ⊥
     by q = let z : ◌≡◌ {A = ℕ} 0 1 = cc in omega arith
 
-one-some : {tags : List ℕ} → OneField tags → 0 < length tags
-one-some (OneField.here e) = omega arith
-one-some (OneField.before i o) = omega arith
+one_some : {tags : List ℕ} → OneField tags → 0 < length tags
+one_some (OneField.here e) = omega arith
+one_some (OneField.before i o) = omega arith
 
 pub no_field : OneField [] → ⊥
-no_field o = omega (arith, one-some o)
+no_field o = omega (arith, one_some o)
 
-pub enough-left : (n k : ℕ) (tags : List ℕ) → n + k ≤ length tags → k ≤ length (drop n tags)
-enough-left n k tags h = omega (arith, length-drop n tags)
+pub enough_left : (n k : ℕ) (tags : List ℕ) → n + k ≤ length tags → k ≤ length (drop n tags)
+enough_left n k tags h = omega (arith, length-drop n tags)
 
-pub pops-one : (array : List ℕ) (m left : ℕ) → 0 < left → pops array m left ≡ pops array (get_or array ((m - 1) * 2 + 1) 0) (left - 1)
+pub pops_one : (array : List ℕ) (m left : ℕ) → 0 < left → pops array m left ≡ pops array (get_or array ((m - 1) * 2 + 1) 0) (left - 1)
 unfolding pops
-pops-one array m zero h = absurd (omega arith)
-pops-one array m (suc k) h = let e : k ≡ suc k - 1 = omega arith in ap (pops array (get_or array ((m - 1) * 2 + 1) 0)) e
+pops_one array m zero h = absurd (omega arith)
+pops_one array m (suc k) h = let e : k ≡ suc k - 1 = omega arith in ap (pops array (get_or array ((m - 1) * 2 + 1) 0)) e
 
-pub pops-none : (array : List ℕ) (m left : ℕ) → left ≡ 0 → m ≡ pops array m left
+pub pops_none : (array : List ℕ) (m left : ℕ) → left ≡ 0 → m ≡ pops array m left
 unfolding pops
-pops-none array m left e = sym (ap (pops array m) e)
+pops_none array m left e = sym (ap (pops array m) e)
 
-pub pops-add : (array : List ℕ) (m k l : ℕ) → pops array (pops array m k) l ≡ pops array m (k + l)
+pub pops_add : (array : List ℕ) (m k l : ℕ) → pops array (pops array m k) l ≡ pops array m (k + l)
 unfolding pops
-pops-add array m zero l = let e : l ≡ 0 + l = omega arith in ap (pops array m) e
-pops-add array m (suc k) l = let e : suc (k + l) ≡ suc k + l = omega arith in pops-add array (get_or array ((m - 1) * 2 + 1) 0) k l ∙ ap (pops array m) e
+pops_add array m zero l = let e : l ≡ 0 + l = omega arith in ap (pops array m) e
+pops_add array m (suc k) l = let e : suc (k + l) ≡ suc k + l = omega arith in pops_add array (get_or array ((m - 1) * 2 + 1) 0) k l ∙ ap (pops array m) e
 
 pub lands_as : {array : List ℕ} {from m k l : ℕ} {r : Roots} → pops array m l ≡ pops array from k → Lands array m l r → Lands array from k r
 lands_as e (Lands.at h) = Lands.at (h ∙ e)
@@ -49,29 +49,29 @@ lands_as e Lands.nowhere = Lands.nowhere
 landed : {array : List ℕ} {from k m : ℕ} → Lands array from k (From m) → m ≡ pops array from k
 landed (Lands.at h) = h
 
-pub lands-from : {array : List ℕ} {from k m : ℕ} {r : Roots} → r ≡ From m → Lands array from k r → m ≡ pops array from k
-lands-from {array} {from} {k} e h = landed (subst (λ (q : Roots). Lands array from k q) e h)
+pub lands_from : {array : List ℕ} {from k m : ℕ} {r : Roots} → r ≡ From m → Lands array from k r → m ≡ pops array from k
+lands_from {array} {from} {k} e h = landed (subst (λ (q : Roots). Lands array from k q) e h)
 
-pub lands-other : {array : List ℕ} {from k : ℕ} {r : Roots} → r ≡ Other → Lands array from k r
-lands-other {array} {from} {k} e = subst (λ (q : Roots). Lands array from k q) (sym e) Lands.nowhere
+pub lands_other : {array : List ℕ} {from k : ℕ} {r : Roots} → r ≡ Other → Lands array from k r
+lands_other {array} {from} {k} e = subst (λ (q : Roots). Lands array from k q) (sym e) Lands.nowhere
 
 module _ (bytes array : List ℕ) where
   -- The tag of a record by its number.
   abbrev pub tag_at : ℕ → ℕ
   tag_at m = get_or bytes (get_or array (m * 2) 0) 0
 
-  abbrev pub first-at : ℕ → ℕ
-  first-at m = get_or array (m * 2 + 1) 0
+  abbrev pub first_at : ℕ → ℕ
+  first_at m = get_or array (m * 2 + 1) 0
 
   -- The last root.
   pub record Top (m : ℕ) (tags : List ℕ) : Type 0 where
     pub some : 1 ≤ m
     pub in_array : (m - 1) * 2 + 1 < length array
     pub in_bytes : get_or array ((m - 1) * 2) 0 < length bytes
-    pub lower : first-at (m - 1) ≤ m - 1
+    pub lower : first_at (m - 1) ≤ m - 1
     pub rest : List ℕ
     pub here : tags ≡ tag_at (m - 1) ∷ rest
-    pub below : Chain bytes array (first-at (m - 1)) rest
+    pub below : Chain bytes array (first_at (m - 1)) rest
 
   pub top : {m : ℕ} {tags : List ℕ} → Chain bytes array m tags → 0 < length tags → Top m tags
   top Chain.none h = absurd (omega arith)
@@ -81,10 +81,10 @@ module _ (bytes array : List ℕ) where
         some = omega arith;
         in_array = subst (λ (i : ℕ). i * 2 + 1 < length array) e a;
         in_bytes = subst (λ (i : ℕ). get_or array (i * 2) 0 < length bytes) e b;
-        lower = subst (λ (i : ℕ). first-at i ≤ i) e l;
+        lower = subst (λ (i : ℕ). first_at i ≤ i) e l;
         rest = tags;
         here = ap (λ (i : ℕ). tag_at i ∷ tags) e;
-        below = subst (λ (i : ℕ). Chain bytes array (first-at i) tags) e c;
+        below = subst (λ (i : ℕ). Chain bytes array (first_at i) tags) e c;
       }
 
   -- What is left of a walk comes to what the whole walk comes to.
@@ -104,7 +104,7 @@ module _ (bytes array : List ℕ) where
 
       -- the next root does not decide
       pub goes_on : 0 < left → ((l : ℕ) (rest : List ℕ) (r : Roots) → Walked bytes array P l rest r → Walked bytes array P (suc l) (tag_at (m - 1) ∷ rest) r)
-          → Pending P n tags (first-at (m - 1)) (left - 1)
+          → Pending P n tags (first_at (m - 1)) (left - 1)
       goes_on h f =
           let t = last h in
           let e : suc (left - 1) ≡ left = omega arith in
@@ -127,97 +127,97 @@ module _ (bytes array : List ℕ) where
       pub ends : left ≡ 0 → P [] → Walked bytes array P n tags (From m)
       ends e p = x.back (From m) (subst (λ (k : ℕ). Walked bytes array P k x.rest (From m)) (sym e) (Walked.from p x.chain))
 
-      pub ends-other : left ≡ 0 → (P [] → ⊥) → Walked bytes array P n tags Other
-      ends-other e p = x.back Other (subst (λ (k : ℕ). Walked bytes array P k x.rest Other) (sym e) (Walked.other p))
+      pub ends_other : left ≡ 0 → (P [] → ⊥) → Walked bytes array P n tags Other
+      ends_other e p = x.back Other (subst (λ (k : ℕ). Walked bytes array P k x.rest Other) (sym e) (Walked.other p))
 
   -- ── Each of a sort ──────────────────────────────────────────────────────────────────────────────
 
   each_tail : {sort tag : ℕ} {tags : List ℕ} → Each sort (tag ∷ tags) → Each sort tags
   each_tail (Each.more i e) = e
 
-  each-head : {sort tag : ℕ} {tags : List ℕ} → Each sort (tag ∷ tags) → is-a tag sort ≡ true
-  each-head (Each.more i e) = i
+  each_head : {sort tag : ℕ} {tags : List ℕ} → Each sort (tag ∷ tags) → is_a tag sort ≡ true
+  each_head (Each.more i e) = i
 
-  pub each_more : {sort tag : ℕ} → is-a tag sort ≡ true → (l : ℕ) (rest : List ℕ) (r : Roots) → Walked bytes array (Each sort) l rest r
+  pub each_more : {sort tag : ℕ} → is_a tag sort ≡ true → (l : ℕ) (rest : List ℕ) (r : Roots) → Walked bytes array (Each sort) l rest r
       → Walked bytes array (Each sort) (suc l) (tag ∷ rest) r
   each_more i l rest r (Walked.from e c) = Walked.from (Each.more i e) c
   each_more i l rest r (Walked.other n) = Walked.other (λ e. n (each_tail e))
 
-  pub each-not : {sort tag : ℕ} {l : ℕ} {rest : List ℕ} → is-a tag sort ≡ false → Walked bytes array (Each sort) (suc l) (tag ∷ rest) Other
-  each-not i = Walked.other (λ e. no_true (each-head e) i)
+  pub each_not : {sort tag : ℕ} {l : ℕ} {rest : List ℕ} → is_a tag sort ≡ false → Walked bytes array (Each sort) (suc l) (tag ∷ rest) Other
+  each_not i = Walked.other (λ e. no_true (each_head e) i)
 
   -- ── One field ───────────────────────────────────────────────────────────────────────────────────
 
-  field-no-bind : is-a FIELD 6 ≡ true → ⊥
-  unfolding is-a sort-of code wide-code
-  field-no-bind e = no_true e refl
+  field_no_bind : is_a FIELD 6 ≡ true → ⊥
+  unfolding is_a sort_of code wide_code
+  field_no_bind e = no_true e refl
 
   field-first : {tags : List ℕ} → OneField (FIELD ∷ tags) → Each 6 tags
   field-first (OneField.here e) = e
-  field-first (OneField.before i o) = absurd (field-no-bind i)
+  field-first (OneField.before i o) = absurd (field_no_bind i)
 
   is_field : {tag : ℕ} {tags : List ℕ} → tag ≡ FIELD → OneField (tag ∷ tags) → Each 6 tags
   is_field {tag} {tags} e o = field-first (subst (λ (t : ℕ). OneField (t ∷ tags)) e o)
 
-  pub field-then : {tag l : ℕ} {rest : List ℕ} {r : Roots} → tag ≡ FIELD → Walked bytes array (Each 6) l rest r → Walked bytes array OneField (suc l) (tag ∷ rest) r
-  field-then {tag} {l} {rest} e (Walked.from x c) = Walked.from (subst (λ (t : ℕ). OneField (t ∷ take l rest)) (sym e) (OneField.here x)) c
-  field-then e (Walked.other n) = Walked.other (λ o. n (is_field e o))
+  pub field_then : {tag l : ℕ} {rest : List ℕ} {r : Roots} → tag ≡ FIELD → Walked bytes array (Each 6) l rest r → Walked bytes array OneField (suc l) (tag ∷ rest) r
+  field_then {tag} {l} {rest} e (Walked.from x c) = Walked.from (subst (λ (t : ℕ). OneField (t ∷ take l rest)) (sym e) (OneField.here x)) c
+  field_then e (Walked.other n) = Walked.other (λ o. n (is_field e o))
 
-  not-field : {tag : ℕ} {tags : List ℕ} → (tag ≡ FIELD → ⊥) → OneField (tag ∷ tags) → (is-a tag 6 ≡ true) × OneField tags
-  not-field n (OneField.here e) = absurd (n refl)
-  not-field n (OneField.before i o) = (i, o)
+  not_field : {tag : ℕ} {tags : List ℕ} → (tag ≡ FIELD → ⊥) → OneField (tag ∷ tags) → (is_a tag 6 ≡ true) × OneField tags
+  not_field n (OneField.here e) = absurd (n refl)
+  not_field n (OneField.before i o) = (i, o)
 
-  pub bind-more : {tag : ℕ} → (tag ≡ FIELD → ⊥) → is-a tag 6 ≡ true → (l : ℕ) (rest : List ℕ) (r : Roots) → Walked bytes array OneField l rest r
+  pub bind_more : {tag : ℕ} → (tag ≡ FIELD → ⊥) → is_a tag 6 ≡ true → (l : ℕ) (rest : List ℕ) (r : Roots) → Walked bytes array OneField l rest r
       → Walked bytes array OneField (suc l) (tag ∷ rest) r
-  bind-more n i l rest r (Walked.from o c) = Walked.from (OneField.before i o) c
-  bind-more n i l rest r (Walked.other m) = Walked.other (λ o. m (not-field n o).1)
+  bind_more n i l rest r (Walked.from o c) = Walked.from (OneField.before i o) c
+  bind_more n i l rest r (Walked.other m) = Walked.other (λ o. m (not_field n o).1)
 
-  pub bind-not : {tag l : ℕ} {rest : List ℕ} → (tag ≡ FIELD → ⊥) → is-a tag 6 ≡ false → Walked bytes array OneField (suc l) (tag ∷ rest) Other
-  bind-not n i = Walked.other (λ o. no_true (not-field n o).0 i)
+  pub bind_not : {tag l : ℕ} {rest : List ℕ} → (tag ≡ FIELD → ⊥) → is_a tag 6 ≡ false → Walked bytes array OneField (suc l) (tag ∷ rest) Other
+  bind_not n i = Walked.other (λ o. no_true (not_field n o).0 i)
 
-  pub rest-enough : {P : List ℕ → Type 0} {n m left : ℕ} {tags : List ℕ} (x : Pending P n tags m left) (t : Top m x.rest) → left - 1 ≤ length t.rest
-  rest-enough x t = omega (arith, x.enough, ap length t.here)
+  pub rest_enough : {P : List ℕ → Type 0} {n m left : ℕ} {tags : List ℕ} (x : Pending P n tags m left) (t : Top m x.rest) → left - 1 ≤ length t.rest
+  rest_enough x t = omega (arith, x.enough, ap length t.here)
 
   pub walked_as : {P : List ℕ → Type 0} {n : ℕ} {tags : List ℕ} {r q : Roots} → r ≡ q → Walked bytes array P n tags r → Walked bytes array P n tags q
   walked_as {P} {n} {tags} e w = subst (λ (r : Roots). Walked bytes array P n tags r) e w
 
-  pub fitted-as : {a : Question} {tags : List ℕ} {r q : Roots} → r ≡ q → Fitted bytes array a tags r → Fitted bytes array a tags q
-  fitted-as {a} {tags} e w = subst (λ (r : Roots). Fitted bytes array a tags r) e w
+  pub fitted_as : {a : Question} {tags : List ℕ} {r q : Roots} → r ≡ q → Fitted bytes array a tags r → Fitted bytes array a tags q
+  fitted_as {a} {tags} e w = subst (λ (r : Roots). Fitted bytes array a tags r) e w
 
   -- ── Groups ──────────────────────────────────────────────────────────────────────────────────────
 
-  group-comp : {tags : List ℕ} → Group COMP tags → OneField tags
-  group-comp (Group.each n e) = absurd (n refl)
-  group-comp (Group.comp o) = o
+  group_comp : {tags : List ℕ} → Group COMP tags → OneField tags
+  group_comp (Group.each n e) = absurd (n refl)
+  group_comp (Group.comp o) = o
 
-  pub comp-group : {sort n : ℕ} {tags : List ℕ} {r : Roots} → sort ≡ COMP → Walked bytes array OneField n tags r → Walked bytes array (Group sort) n tags r
-  comp-group {sort} {n} {tags} e (Walked.from o c) = Walked.from (subst (λ (s : ℕ). Group s (take n tags)) (sym e) (Group.comp o)) c
-  comp-group {sort} {n} {tags} e (Walked.other m) = Walked.other (λ g. m (group-comp (subst (λ (s : ℕ). Group s (take n tags)) e g)))
+  pub comp_group : {sort n : ℕ} {tags : List ℕ} {r : Roots} → sort ≡ COMP → Walked bytes array OneField n tags r → Walked bytes array (Group sort) n tags r
+  comp_group {sort} {n} {tags} e (Walked.from o c) = Walked.from (subst (λ (s : ℕ). Group s (take n tags)) (sym e) (Group.comp o)) c
+  comp_group {sort} {n} {tags} e (Walked.other m) = Walked.other (λ g. m (group_comp (subst (λ (s : ℕ). Group s (take n tags)) e g)))
 
-  group-each : {sort : ℕ} {tags : List ℕ} → (sort ≡ COMP → ⊥) → Group sort tags → Each sort tags
-  group-each m (Group.each n e) = e
-  group-each m (Group.comp o) = absurd (m refl)
+  group_each : {sort : ℕ} {tags : List ℕ} → (sort ≡ COMP → ⊥) → Group sort tags → Each sort tags
+  group_each m (Group.each n e) = e
+  group_each m (Group.comp o) = absurd (m refl)
 
-  pub each-group : {sort n : ℕ} {tags : List ℕ} {r : Roots} → (sort ≡ COMP → ⊥) → Walked bytes array (Each sort) n tags r → Walked bytes array (Group sort) n tags r
-  each-group m (Walked.from e c) = Walked.from (Group.each m e) c
-  each-group m (Walked.other n) = Walked.other (λ g. n (group-each m g))
+  pub each_group : {sort n : ℕ} {tags : List ℕ} {r : Roots} → (sort ≡ COMP → ⊥) → Walked bytes array (Each sort) n tags r → Walked bytes array (Group sort) n tags r
+  each_group m (Walked.from e c) = Walked.from (Group.each m e) c
+  each_group m (Walked.other n) = Walked.other (λ g. n (group_each m g))
 
   -- ── Three groups ────────────────────────────────────────────────────────────────────────────────
 
-  pub from-of : {P : List ℕ → Type 0} {n m : ℕ} {tags : List ℕ} → Walked bytes array P n tags (From m) → P (take n tags) × Chain bytes array m (drop n tags)
-  from-of (Walked.from p c) = (p, c)
+  pub from_of : {P : List ℕ → Type 0} {n m : ℕ} {tags : List ℕ} → Walked bytes array P n tags (From m) → P (take n tags) × Chain bytes array m (drop n tags)
+  from_of (Walked.from p c) = (p, c)
 
-  pub other-of : {P : List ℕ → Type 0} {n : ℕ} {tags : List ℕ} → Walked bytes array P n tags Other → P (take n tags) → ⊥
-  other-of (Walked.other n) = n
+  pub other_of : {P : List ℕ → Type 0} {n : ℕ} {tags : List ℕ} → Walked bytes array P n tags Other → P (take n tags) → ⊥
+  other_of (Walked.other n) = n
 
   module _ (a : Question) (tags : List ℕ) where
-    pub fit-third : Walked bytes array (Group a.s3) a.n3 tags Other → Fitted bytes array a tags Other
-    fit-third w = Fitted.other (λ f. other-of w f.third)
+    pub fit_third : Walked bytes array (Group a.s3) a.n3 tags Other → Fitted bytes array a tags Other
+    fit_third w = Fitted.other (λ f. other_of w f.third)
 
-    pub fit-second : Walked bytes array (Group a.s2) a.n2 (drop a.n3 tags) Other → Fitted bytes array a tags Other
-    fit-second w = Fitted.other (λ f. other-of w f.second)
+    pub fit_second : Walked bytes array (Group a.s2) a.n2 (drop a.n3 tags) Other → Fitted bytes array a tags Other
+    fit_second w = Fitted.other (λ f. other_of w f.second)
 
-    pub fit-first : {r : Roots} → Group a.s3 (take a.n3 tags) → Group a.s2 (take a.n2 (drop a.n3 tags))
+    pub fit_first : {r : Roots} → Group a.s3 (take a.n3 tags) → Group a.s2 (take a.n2 (drop a.n3 tags))
         → Walked bytes array (Group a.s1) a.n1 (drop a.n2 (drop a.n3 tags)) r → Fitted bytes array a tags r
-    fit-first g h (Walked.from p c) = Fitted.from (record { third = g; second = h; first = p }) c
-    fit-first g h (Walked.other n) = Fitted.other (λ f. n f.first)
+    fit_first g h (Walked.from p c) = Fitted.from (record { third = g; second = h; first = p }) c
+    fit_first g h (Walked.other n) = Fitted.other (λ f. n f.first)

@@ -16,14 +16,14 @@ pub record Record : Type 0 where
   pub children : List ℕ
 
 -- R40. The numbers of the roots of a row whose records are numbered from `first` on: each stands behind the records of its children.
-unfoldable pub root-numbers : ℕ → Trees → List ℕ
-root-numbers first none = []
-root-numbers first (node tag fields children ts) = (first + records children) ∷ root-numbers (first + records children + 1) ts
+unfoldable pub root_numbers : ℕ → Trees → List ℕ
+root_numbers first none = []
+root_numbers first (node tag fields children ts) = (first + records children) ∷ root_numbers (first + records children + 1) ts
 
 -- R40. The records of a row that begins at an offset, with a number.
 pub data Holds : ℕ → ℕ → Trees → Record → Type 0 where
   root : {at first tag : ℕ} {fields : List Field} {children ts : Trees}
-      → Holds at first (node tag fields children ts) (record { number = first + records children; offset = at + length (image children); tag = tag; fields = fields; children = root-numbers first children })
+      → Holds at first (node tag fields children ts) (record { number = first + records children; offset = at + length (image children); tag = tag; fields = fields; children = root_numbers first children })
   under : {at first tag : ℕ} {fields : List Field} {children ts : Trees} {r : Record} → Holds at first children r → Holds at first (node tag fields children ts) r
   beside : {at first tag : ℕ} {fields : List Field} {children ts : Trees} {r : Record}
       → Holds (at + length (image children) + length (entry tag fields)) (first + records children + 1) ts r → Holds at first (node tag fields children ts) r

@@ -7,7 +7,7 @@ use Rattle.grammar.specs.Trees.{Field, span, Trees, none, node, tree, ◌⊕◌,
 use Rattle.grammar.specs.Image.{entry, image}
 use Rattle.grammar.specs.Records.{Sort, Spans, Obeys}
 use Rattle.grammar.specs.Layout.{Layout, layout_of, Tells}
-use Rattle.grammar.specs.Answer.{prefix-power}
+use Rattle.grammar.specs.Answer.{prefix_power}
 use Rattle.grammar.specs.Derived.{Spanned, Derived}
 use Rattle.images.specs.declared.Answer.{Answer}
 use Rattle.images.specs.declared.Answer.TheVariants.{Tree, Unknown, Malformed, Children, Underived, Short}
@@ -23,10 +23,10 @@ unfoldable pub dated : Age → ℕ → List Field → List Field
 dated new tag fields = fields
 dated old tag fields = cond (eqb tag INFIX) (fields ++ span 0 0 ∷ []) fields
 
-unfoldable pub dated-trees : Age → Trees → Trees
+unfoldable pub dated_trees : Age → Trees → Trees
 unfolding dated
-dated-trees age none = none
-dated-trees age (node tag fields children ts) = node tag (dated age tag fields) (dated-trees age children) (dated-trees age ts)
+dated_trees age none = none
+dated_trees age (node tag fields children ts) = node tag (dated age tag fields) (dated_trees age children) (dated_trees age ts)
 
 -- ── What is accepted ──────────────────────────────────────────────────────────────────────────────
 
@@ -34,8 +34,8 @@ dated-trees age (node tag fields children ts) = node tag (dated age tag fields) 
 -- and spans disregarded, but span ends must not precede starts": these bytes are the image of t. (Of spans also "where absent, not 0".)
 pub record Accepted (bytes : List ℕ) (t : Trees) : Type 0 where
   pub age : Age
-  pub derived : Derived (prefix-power 7) 7 (dated-trees age t)
-  pub spanned : Spanned (dated-trees age t)
+  pub derived : Derived (prefix_power 7) 7 (dated_trees age t)
+  pub spanned : Spanned (dated_trees age t)
   pub written : bytes ≡ image t
 
 -- ── What is refused ───────────────────────────────────────────────────────────────────────────────
@@ -43,7 +43,7 @@ pub record Accepted (bytes : List ℕ) (t : Trees) : Type 0 where
 -- R52. Trees side by side, each as the table of records has it.
 pub record Row (age : Age) (ts : Trees) : Type 0 where
   pub sorts : List Sort
-  pub obeys : Obeys Spans.forward sorts (dated-trees age ts)
+  pub obeys : Obeys Spans.forward sorts (dated_trees age ts)
 
 -- R52. "the first bad record deciding": the records before it are trees side by side, and `rest` is what follows them.
 pub record Before (bytes : List ℕ) (ts : Trees) (rest : List ℕ) : Type 0 where
@@ -88,8 +88,8 @@ pub data Refused (bytes : List ℕ) : Answer → Type 0 where
   -- "an empty image, or roots left over at the end, is 15 at the image's length"
   left_over : {ts : Trees} → Before bytes ts [] → (count ts ≡ 1 → ⊥) → Refused bytes (Children (length bytes))
   -- 16 "a .. lone root that no derivation gives", at its own record
-  lone-root : {tag : ℕ} {fields : List Field} {children : Trees} (b : Before bytes (tree tag fields children) [])
-      → (Derived (prefix-power 7) 7 (dated-trees b.age (tree tag fields children)) → ⊥) → Refused bytes (Underived (length (image children)))
+  lone_root : {tag : ℕ} {fields : List Field} {children : Trees} (b : Before bytes (tree tag fields children) [])
+      → (Derived (prefix_power 7) 7 (dated_trees b.age (tree tag fields children)) → ⊥) → Refused bytes (Underived (length (image children)))
 
 -- ── The lent array ────────────────────────────────────────────────────────────────────────────────
 

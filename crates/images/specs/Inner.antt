@@ -3,9 +3,9 @@
 -- Assumes nothing.
 use Rattle.std.specs.Prelude.{◌≡◌, Bool, true, false, cond, not, ◌&&◌, ◌||◌, List, [], ◌∷◌, ◌++◌, ℕ, zero, suc, ◌+◌, ◌-◌, ◌*◌, ◌/◌, ◌%◌, ◌≤◌, ◌<◌, T, eqb, leb, ltb, length, take, drop, get_or, replicate}
 use Rattle.strings.specs.Utf8.{Utf8}
-use Rattle.lexemes.specs.Texts.{All, isDigit, Fraction, Exponent}
-use Rattle.grammar.specs.Tags.{IDENTITY, NULL, BOOL, NUMBER, STRING, VARIABLE, ARRAY, ARRAY-COMP, MEMBERS, OBJECT-COMP, EXTENSION, PREFIX, INFIX, ASSERT-EXPR, LOCAL, IMPORT, ERROR, CALL}
-use Rattle.grammar.specs.Tags.{NAMED-ARGUMENT, INDEX-PART, FUNCTION, IF, SLICE, BIND, NAME-PATTERN, SKIP, ARRAY-PATTERN, OBJECT-PATTERN, PATTERN-FIELD, PARAMETER, FIELD, ASSERT, FOR, IF-CLAUSE, OBJECT-ITERATION}
+use Rattle.lexemes.specs.Texts.{All, is_digit, Fraction, Exponent}
+use Rattle.grammar.specs.Tags.{IDENTITY, NULL, BOOL, NUMBER, STRING, VARIABLE, ARRAY, ARRAY_COMP, MEMBERS, OBJECT_COMP, EXTENSION, PREFIX, INFIX, ASSERT_EXPR, LOCAL, IMPORT, ERROR, CALL}
+use Rattle.grammar.specs.Tags.{NAMED_ARGUMENT, INDEX_PART, FUNCTION, IF, SLICE, BIND, NAME_PATTERN, SKIP, ARRAY_PATTERN, OBJECT_PATTERN, PATTERN_FIELD, PARAMETER, FIELD, ASSERT, FOR, IF_CLAUSE, OBJECT_ITERATION}
 use Rattle.grammar.specs.Words.{NameText, NumberText}
 use Rattle.grammar.specs.Trees.{Field, Trees, tree, ◌⊕◌, count}
 use Rattle.grammar.specs.Trees as trees
@@ -35,12 +35,12 @@ use Rattle.images.specs.declared.records.Step.TheVariants.{Next, Unknown, Malfor
 -- The digits from i on end at r. (Past the end stands 0, which is none.)
 pub record Digits (s : List ℕ) (i r : ℕ) : Type 0 where
   pub forward : i ≤ r
-  pub each : (k : ℕ) → i ≤ k → k < r → T (isDigit (get_or s k 0))
-  pub over : T (isDigit (get_or s r 0)) → ⊥
+  pub each : (k : ℕ) → i ≤ k → k < r → T (is_digit (get_or s k 0))
+  pub over : T (is_digit (get_or s r 0)) → ⊥
 
 -- A digit or more.
 pub data Some : List ℕ → Type 0 where
-  some : {b : ℕ} {bs : List ℕ} → T (isDigit b) → All isDigit bs → Some (b ∷ bs)
+  some : {b : ℕ} {bs : List ℕ} → T (is_digit b) → All is_digit bs → Some (b ∷ bs)
 
 -- What may stand behind a numeral's whole part.
 pub data Tail : List ℕ → Type 0 where
@@ -63,19 +63,19 @@ span_value a e = cond (leb a e) (a + e) BACKWARD
 unfoldable pub limit : ℕ → ℕ
 limit code = cond (eqb code 4) 2 (cond (eqb code 5) 8 (code - 8))
 
-unfoldable pub told-by : ℕ → ℕ → ℕ
-told-by code b = cond (eqb code 4) b (cond (eqb code 5) (bits_in b) 0)
+unfoldable pub told_by : ℕ → ℕ → ℕ
+told_by code b = cond (eqb code 4) b (cond (eqb code 5) (bits_in b) 0)
 
 -- A part by its code (grammar::layout), at a place of a payload that ends at `end`: its value, the place after it, the children that it tells of.
 pub data Gets (bytes : List ℕ) (at end : ℕ) : ℕ → Got → Type 0 where
-  a-span : at + 4 ≤ end → Gets bytes at end 1 (Value (span_value (two_at bytes at) (two_at bytes (at + 2))) (at + 4) 0)
+  a_span : at + 4 ≤ end → Gets bytes at end 1 (Value (span_value (two_at bytes at) (two_at bytes (at + 2))) (at + 4) 0)
   no_span : end < at + 4 → Gets bytes at end 1 Wrong
-  a-text : Gets bytes at end 2 (Value (end - at) end 0)
-  a-count : at + 2 ≤ end → Gets bytes at end 3 (Value (two_at bytes at) (at + 2) (two_at bytes at))
-  no-count : end < at + 2 → Gets bytes at end 3 Wrong
-  a_byte : {code : ℕ} → 4 ≤ code → at < end → get_or bytes at 0 < limit code → Gets bytes at end code (Value (get_or bytes at 0) (at + 1) (told-by code (get_or bytes at 0)))
+  a_text : Gets bytes at end 2 (Value (end - at) end 0)
+  a_count : at + 2 ≤ end → Gets bytes at end 3 (Value (two_at bytes at) (at + 2) (two_at bytes at))
+  no_count : end < at + 2 → Gets bytes at end 3 Wrong
+  a_byte : {code : ℕ} → 4 ≤ code → at < end → get_or bytes at 0 < limit code → Gets bytes at end code (Value (get_or bytes at 0) (at + 1) (told_by code (get_or bytes at 0)))
   no_byte : {code : ℕ} → 4 ≤ code → end ≤ at → Gets bytes at end code Wrong
-  bad-byte : {code : ℕ} → 4 ≤ code → at < end → limit code ≤ get_or bytes at 0 → Gets bytes at end code Wrong
+  bad_byte : {code : ℕ} → 4 ≤ code → at < end → limit code ≤ get_or bytes at 0 → Gets bytes at end code Wrong
 
 abbrev pub kids : Got → ℕ
 kids (Value v next k) = k
@@ -90,7 +90,7 @@ pub data Takes (bytes : List ℕ) (end : ℕ) : ℕ → List ℕ → List ℕ �
 -- Or one of them is wrong, or bytes are left over.
 pub data Fails (bytes : List ℕ) (end : ℕ) : ℕ → List ℕ → Type 0 where
   left : {at : ℕ} {cs : List ℕ} → (at ≡ end → ⊥) → Fails bytes end at (0 ∷ cs)
-  left-last : {at : ℕ} → (at ≡ end → ⊥) → Fails bytes end at []
+  left_last : {at : ℕ} → (at ≡ end → ⊥) → Fails bytes end at []
   wrong : {at c : ℕ} {cs : List ℕ} → (c ≡ 0 → ⊥) → Gets bytes at end c Wrong → Fails bytes end at (c ∷ cs)
   later : {at v next k c : ℕ} {cs : List ℕ} → (c ≡ 0 → ⊥) → Gets bytes at end c (Value v next k) → Fails bytes end next cs → Fails bytes end at (c ∷ cs)
 
@@ -124,11 +124,11 @@ code records.field = 7
 code records.assertion = 8
 code records.member = 9
 code records.iteration = 10
-code records.if-clause = 11
+code records.if_clause = 11
 code records.clause = 12
 code records.pattern = 13
-code records.name-pattern = 14
-code records.pattern-field = 15
+code records.name_pattern = 14
+code records.pattern_field = 15
 
 abbrev pub COMP : ℕ
 COMP = 16
@@ -136,14 +136,14 @@ COMP = 16
 -- What a record is, by its tag.
 unfoldable pub sorts : List (Entry Sort)
 sorts =
-    (STRING is records.string) ∷ (MEMBERS is records.object) ∷ (OBJECT-COMP is records.object) ∷ (NAMED-ARGUMENT is records.named) ∷ (INDEX-PART is records.run) ∷
-    (BIND is records.bind) ∷ (NAME-PATTERN is records.name-pattern) ∷ (SKIP is records.pattern) ∷ (ARRAY-PATTERN is records.pattern) ∷ (OBJECT-PATTERN is records.pattern) ∷
-    (PATTERN-FIELD is records.pattern-field) ∷ (PARAMETER is records.param) ∷ (FIELD is records.field) ∷ (ASSERT is records.assertion) ∷ (FOR is records.iteration) ∷
-    (IF-CLAUSE is records.if-clause) ∷ (OBJECT-ITERATION is records.iteration) ∷ []
+    (STRING is records.string) ∷ (MEMBERS is records.object) ∷ (OBJECT_COMP is records.object) ∷ (NAMED_ARGUMENT is records.named) ∷ (INDEX_PART is records.run) ∷
+    (BIND is records.bind) ∷ (NAME_PATTERN is records.name_pattern) ∷ (SKIP is records.pattern) ∷ (ARRAY_PATTERN is records.pattern) ∷ (OBJECT_PATTERN is records.pattern) ∷
+    (PATTERN_FIELD is records.pattern_field) ∷ (PARAMETER is records.param) ∷ (FIELD is records.field) ∷ (ASSERT is records.assertion) ∷ (FOR is records.iteration) ∷
+    (IF_CLAUSE is records.if_clause) ∷ (OBJECT_ITERATION is records.iteration) ∷ []
 
-unfoldable pub sort-of : ℕ → Sort
+unfoldable pub sort_of : ℕ → Sort
 unfolding look sorts
-sort-of tag = look records.expression tag sorts
+sort_of tag = look records.expression tag sorts
 
 -- What else it is.
 unfoldable pub wider : Sort → Sort
@@ -158,45 +158,45 @@ wider records.field = records.member
 wider records.assertion = records.member
 wider records.member = records.member
 wider records.iteration = records.clause
-wider records.if-clause = records.clause
+wider records.if_clause = records.clause
 wider records.clause = records.clause
 wider records.pattern = records.pattern
-wider records.name-pattern = records.pattern
-wider records.pattern-field = records.pattern-field
+wider records.name_pattern = records.pattern
+wider records.pattern_field = records.pattern_field
 
 unfoldable pub wides : List (Entry ℕ)
 wides = (1 is 0) ∷ (2 is 0) ∷ (3 is 0) ∷ (6 is 9) ∷ (7 is 9) ∷ (8 is 9) ∷ (10 is 12) ∷ (11 is 12) ∷ (14 is 13) ∷ []
 
-unfoldable pub wide-code : ℕ → ℕ
+unfoldable pub wide_code : ℕ → ℕ
 unfolding look wides
-wide-code c = look c c wides
+wide_code c = look c c wides
 
 -- A record of this tag is of the sort with this number.
-unfoldable pub is-a : ℕ → ℕ → Bool
-unfolding sort-of code wide-code
-is-a tag wanted = eqb (code (sort-of tag)) wanted || eqb (wide-code (code (sort-of tag))) wanted
+unfoldable pub is_a : ℕ → ℕ → Bool
+unfolding sort_of code wide_code
+is_a tag wanted = eqb (code (sort_of tag)) wanted || eqb (wide_code (code (sort_of tag))) wanted
 
 -- A number that is 0 unless a flag is set; and one that is 0 where it is, the other where it is not.
 unfoldable pub unless : ℕ → ℕ → Bool
 unless flag n = cond (eqb flag 0) (eqb n 0) true
 
-unfoldable pub method-fine : ℕ → ℕ → ℕ → Bool
-method-fine plus method n = cond (eqb method 0) (eqb n 0) (eqb plus 0)
+unfoldable pub method_fine : ℕ → ℕ → ℕ → Bool
+method_fine plus method n = cond (eqb method 0) (eqb n 0) (eqb plus 0)
 
-unfoldable pub slice-fine : ℕ → ℕ → ℕ → ℕ → Bool
+unfoldable pub slice_fine : ℕ → ℕ → ℕ → ℕ → Bool
 unfolding unless
-slice-fine b x y z = unless (b % 2) x && (unless (b / 2 % 2) y && unless (b / 4 % 2) z)
+slice_fine b x y z = unless (b % 2) x && (unless (b / 2 % 2) y && unless (b / 4 % 2) z)
 
 unfoldable pub pick : ℕ → ℕ → ℕ → ℕ
 pick b zero-case other = cond (eqb b 0) zero-case other
 
 -- The last bytes before an end.
-abbrev pub tail-part : ℕ → ℕ → List ℕ → List ℕ
-tail-part size end bytes = take (end - (end - size)) (drop (end - size) bytes)
+abbrev pub tail_part : ℕ → ℕ → List ℕ → List ℕ
+tail_part size end bytes = take (end - (end - size)) (drop (end - size) bytes)
 
 -- What is asked of a text: nothing, a number, UTF-8, a name, that it is empty.
-abbrev pub rest-kind : ℕ → ℕ
-rest-kind b = cond (eqb b 2) 3 4
+abbrev pub rest_kind : ℕ → ℕ
+rest_kind b = cond (eqb b 2) 3 4
 
 pub data Worded : ℕ → List ℕ → Type 0 where
   free : {w : List ℕ} → Worded 0 w
@@ -215,34 +215,34 @@ rows =
     (STRING is (0 ∷ 0 ∷ 0 ∷ 0 ∷ 0 ∷ 0 ∷ 0 ∷ 2 ∷ 8 ∷ [])) ∷
     (VARIABLE is (0 ∷ 0 ∷ 0 ∷ 0 ∷ 0 ∷ 0 ∷ 0 ∷ 3 ∷ 9 ∷ [])) ∷
     (ARRAY is (0 ∷ 8 ∷ 0 ∷ 0 ∷ 0 ∷ 0 ∷ 0 ∷ 0 ∷ 0 ∷ [])) ∷
-    (ARRAY-COMP is (1 ∷ 1 ∷ 0 ∷ 1 ∷ 10 ∷ 16 ∷ 12 ∷ 0 ∷ 0 ∷ [])) ∷
+    (ARRAY_COMP is (1 ∷ 1 ∷ 0 ∷ 1 ∷ 10 ∷ 16 ∷ 12 ∷ 0 ∷ 0 ∷ [])) ∷
     (MEMBERS is (0 ∷ 8 ∷ 9 ∷ 0 ∷ 0 ∷ 0 ∷ 0 ∷ 0 ∷ 0 ∷ [])) ∷
-    (OBJECT-COMP is (2 ∷ 8 ∷ 16 ∷ 1 ∷ 10 ∷ 17 ∷ 12 ∷ 0 ∷ 0 ∷ [])) ∷
+    (OBJECT_COMP is (2 ∷ 8 ∷ 16 ∷ 1 ∷ 10 ∷ 17 ∷ 12 ∷ 0 ∷ 0 ∷ [])) ∷
     (EXTENSION is (0 ∷ 1 ∷ 0 ∷ 1 ∷ 3 ∷ 0 ∷ 0 ∷ 0 ∷ 0 ∷ [])) ∷
     (PREFIX is (0 ∷ 1 ∷ 0 ∷ 0 ∷ 0 ∷ 0 ∷ 0 ∷ 0 ∷ 0 ∷ [])) ∷
     (INFIX is (0 ∷ 2 ∷ 0 ∷ 0 ∷ 0 ∷ 0 ∷ 0 ∷ 0 ∷ 0 ∷ [])) ∷
-    (ASSERT-EXPR is (0 ∷ 1 ∷ 8 ∷ 1 ∷ 0 ∷ 0 ∷ 0 ∷ 0 ∷ 0 ∷ [])) ∷
+    (ASSERT_EXPR is (0 ∷ 1 ∷ 8 ∷ 1 ∷ 0 ∷ 0 ∷ 0 ∷ 0 ∷ 0 ∷ [])) ∷
     (LOCAL is (0 ∷ 8 ∷ 6 ∷ 1 ∷ 0 ∷ 0 ∷ 0 ∷ 0 ∷ 0 ∷ [])) ∷
     (IMPORT is (0 ∷ 1 ∷ 0 ∷ 0 ∷ 0 ∷ 0 ∷ 0 ∷ 0 ∷ 0 ∷ [])) ∷
     (ERROR is (0 ∷ 1 ∷ 0 ∷ 0 ∷ 0 ∷ 0 ∷ 0 ∷ 0 ∷ 0 ∷ [])) ∷
     (CALL is (0 ∷ 1 ∷ 0 ∷ 10 ∷ 0 ∷ 11 ∷ 4 ∷ 0 ∷ 0 ∷ [])) ∷
-    (NAMED-ARGUMENT is (0 ∷ 1 ∷ 0 ∷ 0 ∷ 0 ∷ 0 ∷ 0 ∷ 3 ∷ 8 ∷ [])) ∷
-    (INDEX-PART is (0 ∷ 1 ∷ 32 ∷ 1 ∷ 0 ∷ 0 ∷ 0 ∷ 0 ∷ 0 ∷ [])) ∷
+    (NAMED_ARGUMENT is (0 ∷ 1 ∷ 0 ∷ 0 ∷ 0 ∷ 0 ∷ 0 ∷ 3 ∷ 8 ∷ [])) ∷
+    (INDEX_PART is (0 ∷ 1 ∷ 32 ∷ 1 ∷ 0 ∷ 0 ∷ 0 ∷ 0 ∷ 0 ∷ [])) ∷
     (FUNCTION is (0 ∷ 9 ∷ 5 ∷ 1 ∷ 0 ∷ 0 ∷ 0 ∷ 0 ∷ 0 ∷ [])) ∷
     (IF is (0 ∷ 2 ∷ 0 ∷ 9 ∷ 0 ∷ 0 ∷ 0 ∷ 0 ∷ 0 ∷ [])) ∷
     (SLICE is (3 ∷ 1 ∷ 0 ∷ 24 ∷ 0 ∷ 0 ∷ 0 ∷ 0 ∷ 0 ∷ [])) ∷
     (BIND is (4 ∷ 1 ∷ 33 ∷ 9 ∷ 5 ∷ 1 ∷ 0 ∷ 0 ∷ 0 ∷ [])) ∷
-    (NAME-PATTERN is (0 ∷ 0 ∷ 0 ∷ 0 ∷ 0 ∷ 0 ∷ 0 ∷ 3 ∷ 9 ∷ [])) ∷
+    (NAME_PATTERN is (0 ∷ 0 ∷ 0 ∷ 0 ∷ 0 ∷ 0 ∷ 0 ∷ 3 ∷ 9 ∷ [])) ∷
     (SKIP is (0 ∷ 0 ∷ 0 ∷ 0 ∷ 0 ∷ 0 ∷ 0 ∷ 0 ∷ 0 ∷ [])) ∷
-    (ARRAY-PATTERN is (5 ∷ 8 ∷ 13 ∷ 10 ∷ 13 ∷ 0 ∷ 0 ∷ 5 ∷ 11 ∷ [])) ∷
-    (OBJECT-PATTERN is (0 ∷ 8 ∷ 15 ∷ 0 ∷ 0 ∷ 0 ∷ 0 ∷ 5 ∷ 10 ∷ [])) ∷
-    (PATTERN-FIELD is (5 ∷ 8 ∷ 13 ∷ 9 ∷ 0 ∷ 0 ∷ 0 ∷ 3 ∷ 11 ∷ [])) ∷
+    (ARRAY_PATTERN is (5 ∷ 8 ∷ 13 ∷ 10 ∷ 13 ∷ 0 ∷ 0 ∷ 5 ∷ 11 ∷ [])) ∷
+    (OBJECT_PATTERN is (0 ∷ 8 ∷ 15 ∷ 0 ∷ 0 ∷ 0 ∷ 0 ∷ 5 ∷ 10 ∷ [])) ∷
+    (PATTERN_FIELD is (5 ∷ 8 ∷ 13 ∷ 9 ∷ 0 ∷ 0 ∷ 0 ∷ 3 ∷ 11 ∷ [])) ∷
     (PARAMETER is (0 ∷ 1 ∷ 13 ∷ 8 ∷ 0 ∷ 0 ∷ 0 ∷ 0 ∷ 0 ∷ [])) ∷
     (FIELD is (6 ∷ 1 ∷ 34 ∷ 12 ∷ 5 ∷ 1 ∷ 0 ∷ 0 ∷ 0 ∷ [])) ∷
     (ASSERT is (0 ∷ 1 ∷ 0 ∷ 9 ∷ 0 ∷ 0 ∷ 0 ∷ 0 ∷ 0 ∷ [])) ∷
     (FOR is (0 ∷ 1 ∷ 13 ∷ 1 ∷ 0 ∷ 0 ∷ 0 ∷ 0 ∷ 0 ∷ [])) ∷
-    (IF-CLAUSE is (0 ∷ 1 ∷ 0 ∷ 0 ∷ 0 ∷ 0 ∷ 0 ∷ 0 ∷ 0 ∷ [])) ∷
-    (OBJECT-ITERATION is (0 ∷ 1 ∷ 13 ∷ 1 ∷ 0 ∷ 0 ∷ 0 ∷ 3 ∷ 9 ∷ [])) ∷
+    (IF_CLAUSE is (0 ∷ 1 ∷ 0 ∷ 0 ∷ 0 ∷ 0 ∷ 0 ∷ 0 ∷ 0 ∷ [])) ∷
+    (OBJECT_ITERATION is (0 ∷ 1 ∷ 13 ∷ 1 ∷ 0 ∷ 0 ∷ 0 ∷ 3 ∷ 9 ∷ [])) ∷
     []
 
 unfoldable pub row_of : ℕ → List ℕ
@@ -254,33 +254,33 @@ unfoldable pub count_by : ℕ → List ℕ → ℕ
 count_by c v = cond (ltb c 8) c (cond (ltb c 14) (get_or v (c - 8) 0) (cond (ltb c 16) 0 (cond (ltb c 22) (get_or v (c - 16) 0 - 1) (bits_in (get_or v 0 0)))))
 
 -- Below 32 a sort; else one of two, by a flag.
-unfoldable pub sort-by : ℕ → List ℕ → ℕ
+unfoldable pub sort_by : ℕ → List ℕ → ℕ
 unfolding pick
-sort-by c v = cond (ltb c 32) c (cond (eqb c 32) (pick (get_or v 1 0) 2 0) (cond (eqb c 33) (pick (get_or v 0 0) 13 14) (pick (get_or v 1 0) 1 0)))
+sort_by c v = cond (ltb c 32) c (cond (eqb c 32) (pick (get_or v 1 0) 2 0) (cond (eqb c 33) (pick (get_or v 0 0) 13 14) (pick (get_or v 1 0) 1 0)))
 
-unfoldable pub text-by : ℕ → List ℕ → ℕ
-text-by c v = cond (ltb c 5) c (rest-kind (get_or v 1 0))
+unfoldable pub text_by : ℕ → List ℕ → ℕ
+text_by c v = cond (ltb c 5) c (rest_kind (get_or v 1 0))
 
 unfoldable pub fines : List ℕ → List (Entry Bool)
-unfolding unless slice-fine method-fine
+unfolding unless slice_fine method_fine
 fines v =
-    (0 is true) ∷ (1 is leb 1 (get_or v 0 0)) ∷ (2 is leb 1 (get_or v 1 0)) ∷ (3 is slice-fine (get_or v 0 0) (get_or v 1 0) (get_or v 2 0) (get_or v 3 0)) ∷
-    (4 is unless (get_or v 0 0) (get_or v 1 0)) ∷ (5 is unless (get_or v 1 0) (get_or v 2 0)) ∷ (6 is method-fine (get_or v 2 0) (get_or v 3 0) (get_or v 4 0)) ∷ []
+    (0 is true) ∷ (1 is leb 1 (get_or v 0 0)) ∷ (2 is leb 1 (get_or v 1 0)) ∷ (3 is slice_fine (get_or v 0 0) (get_or v 1 0) (get_or v 2 0) (get_or v 3 0)) ∷
+    (4 is unless (get_or v 0 0) (get_or v 1 0)) ∷ (5 is unless (get_or v 1 0) (get_or v 2 0)) ∷ (6 is method_fine (get_or v 2 0) (get_or v 3 0) (get_or v 4 0)) ∷ []
 
-unfoldable pub fine-by : ℕ → List ℕ → Bool
+unfoldable pub fine_by : ℕ → List ℕ → Bool
 unfolding look fines
-fine-by c v = look false c (fines v)
+fine_by c v = look false c (fines v)
 
 abbrev pub question : Bool → ℕ → ℕ → ℕ → ℕ → ℕ → ℕ → ℕ → ℕ → Question
 question fine n1 s1 n2 s2 n3 s3 text size = record { fine = fine; n1 = n1; s1 = s1; n2 = n2; s2 = s2; n3 = n3; s3 = s3; text = text; size = size }
 
 abbrev pub decoded : List ℕ → List ℕ → Question
 decoded r v =
-    question (fine-by (get_or r 0 0) v) (count_by (get_or r 1 0) v) (sort-by (get_or r 2 0) v) (count_by (get_or r 3 0) v) (sort-by (get_or r 4 0) v) (count_by (get_or r 5 0) v)
-    (sort-by (get_or r 6 0) v) (text-by (get_or r 7 0) v) (count_by (get_or r 8 0) v)
+    question (fine_by (get_or r 0 0) v) (count_by (get_or r 1 0) v) (sort_by (get_or r 2 0) v) (count_by (get_or r 3 0) v) (sort_by (get_or r 4 0) v) (count_by (get_or r 5 0) v)
+    (sort_by (get_or r 6 0) v) (text_by (get_or r 7 0) v) (count_by (get_or r 8 0) v)
 
 unfoldable pub asks : ℕ → List ℕ → Question
-unfolding row_of count_by sort-by text-by fine-by
+unfolding row_of count_by sort_by text_by fine_by
 asks tag v = decoded (row_of tag) v
 
 -- No span runs backward.
@@ -318,11 +318,11 @@ pub record Open (bytes array : List ℕ) (n k : ℕ) : Type 0 where
 -- Each of a sort; or one a field and the others binds.
 pub data Each (sort : ℕ) : List ℕ → Type 0 where
   none : Each sort []
-  more : {tag : ℕ} {tags : List ℕ} → is-a tag sort ≡ true → Each sort tags → Each sort (tag ∷ tags)
+  more : {tag : ℕ} {tags : List ℕ} → is_a tag sort ≡ true → Each sort tags → Each sort (tag ∷ tags)
 
 pub data OneField : List ℕ → Type 0 where
   here : {tags : List ℕ} → Each 6 tags → OneField (FIELD ∷ tags)
-  before : {tag : ℕ} {tags : List ℕ} → is-a tag 6 ≡ true → OneField tags → OneField (tag ∷ tags)
+  before : {tag : ℕ} {tags : List ℕ} → is_a tag 6 ≡ true → OneField tags → OneField (tag ∷ tags)
 
 pub data Group : ℕ → List ℕ → Type 0 where
   each : {sort : ℕ} {tags : List ℕ} → (sort ≡ COMP → ⊥) → Each sort tags → Group sort tags
@@ -350,7 +350,7 @@ pub data Fitted (bytes array : List ℕ) (a : Question) (tags : List ℕ) : Root
 pub record Checks (bytes : List ℕ) (tag end : ℕ) (values tags : List ℕ) : Type 0 where
   pub forwards : forward values ≡ true
   pub fine : (asks tag values).fine ≡ true
-  pub worded : Worded (asks tag values).text (tail-part (asks tag values).size end bytes)
+  pub worded : Worded (asks tag values).text (tail_part (asks tag values).size end bytes)
   pub fit : Fit (asks tag values) tags
 
 pub data Checked (bytes array : List ℕ) (tag end : ℕ) (values tags : List ℕ) : Roots → Type 0 where
@@ -362,8 +362,8 @@ pub data Checked (bytes array : List ℕ) (tag end : ℕ) (values tags : List �
 -- The kind of the infix records so far: none yet 0, old 1, new 2.
 pub data Dating (ts : Trees) : ℕ → Type 0 where
   undated : ((age : Age) → Row age ts) → Dating ts 0
-  is-old : Row old ts → (Row new ts → ⊥) → Dating ts 1
-  is-new : Row new ts → (Row old ts → ⊥) → Dating ts 2
+  is_old : Row old ts → (Row new ts → ⊥) → Dating ts 1
+  is_new : Row new ts → (Row old ts → ⊥) → Dating ts 2
 
 -- The tags of the roots, the last one first, before those given.
 unfoldable pub roots : Trees → List ℕ → List ℕ
@@ -385,15 +385,15 @@ pub record State (bytes array : List ℕ) (at n standing age : ℕ) : Type 0 whe
 -- Where a record's payload ends, by its length bytes.
 pub data Extends (bytes : List ℕ) (at : ℕ) : Extent → Type 0 where
   end : at + 3 + two_at bytes (at + 1) ≤ length bytes → Extends bytes at (End (at + 3 + two_at bytes (at + 1)))
-  cut-header : length bytes < at + 3 → Extends bytes at Cut
-  cut-payload : at + 3 ≤ length bytes → length bytes < at + 3 + two_at bytes (at + 1) → Extends bytes at Cut
+  cut_header : length bytes < at + 3 → Extends bytes at Cut
+  cut_payload : at + 3 ≤ length bytes → length bytes < at + 3 + two_at bytes (at + 1) → Extends bytes at Cut
 
 -- The kind of infix records with a record of this tag and length, and the layout's row by it.
 unfoldable pub dates : ℕ → ℕ → ℕ → ℕ
 dates tag size age = cond (eqb tag INFIX) (cond (eqb age 0) (cond (eqb size 1) 1 2) age) age
 
-unfoldable pub dated-row : ℕ → ℕ → List ℕ
-dated-row tag age = cond (eqb tag INFIX) (cond (eqb age 1) (2 ∷ 28 ∷ replicate 5 0) (layout-numbers (layout_of tag))) (layout-numbers (layout_of tag))
+unfoldable pub dated_row : ℕ → ℕ → List ℕ
+dated_row tag age = cond (eqb tag INFIX) (cond (eqb age 1) (2 ∷ 28 ∷ replicate 5 0) (layout-numbers (layout_of tag))) (layout-numbers (layout_of tag))
 
 -- What becomes of the next record.
 pub data Stepped (bytes array : List ℕ) (at : ℕ) (ts : Trees) : Step → Type 0 where

@@ -1,6 +1,6 @@
 // What a record asks beyond the length and the range of its bytes: how its fields go together, its text, and its children by their sorts.
 ghost use Rattle.std.specs.Prelude.{◌≡◌, true, ◌-◌};
-ghost use Rattle.images.specs.Inner.{unless as unless-set, method-fine, slice-fine, pick as picked, rest-kind as kind-of-rest, question, asks as asked_by, forward as all-forward};
+ghost use Rattle.images.specs.Inner.{unless as unless-set, method_fine, slice_fine, pick as picked, rest_kind as kind-of-rest, question, asks as asked_by, forward as all-forward};
 
 use crate::parts::{BACKWARD, bits};
 use crate::sorts::Sort;
@@ -50,7 +50,7 @@ fn unless(flag: usize, n: usize) -> bool
 
 // A field that is no method has no parameters, and a method no plus.
 fn method_fine(plus: usize, method: usize, n: usize) -> bool
-    ensures { result ≡ method-fine plus method n }
+    ensures { result ≡ method_fine plus method n }
 {
     if method == 0 {
         return n == 0;
@@ -60,7 +60,7 @@ fn method_fine(plus: usize, method: usize, n: usize) -> bool
 
 // Of a slice's three parts, the spans of those that are absent are 0.
 fn slice_fine(b: usize, x: usize, y: usize, z: usize) -> bool
-    ensures { result ≡ slice-fine b x y z }
+    ensures { result ≡ slice_fine b x y z }
 {
     let first = unless(b % 2, x);
     if !first {

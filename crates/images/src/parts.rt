@@ -1,7 +1,7 @@
 // A record's payload, taken apart by its layout: each part's value, and how many children the parts tell of.
 ghost use Rattle.std.specs.Prelude.{◌≡◌, ◌+◌, ◌*◌, ◌≤◌, ◌<◌, length, get_or, drop};
 ghost use Rattle.grammar.specs.Layout.{bits_in};
-ghost use Rattle.images.specs.Inner.{two_at, span_value, limit as limit-of, told-by, Gets, kids, Walks};
+ghost use Rattle.images.specs.Inner.{two_at, span_value, limit as limit-of, told_by, Gets, kids, Walks};
 
 use grammar::layout::Part;
 
@@ -75,7 +75,7 @@ fn limit(code: u8) -> usize
 
 fn told(code: u8, b: usize) -> usize
     requires { b ≤ 255 }
-    ensures { (result ≡ told-by code b) × (result ≤ 255) }
+    ensures { (result ≡ told_by code b) × (result ≤ 255) }
 {
     if 8 <= code {
         return 0;

@@ -2,7 +2,7 @@
 ghost use Rattle.std.specs.Prelude.{◌≡◌, true, List, ℕ, ◌+◌, ◌-◌, ◌≤◌, ◌<◌, length, get_or};
 ghost use Rattle.grammar.specs.Layout.{numbers as Numbers-of};
 ghost use Rattle.blocks.specs.Inside.{Says};
-ghost use Rattle.images.specs.Inner.{two_at, tail-part, Worded, Chain, Open, asks as asked_by, Lands, Checked, dates, dated-row, Extends, State, Stepped};
+ghost use Rattle.images.specs.Inner.{two_at, tail_part, Worded, Chain, Open, asks as asked_by, Lands, Checked, dates, dated_row, Extends, State, Stepped};
 
 use crate::asks::{Text, asks, forward};
 use crate::parts::{number, taken, wide};
@@ -74,7 +74,7 @@ fn aged(tag: u8, size: usize, age: u8) -> u8
 }
 
 fn row(tag: u8, age: u8) -> [u8; 7]
-    ensures { result ≡ dated-row tag age }
+    ensures { result ≡ dated_row tag age }
 {
     if tag != Tag::INFIX {
         return layout(tag);
@@ -88,7 +88,7 @@ fn row(tag: u8, age: u8) -> [u8; 7]
 // Whether the text at the end of a payload is of a kind.
 fn worded(bytes: &[u8], end: usize, text: u8, size: usize) -> bool
     requires { (size ≤ end) × (end ≤ length bytes.now) }
-    ensures { Says (Worded text (tail-part size end bytes.now)) result }
+    ensures { Says (Worded text (tail_part size end bytes.now)) result }
 {
     let from = end - size;
     match text {

@@ -1,6 +1,6 @@
 // What a record is, by its tag, and what it counts as.
 ghost use Rattle.std.specs.Prelude.{◌≡◌};
-ghost use Rattle.images.specs.Inner.{code, wide-code, sort-of as sort-by, is-a};
+ghost use Rattle.images.specs.Inner.{code, wide_code, sort_of as sort_by, is_a};
 
 use grammar::tags::Tag;
 
@@ -47,7 +47,7 @@ impl Sort {
 }
 
 fn sort_of(tag: u8) -> u8
-    ensures { result ≡ code (sort-by tag) }
+    ensures { result ≡ code (sort_by tag) }
 {
     match tag {
         Tag::STRING => Sort::STRING,
@@ -73,7 +73,7 @@ fn sort_of(tag: u8) -> u8
 
 // What else a record of a sort is.
 fn wider(sort: u8) -> u8
-    ensures { result ≡ wide-code sort }
+    ensures { result ≡ wide_code sort }
 {
     match sort {
         Sort::STRING => Sort::EXPRESSION,
@@ -91,7 +91,7 @@ fn wider(sort: u8) -> u8
 
 // Whether a record of this tag is of a sort.
 pub(crate) fn is(tag: u8, wanted: u8) -> bool
-    ensures { result ≡ is-a tag wanted }
+    ensures { result ≡ is_a tag wanted }
 {
     let own = sort_of(tag);
     if own == wanted {

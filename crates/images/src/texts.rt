@@ -1,9 +1,9 @@
 // The texts of records: whether a name is one, a number, and UTF-8.
 ghost use Rattle.std.specs.Prelude.{◌≡◌, drop};
-ghost use Rattle.regex.specs.Regex.{inClass};
+ghost use Rattle.regex.specs.Regex.{in_class};
 ghost use Rattle.strings.specs.Utf8.{Utf8};
 ghost use Rattle.lexemes.specs.Rules.{alpha, alnum};
-ghost use Rattle.lexemes.specs.Texts.{Numeral, Exponent, isDigit, isE, isSign};
+ghost use Rattle.lexemes.specs.Texts.{Numeral, Exponent, is_digit, is_e, is_sign};
 ghost use Rattle.grammar.specs.Words.{NameText, NumberText};
 ghost use Rattle.blocks.specs.Inside.{Says};
 ghost use Rattle.images.specs.Inner.{Digits, Some, Tail};
@@ -13,7 +13,7 @@ use strings::utf8;
 
 // A byte of `[_a-zA-Z]`. Small letters, of which most names are, come first.
 fn is_alpha(b: u8) -> bool
-    ensures { result ≡ inClass alpha b }
+    ensures { result ≡ in_class alpha b }
 {
     if b'a' <= b {
         if b'z' < b {
@@ -38,7 +38,7 @@ fn is_alpha(b: u8) -> bool
 
 // A byte of `[_a-zA-Z0-9]`.
 fn is_alnum(b: u8) -> bool
-    ensures { result ≡ inClass alnum b }
+    ensures { result ≡ in_class alnum b }
 {
     if b < b'0' {
         return false;
@@ -76,7 +76,7 @@ pub(crate) fn is_name(text: &[u8]) -> bool
 }
 
 fn is_digit(b: u8) -> bool
-    ensures { result ≡ isDigit b }
+    ensures { result ≡ is_digit b }
 {
     if b < b'0' {
         return false;
@@ -88,7 +88,7 @@ fn is_digit(b: u8) -> bool
 }
 
 fn is_sign(b: u8) -> bool
-    ensures { result ≡ isSign b }
+    ensures { result ≡ is_sign b }
 {
     if b == b'+' {
         return true;
@@ -100,7 +100,7 @@ fn is_sign(b: u8) -> bool
 }
 
 fn is_e(b: u8) -> bool
-    ensures { result ≡ isE b }
+    ensures { result ≡ is_e b }
 {
     if b == b'e' {
         return true;

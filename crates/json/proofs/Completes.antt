@@ -13,7 +13,7 @@ use Rattle.grammar.specs.Trees.{Trees, none, ◌⊕◌}
 use Rattle.grammar.specs.Answer.{Verdict, refused}
 use Rattle.grammar.specs.Answer as answer
 use Rattle.json.specs.Values.{leaf, field, array, object}
-use Rattle.json.specs.Machine.{Frame, arr, obj, Use, a-value, a-name, Shape, zero, int, point, frac, mark, sign, exp, over, Escape, slash, u-none, u-one, u-two, u-three, high, high-slash, high-u, low-one, low-two, low-three, State, want, first, first-name, name, colon, after, word, minus, digits, chars, escape, stuck, broken, next, begun, whole, is-over, Stopped, hex, meant, closed, escaped, signed, past, spelled, start, begin, ended, step, finish, run}
+use Rattle.json.specs.Machine.{Frame, arr, obj, Use, a_value, a_name, Shape, zero, int, point, frac, mark, sign, exp, over, Escape, slash, u_none, u_one, u_two, u_three, high, high_slash, high_u, low_one, low_two, low_three, State, want, first, first_name, name, colon, after, word, minus, digits, chars, escape, stuck, broken, next, begun, whole, is_over, Stopped, hex, meant, closed, escaped, signed, past, spelled, start, begin, ended, step, finish, run}
 use Rattle.json.proofs.Tests.{above, below}
 use Rattle.json.proofs.NumberRuns.{judged}
 
@@ -28,14 +28,14 @@ boundless w = false
 abbrev pub Alive : State → Type 0
 Alive (want fs) = Unit {0}
 Alive (first fs) = Unit {0}
-Alive (first-name fs) = Unit {0}
+Alive (first_name fs) = Unit {0}
 Alive (name ts fs) = Unit {0}
 Alive (colon ts w a e fs) = Unit {0}
 Alive (after t fs) = Unit {0}
 Alive (word [] t fs) = ⊥
 Alive (word (c ∷ cs) t fs) = Unit {0}
 Alive (minus fs) = Unit {0}
-Alive (digits sh neg a w fs) = is-over sh ≡ false
+Alive (digits sh neg a w fs) = is_over sh ≡ false
 Alive (chars w u fs) = Unit {0}
 Alive (escape x w u fs) = Unit {0}
 Alive (stuck n) = ⊥
@@ -76,164 +76,164 @@ closes fs t i = (close fs t i).completes
 
 -- ── Strings and names ─────────────────────────────────────────────────────────────────────────────
 
-complete-want : (fs : List Frame) (i : ℕ) → Completes (want fs) i
+complete_want : (fs : List Frame) (i : ℕ) → Completes (want fs) i
 unfolding step begin start closed
-complete-want fs i = prepend (want fs) i 0x22 (prepend (chars [] a-value fs) (i + 1) 0x22 (closes fs (leaf 5 []) (i + 1 + 1)))
+complete_want fs i = prepend (want fs) i 0x22 (prepend (chars [] a_value fs) (i + 1) 0x22 (closes fs (leaf 5 []) (i + 1 + 1)))
 
-complete-colon : (ts : Trees) (w : List ℕ) (a e : ℕ) (fs : List Frame) (i : ℕ) → Completes (colon ts w a e fs) i
+complete_colon : (ts : Trees) (w : List ℕ) (a e : ℕ) (fs : List Frame) (i : ℕ) → Completes (colon ts w a e fs) i
 unfolding step
-complete-colon ts w a e fs i = prepend (colon ts w a e fs) i 0x3A (complete-want (obj ts w a e ∷ fs) (i + 1))
+complete_colon ts w a e fs i = prepend (colon ts w a e fs) i 0x3A (complete_want (obj ts w a e ∷ fs) (i + 1))
 
-complete-chars : (w : List ℕ) (u : Use) (fs : List Frame) (i : ℕ) → Completes (chars w u fs) i
+complete_chars : (w : List ℕ) (u : Use) (fs : List Frame) (i : ℕ) → Completes (chars w u fs) i
 unfolding step closed
-complete-chars w a-value fs i = prepend (chars w a-value fs) i 0x22 (closes fs (leaf 5 w) (i + 1))
-complete-chars w (a-name ts a) fs i = prepend (chars w (a-name ts a) fs) i 0x22 (complete-colon ts w a (i + 1) fs (i + 1))
+complete_chars w a_value fs i = prepend (chars w a_value fs) i 0x22 (closes fs (leaf 5 w) (i + 1))
+complete_chars w (a_name ts a) fs i = prepend (chars w (a_name ts a) fs) i 0x22 (complete_colon ts w a (i + 1) fs (i + 1))
 
-complete-name : (ts : Trees) (fs : List Frame) (i : ℕ) → Completes (name ts fs) i
+complete_name : (ts : Trees) (fs : List Frame) (i : ℕ) → Completes (name ts fs) i
 unfolding step
-complete-name ts fs i = prepend (name ts fs) i 0x22 (complete-chars [] (a-name ts i) fs (i + 1))
+complete_name ts fs i = prepend (name ts fs) i 0x22 (complete_chars [] (a_name ts i) fs (i + 1))
 
 -- ── Escapes ───────────────────────────────────────────────────────────────────────────────────────
 
 module _ (w : List ℕ) (u : Use) (fs : List Frame) where
-  low-three-on : (n x i : ℕ) → Completes (escape (low-three n x) w u fs) i
+  low_three_on : (n x i : ℕ) → Completes (escape (low_three n x) w u fs) i
   unfolding step escaped hex
-  low-three-on n x i = prepend (escape (low-three n x) w u fs) i 0x30 (complete-chars _ u fs (i + 1))
+  low_three_on n x i = prepend (escape (low_three n x) w u fs) i 0x30 (complete_chars _ u fs (i + 1))
 
-  low-two-on : (n x i : ℕ) → Completes (escape (low-two n x) w u fs) i
+  low_two_on : (n x i : ℕ) → Completes (escape (low_two n x) w u fs) i
   unfolding step escaped hex
-  low-two-on n x i = prepend (escape (low-two n x) w u fs) i 0x30 (low-three-on n _ (i + 1))
+  low_two_on n x i = prepend (escape (low_two n x) w u fs) i 0x30 (low_three_on n _ (i + 1))
 
-  low-one-on : (n i : ℕ) → Completes (escape (low-one n) w u fs) i
+  low_one_on : (n i : ℕ) → Completes (escape (low_one n) w u fs) i
   unfolding step escaped hex
-  low-one-on n i = prepend (escape (low-one n) w u fs) i 0x43 (low-two-on n _ (i + 1))
+  low_one_on n i = prepend (escape (low_one n) w u fs) i 0x43 (low_two_on n _ (i + 1))
 
-  high-u-on : (n i : ℕ) → Completes (escape (high-u n) w u fs) i
+  high_u_on : (n i : ℕ) → Completes (escape (high_u n) w u fs) i
   unfolding step escaped hex
-  high-u-on n i = prepend (escape (high-u n) w u fs) i 0x44 (low-one-on n (i + 1))
+  high_u_on n i = prepend (escape (high_u n) w u fs) i 0x44 (low_one_on n (i + 1))
 
-  high-slash-on : (n i : ℕ) → Completes (escape (high-slash n) w u fs) i
+  high_slash_on : (n i : ℕ) → Completes (escape (high_slash n) w u fs) i
   unfolding step escaped
-  high-slash-on n i = prepend (escape (high-slash n) w u fs) i 0x75 (high-u-on n (i + 1))
+  high_slash_on n i = prepend (escape (high_slash n) w u fs) i 0x75 (high_u_on n (i + 1))
 
-  high-on : (n i : ℕ) → Completes (escape (high n) w u fs) i
+  high_on : (n i : ℕ) → Completes (escape (high n) w u fs) i
   unfolding step escaped
-  high-on n i = prepend (escape (high n) w u fs) i 0x5C (high-slash-on n (i + 1))
+  high_on n i = prepend (escape (high n) w u fs) i 0x5C (high_slash_on n (i + 1))
 
-  u-three-on : (x i : ℕ) → Completes (escape (u-three x) w u fs) i
+  u_three_on : (x i : ℕ) → Completes (escape (u_three x) w u fs) i
   unfolding step escaped hex
-  u-three-on x i = prepend (escape (u-three x) w u fs) i 0x30 (by (leb 0xD800 (x * 16 + 0) && leb (x * 16 + 0) 0xDBFF) (x * 16 + 0))
+  u_three_on x i = prepend (escape (u_three x) w u fs) i 0x30 (by (leb 0xD800 (x * 16 + 0) && leb (x * 16 + 0) 0xDBFF) (x * 16 + 0))
     where
       by : (c : Bool) (n : ℕ) → Completes (cond c (escape (high n) w u fs) (chars (w ++ Rattle.strings.specs.Utf8.utf8 n) u fs)) (i + 1)
-      by true n = high-on n (i + 1)
-      by false n = complete-chars _ u fs (i + 1)
+      by true n = high_on n (i + 1)
+      by false n = complete_chars _ u fs (i + 1)
 
-  u-two-on : (x i : ℕ) → Completes (escape (u-two x) w u fs) i
+  u_two_on : (x i : ℕ) → Completes (escape (u_two x) w u fs) i
   unfolding step escaped hex
-  u-two-on x i = prepend (escape (u-two x) w u fs) i 0x30 (u-three-on _ (i + 1))
+  u_two_on x i = prepend (escape (u_two x) w u fs) i 0x30 (u_three_on _ (i + 1))
 
   -- A digit `0` makes no low half.
-  no-half : (x : ℕ) → (leb 0xDC (x * 16 + 0) && leb (x * 16 + 0) 0xDF) ≡ false
-  no-half x = by (dec_lt (x * 16 + 0) 0xDC)
+  no_half : (x : ℕ) → (leb 0xDC (x * 16 + 0) && leb (x * 16 + 0) 0xDF) ≡ false
+  no_half x = by (dec_lt (x * 16 + 0) 0xDC)
     where
       by : Dec (x * 16 + 0 < 0xDC) → (leb 0xDC (x * 16 + 0) && leb (x * 16 + 0) 0xDF) ≡ false
       by (yes p) = below 0xDC 0xDF (x * 16 + 0) p
       by (no p) = above 0xDC 0xDF (x * 16 + 0) (omega (arith, p))
 
-  u-one-on : (x i : ℕ) → Completes (escape (u-one x) w u fs) i
+  u_one_on : (x i : ℕ) → Completes (escape (u_one x) w u fs) i
   unfolding step escaped hex
-  u-one-on x i =
-      prepend (escape (u-one x) w u fs) i 0x30
-      (subst (λ (c : Bool). Completes (cond c (stuck i) (escape (u-two (x * 16 + 0)) w u fs)) (i + 1)) (sym (no-half x)) (u-two-on (x * 16 + 0) (i + 1)))
+  u_one_on x i =
+      prepend (escape (u_one x) w u fs) i 0x30
+      (subst (λ (c : Bool). Completes (cond c (stuck i) (escape (u_two (x * 16 + 0)) w u fs)) (i + 1)) (sym (no_half x)) (u_two_on (x * 16 + 0) (i + 1)))
 
-  u-none-on : (i : ℕ) → Completes (escape u-none w u fs) i
+  u_none_on : (i : ℕ) → Completes (escape u_none w u fs) i
   unfolding step escaped hex
-  u-none-on i = prepend (escape u-none w u fs) i 0x30 (u-one-on _ (i + 1))
+  u_none_on i = prepend (escape u_none w u fs) i 0x30 (u_one_on _ (i + 1))
 
-  slash-on : (i : ℕ) → Completes (escape slash w u fs) i
+  slash_on : (i : ℕ) → Completes (escape slash w u fs) i
   unfolding step escaped meant
-  slash-on i = prepend (escape slash w u fs) i 0x6E (complete-chars _ u fs (i + 1))
+  slash_on i = prepend (escape slash w u fs) i 0x6E (complete_chars _ u fs (i + 1))
 
-  complete-escape : (x : Escape) (i : ℕ) → Completes (escape x w u fs) i
-  complete-escape slash i = slash-on i
-  complete-escape u-none i = u-none-on i
-  complete-escape (u-one x) i = u-one-on x i
-  complete-escape (u-two x) i = u-two-on x i
-  complete-escape (u-three x) i = u-three-on x i
-  complete-escape (high n) i = high-on n i
-  complete-escape (high-slash n) i = high-slash-on n i
-  complete-escape (high-u n) i = high-u-on n i
-  complete-escape (low-one n) i = low-one-on n i
-  complete-escape (low-two n x) i = low-two-on n x i
-  complete-escape (low-three n x) i = low-three-on n x i
+  complete_escape : (x : Escape) (i : ℕ) → Completes (escape x w u fs) i
+  complete_escape slash i = slash_on i
+  complete_escape u_none i = u_none_on i
+  complete_escape (u_one x) i = u_one_on x i
+  complete_escape (u_two x) i = u_two_on x i
+  complete_escape (u_three x) i = u_three_on x i
+  complete_escape (high n) i = high_on n i
+  complete_escape (high_slash n) i = high_slash_on n i
+  complete_escape (high_u n) i = high_u_on n i
+  complete_escape (low_one n) i = low_one_on n i
+  complete_escape (low_two n x) i = low_two_on n x i
+  complete_escape (low_three n x) i = low_three_on n x i
 
 -- ── Numbers and words ─────────────────────────────────────────────────────────────────────────────
 
-over-bracket : (sh : Shape) → is-over (next sh 0x5D) ≡ true
-unfolding next is-over
-over-bracket zero = refl
-over-bracket int = refl
-over-bracket point = refl
-over-bracket frac = refl
-over-bracket mark = refl
-over-bracket sign = refl
-over-bracket exp = refl
-over-bracket over = refl
+over_bracket : (sh : Shape) → is_over (next sh 0x5D) ≡ true
+unfolding next is_over
+over_bracket zero = refl
+over_bracket int = refl
+over_bracket point = refl
+over_bracket frac = refl
+over_bracket mark = refl
+over_bracket sign = refl
+over_bracket exp = refl
+over_bracket over = refl
 
-over-brace : (sh : Shape) → is-over (next sh 0x7D) ≡ true
-unfolding next is-over
-over-brace zero = refl
-over-brace int = refl
-over-brace point = refl
-over-brace frac = refl
-over-brace mark = refl
-over-brace sign = refl
-over-brace exp = refl
-over-brace over = refl
+over_brace : (sh : Shape) → is_over (next sh 0x7D) ≡ true
+unfolding next is_over
+over_brace zero = refl
+over_brace int = refl
+over_brace point = refl
+over_brace frac = refl
+over_brace mark = refl
+over_brace sign = refl
+over_brace exp = refl
+over_brace over = refl
 
 stopped : (sh : Shape) {s : List ℕ} → Closing s → Stopped sh s
 stopped sh nothing = tt
-stopped sh bracket = over-bracket sh
-stopped sh brace = over-brace sh
+stopped sh bracket = over_bracket sh
+stopped sh brace = over_brace sh
 
 module _ (neg : Bool) (a : ℕ) (fs : List Frame) where
-  whole-on : (sh : Shape) (w : List ℕ) (i : ℕ) → whole sh ≡ true → Completes (digits sh neg a w fs) i
-  whole-on sh w i p =
+  whole_on : (sh : Shape) (w : List ℕ) (i : ℕ) → whole sh ≡ true → Completes (digits sh neg a w fs) i
+  whole_on sh w i p =
       let c = close fs (signed neg w) i in
       record { rest = c.completes.rest; found = c.completes.found; runs = judged endless boundless neg a fs sh w c.completes.rest i p (stopped sh c.closing) ∙ c.completes.runs }
 
-  complete-digits : (sh : Shape) (w : List ℕ) (i : ℕ) → is-over sh ≡ false → Completes (digits sh neg a w fs) i
-  unfolding step next whole is-over
-  complete-digits zero w i p = whole-on zero w i refl
-  complete-digits int w i p = whole-on int w i refl
-  complete-digits point w i p = prepend (digits point neg a w fs) i 0x30 (whole-on frac _ (i + 1) refl)
-  complete-digits frac w i p = whole-on frac w i refl
-  complete-digits mark w i p = prepend (digits mark neg a w fs) i 0x30 (whole-on exp _ (i + 1) refl)
-  complete-digits sign w i p = prepend (digits sign neg a w fs) i 0x30 (whole-on exp _ (i + 1) refl)
-  complete-digits exp w i p = whole-on exp w i refl
-  complete-digits over w i p = absurd (true≢false p)
+  complete_digits : (sh : Shape) (w : List ℕ) (i : ℕ) → is_over sh ≡ false → Completes (digits sh neg a w fs) i
+  unfolding step next whole is_over
+  complete_digits zero w i p = whole_on zero w i refl
+  complete_digits int w i p = whole_on int w i refl
+  complete_digits point w i p = prepend (digits point neg a w fs) i 0x30 (whole_on frac _ (i + 1) refl)
+  complete_digits frac w i p = whole_on frac w i refl
+  complete_digits mark w i p = prepend (digits mark neg a w fs) i 0x30 (whole_on exp _ (i + 1) refl)
+  complete_digits sign w i p = prepend (digits sign neg a w fs) i 0x30 (whole_on exp _ (i + 1) refl)
+  complete_digits exp w i p = whole_on exp w i refl
+  complete_digits over w i p = absurd (true≢false p)
 
-complete-word : (c : ℕ) (cs : List ℕ) (t : Trees) (fs : List Frame) (i : ℕ) → Completes (word (c ∷ cs) t fs) i
+complete_word : (c : ℕ) (cs : List ℕ) (t : Trees) (fs : List Frame) (i : ℕ) → Completes (word (c ∷ cs) t fs) i
 unfolding step spelled
-complete-word c [] t fs i =
+complete_word c [] t fs i =
     prepend (word (c ∷ []) t fs) i c (subst (λ (x : Bool). Completes (cond x (after t fs) (stuck i)) (i + 1)) (sym (eq-eqb c c refl)) (closes fs t (i + 1)))
-complete-word c (d ∷ cs) t fs i =
-    prepend (word (c ∷ d ∷ cs) t fs) i c (subst (λ (x : Bool). Completes (cond x (word (d ∷ cs) t fs) (stuck i)) (i + 1)) (sym (eq-eqb c c refl)) (complete-word d cs t fs (i + 1)))
+complete_word c (d ∷ cs) t fs i =
+    prepend (word (c ∷ d ∷ cs) t fs) i c (subst (λ (x : Bool). Completes (cond x (word (d ∷ cs) t fs) (stuck i)) (i + 1)) (sym (eq-eqb c c refl)) (complete_word d cs t fs (i + 1)))
 
 -- EVERY STATE THAT IS ALIVE GOES ON TO A TEXT.
 pub complete : (st : State) → Alive st → (i : ℕ) → Completes st i
-unfolding step is-over
-complete (want fs) x i = complete-want fs i
+unfolding step is_over
+complete (want fs) x i = complete_want fs i
 complete (first fs) x i = prepend (first fs) i 0x5D (closes fs (array none) (i + 1))
-complete (first-name fs) x i = prepend (first-name fs) i 0x7D (closes fs (object none) (i + 1))
-complete (name ts fs) x i = complete-name ts fs i
-complete (colon ts w a e fs) x i = complete-colon ts w a e fs i
+complete (first_name fs) x i = prepend (first_name fs) i 0x7D (closes fs (object none) (i + 1))
+complete (name ts fs) x i = complete_name ts fs i
+complete (colon ts w a e fs) x i = complete_colon ts w a e fs i
 complete (after t fs) x i = closes fs t i
 complete (word [] t fs) x i = absurd x
-complete (word (c ∷ cs) t fs) x i = complete-word c cs t fs i
-complete (minus fs) x i = prepend (minus fs) i 0x30 (complete-digits true i fs zero (0x30 ∷ []) (i + 1) refl)
-complete (digits sh neg a w fs) x i = complete-digits neg a fs sh w i x
-complete (chars w u fs) x i = complete-chars w u fs i
-complete (escape y w u fs) x i = complete-escape w u fs y i
+complete (word (c ∷ cs) t fs) x i = complete_word c cs t fs i
+complete (minus fs) x i = prepend (minus fs) i 0x30 (complete_digits true i fs zero (0x30 ∷ []) (i + 1) refl)
+complete (digits sh neg a w fs) x i = complete_digits neg a fs sh w i x
+complete (chars w u fs) x i = complete_chars w u fs i
+complete (escape y w u fs) x i = complete_escape w u fs y i
 complete (stuck n) x i = absurd x
 complete (broken n a e) x i = absurd x

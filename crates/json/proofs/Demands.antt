@@ -11,12 +11,12 @@ use Rattle.grammar.specs.Numbers.{TREE}
 use Rattle.grammar.specs.Trees.{Trees}
 use Rattle.grammar.specs.Image.{image}
 use Rattle.grammar.specs.Answer.{Answer, Verdict, refused, tree, answer, output}
-use Rattle.json.specs.Json.{Text, TooDeep, Continues, Judged, read, not-json, ReadsJson}
+use Rattle.json.specs.Json.{Text, TooDeep, Continues, Judged, read, not_json, ReadsJson}
 use Rattle.json.specs.Importer.{refusal, numbers, Imports}
 use Rattle.json.specs.declared.Importing.{Importing}
 use Rattle.json.specs.declared.Importing.TheVariants.{Tree, NotJson, Room}
 use Rattle.json.proofs.OneAnswer.{one_answer}
-use Rattle.json.proofs.ImportLaws.{same_case, fits-answer, fits-output, lacks-answer, refusal-output}
+use Rattle.json.proofs.ImportLaws.{same_case, fits-answer, fits-output, lacks_answer, refusal-output}
 use contract.Lifetimes.{Lfts}
 use borrow.Fn.Kinds.{Dens}
 use Rattle.json.proofs.read_json.Kinds.{ps}
@@ -35,32 +35,32 @@ asks_nothing κs a = tt
 -- One call: an answer and an output as promised.
 module _ (s out : List ℕ) (r : Importing) (out' : List ℕ) (x : Imports s out r out') where
   -- Whatever is found out about a text, `read_json` answers, and leaves in the output.
-  pub answers-found : {v : Verdict} → Judged s v → (numbers r ≡ answer (length out) v) × (out' ≡ output (length out) v)
-  answers-found j = one_answer x (record { found = _; judged = j; answered = refl; written = refl })
+  pub answers_found : {v : Verdict} → Judged s v → (numbers r ≡ answer (length out) v) × (out' ≡ output (length out) v)
+  answers_found j = one_answer x (record { found = _; judged = j; answered = refl; written = refl })
 
   -- After a refusal, which is any number but 0, the output is all zero.
-  pub zero-after-refusal : ¬ ((numbers r).number ≡ TREE) → out' ≡ replicate (length out) 0
-  zero-after-refusal n = x.written ∙ refusal-output (length out) x.found (λ e. n (ap (λ (a : Answer). a.number) x.answered ∙ e))
+  pub zero_after_refusal : ¬ ((numbers r).number ≡ TREE) → out' ≡ replicate (length out) 0
+  zero_after_refusal n = x.written ∙ refusal-output (length out) x.found (λ e. n (ap (λ (a : Answer). a.number) x.answered ∙ e))
 
   -- A text that is short enough, is UTF-8 and is read to its end is answered with its tree: the image and zeros behind it; or refused for room only.
-  pub text-is-tree : (t : Trees) → length s ≤ 65000 → Utf8 s → Text TooDeep TooLarge s (tree t) → length (image t) ≤ length out
+  pub text_is_tree : (t : Trees) → length s ≤ 65000 → Utf8 s → Text TooDeep TooLarge s (tree t) → length (image t) ≤ length out
       → (r ≡ Tree (length (image t))) × (out' ≡ image t ++ replicate (length out - length (image t)) 0)
-  text-is-tree t l u y h =
-      let z = answers-found (read l u y) in
+  text_is_tree t l u y h =
+      let z = answers_found (read l u y) in
       (same_case _ _ (z.0 ∙ fits-answer (length out) t h), z.1 ∙ fits-output (length out) t h)
 
-  pub text-is-room : (t : Trees) → length s ≤ 65000 → Utf8 s → Text TooDeep TooLarge s (tree t) → length out < length (image t) → r ≡ Room (length (image t))
-  text-is-room t l u y h = same_case _ _ ((answers-found (read l u y)).0 ∙ lacks-answer (length out) t h)
+  pub text_is_room : (t : Trees) → length s ≤ 65000 → Utf8 s → Text TooDeep TooLarge s (tree t) → length out < length (image t) → r ≡ Room (length (image t))
+  text_is_room t l u y h = same_case _ _ ((answers_found (read l u y)).0 ∙ lacks_answer (length out) t h)
 
   -- What is broken off by 11 or 17 is refused so.
-  pub broken-is-refused : (n a e : ℕ) → length s ≤ 65000 → Utf8 s → Text TooDeep TooLarge s (refused n a e 0) → (numbers r ≡ refusal n a e) × (out' ≡ replicate (length out) 0)
+  pub broken_is_refused : (n a e : ℕ) → length s ≤ 65000 → Utf8 s → Text TooDeep TooLarge s (refused n a e 0) → (numbers r ≡ refusal n a e) × (out' ≡ replicate (length out) 0)
   unfolding answer output
-  broken-is-refused n a e l u y = answers-found (read l u y)
+  broken_is_refused n a e l u y = answers_found (read l u y)
 
   -- 19 is answered exactly of a text within 2 and 3 that has no reading, at the first byte where no JSON text continues.
-  pub no-text-is-19 : (n : ℕ) → length s ≤ 65000 → Utf8 s → ((v : Verdict) → Text TooDeep TooLarge s v → ⊥) → Continues s n → r ≡ NotJson n
+  pub no_text_is_19 : (n : ℕ) → length s ≤ 65000 → Utf8 s → ((v : Verdict) → Text TooDeep TooLarge s v → ⊥) → Continues s n → r ≡ NotJson n
   unfolding answer numbers
-  no-text-is-19 n l u f c = same_case _ _ (answers-found (not-json l u f c)).0
+  no_text_is_19 n l u f c = same_case _ _ (answers_found (not_json l u f c)).0
 
   -- No second answer and no second output meet the contract, whatever the output held.
   pub no_second : (out₁ : List ℕ) (r₁ : Importing) (out₁' : List ℕ) → length out₁ ≡ length out → Imports s out₁ r₁ out₁' → (r ≡ r₁) × (out' ≡ out₁')

@@ -12,15 +12,15 @@ use lib.Dec.{eqb, leb}
 use lib.ListN.{length, take, drop, replicate, length-drop, drop_of_length-le}
 use lib.Seq.{sets, sets-eq, take_at, take_all, length-sets}
 use Rattle.strings.specs.Utf8.{Utf8, ValidTo}
-use Rattle.strings.proofs.CharacterLaws.{valid-whole}
-use Rattle.numerals.proofs.Always.{is-too-large, says-too-large}
+use Rattle.strings.proofs.CharacterLaws.{valid_whole}
+use Rattle.numerals.proofs.Always.{is_too_large, says_too_large}
 use Rattle.grammar.specs.Numbers.{TREE, LONG, ENCODING, DEPTH, ROOM, LARGE}
 use Rattle.grammar.specs.Trees.{Trees}
 use Rattle.grammar.specs.Image.{image}
 use Rattle.grammar.specs.Writing.{Wrote}
 use Rattle.grammar.specs.Answer.{Answer, Verdict, refused, tree, answer, output}
-use Rattle.json.specs.Json.{NOT-JSON, Judged}
-use Rattle.json.specs.Machine.{want, is-deep}
+use Rattle.json.specs.Json.{NOT_JSON, Judged}
+use Rattle.json.specs.Machine.{want, is_deep}
 use Rattle.json.specs.Leaves.{Comes, verdict}
 use Rattle.json.specs.Steps.{ParsedTo, parsed}
 use Rattle.json.specs.Importer.{refusal, numbers, importing, written, Finds, Imports}
@@ -30,36 +30,36 @@ use Rattle.json.specs.declared.Fault.TheVariants as faults
 use Rattle.json.specs.declared.Importing.{Importing}
 use Rattle.json.specs.declared.Importing.TheVariants.{Tree, Long, Encoding, NotJson, Depth, Room, Large}
 use Rattle.json.specs.contracts.Importing.{the_type}
-use Rattle.json.proofs.EveryText.{judged-run}
+use Rattle.json.proofs.EveryText.{judged_run}
 
 -- ── The case that has these numbers ───────────────────────────────────────────────────────────────
 
-case-of : Answer → Importing
-case-of a = by (eqb a.number)
+case_of : Answer → Importing
+case_of a = by (eqb a.number)
   where
     by : (ℕ → Bool) → Importing
     by is =
         cond (is TREE) (Tree a.size)
         (cond (is LONG) Long
         (cond (is ENCODING) (Encoding a.start)
-        (cond (is NOT-JSON) (NotJson a.start)
+        (cond (is NOT_JSON) (NotJson a.start)
         (cond (is DEPTH) (Depth a.start)
         (cond (is ROOM) (Room a.size)
         (Large a.start a.stop))))))
 
-case-back : (r : Importing) → case-of (numbers r) ≡ r
-unfolding numbers case-of
-case-back (Tree n) = refl
-case-back Long = refl
-case-back (Encoding n) = refl
-case-back (NotJson n) = refl
-case-back (Depth n) = refl
-case-back (Room n) = refl
-case-back (Large a e) = refl
+case_back : (r : Importing) → case_of (numbers r) ≡ r
+unfolding numbers case_of
+case_back (Tree n) = refl
+case_back Long = refl
+case_back (Encoding n) = refl
+case_back (NotJson n) = refl
+case_back (Depth n) = refl
+case_back (Room n) = refl
+case_back (Large a e) = refl
 
 -- No two cases have the same numbers.
 pub same_case : (r r' : Importing) → numbers r ≡ numbers r' → r ≡ r'
-same_case r r' e = sym (case-back r) ∙ ap case-of e ∙ case-back r'
+same_case r r' e = sym (case_back r) ∙ ap case_of e ∙ case_back r'
 
 -- ── A tree's answer and output, with room and without ─────────────────────────────────────────────
 
@@ -72,36 +72,36 @@ no_room true e = absurd (omega (arith, e))
 no_room false e = refl
 
 module _ (room : ℕ) (ts : Trees) where
-  by-room : Bool → Answer
-  by-room b = record { number = cond b TREE ROOM; start = 0; stop = 0; detail = 0; size = length (image ts) }
+  by_room : Bool → Answer
+  by_room b = record { number = cond b TREE ROOM; start = 0; stop = 0; detail = 0; size = length (image ts) }
 
-  out-by-room : Bool → List ℕ
-  out-by-room b = cond b (image ts ++ replicate (room - length (image ts)) 0) (replicate room 0)
+  out_by_room : Bool → List ℕ
+  out_by_room b = cond b (image ts ++ replicate (room - length (image ts)) 0) (replicate room 0)
 
   pub fits-answer : length (image ts) ≤ room → answer room (tree ts) ≡ numbers (Tree (length (image ts)))
-  unfolding answer numbers by-room
-  fits-answer h = ap by-room (le-leb (length (image ts)) room h)
+  unfolding answer numbers by_room
+  fits-answer h = ap by_room (le-leb (length (image ts)) room h)
 
   pub fits-output : length (image ts) ≤ room → output room (tree ts) ≡ image ts ++ replicate (room - length (image ts)) 0
-  unfolding output out-by-room
-  fits-output h = ap out-by-room (le-leb (length (image ts)) room h)
+  unfolding output out_by_room
+  fits-output h = ap out_by_room (le-leb (length (image ts)) room h)
 
-  pub lacks-answer : room < length (image ts) → answer room (tree ts) ≡ numbers (Room (length (image ts)))
-  unfolding answer numbers by-room
-  lacks-answer h = ap by-room (lt-leb (length (image ts)) room h)
+  pub lacks_answer : room < length (image ts) → answer room (tree ts) ≡ numbers (Room (length (image ts)))
+  unfolding answer numbers by_room
+  lacks_answer h = ap by_room (lt-leb (length (image ts)) room h)
 
-  pub lacks-output : room < length (image ts) → output room (tree ts) ≡ replicate room 0
-  unfolding output out-by-room
-  lacks-output h = ap out-by-room (lt-leb (length (image ts)) room h)
+  pub lacks_output : room < length (image ts) → output room (tree ts) ≡ replicate room 0
+  unfolding output out_by_room
+  lacks_output h = ap out_by_room (lt-leb (length (image ts)) room h)
 
   -- and back
   pub tree-answer : (n : ℕ) → numbers (Tree n) ≡ answer room (tree ts) → (n ≡ length (image ts)) × (length (image ts) ≤ room)
   unfolding numbers answer
   tree-answer n e = (ap (λ (a : Answer). a.size) e, leb-true (length (image ts)) room (has_room (leb (length (image ts)) room) (ap (λ (a : Answer). a.number) e)))
 
-  pub room-answer : (n : ℕ) → numbers (Room n) ≡ answer room (tree ts) → (n ≡ length (image ts)) × (room < length (image ts))
+  pub room_answer : (n : ℕ) → numbers (Room n) ≡ answer room (tree ts) → (n ≡ length (image ts)) × (room < length (image ts))
   unfolding numbers answer
-  room-answer n e = (ap (λ (a : Answer). a.size) e, leb-false (length (image ts)) room (no_room (leb (length (image ts)) room) (ap (λ (a : Answer). a.number) e)))
+  room_answer n e = (ap (λ (a : Answer). a.size) e, leb-false (length (image ts)) room (no_room (leb (length (image ts)) room) (ap (λ (a : Answer). a.number) e)))
 
 -- What any number but 0 leaves.
 pub refusal-output : (room : ℕ) (v : Verdict) → ¬ ((answer room v).number ≡ TREE) → output room v ≡ replicate room 0
@@ -116,88 +116,88 @@ refusal-output room (tree ts) h = by (leb (length (image ts)) room) h
 -- ── What is found ─────────────────────────────────────────────────────────────────────────────────
 
 -- All bytes are valid.
-pub valid-all : {s : List ℕ} {n : ℕ} → ValidTo s n → length s ≤ n → Utf8 s
-valid-all v h = valid-whole v (omega (arith, v.within))
+pub valid_all : {s : List ℕ} {n : ℕ} → ValidTo s n → length s ≤ n → Utf8 s
+valid_all v h = valid_whole v (omega (arith, v.within))
 
 -- What the machine comes to is what is found out about a text.
-judged-comes : {s : List ℕ} {v : Verdict} → length s ≤ 65000 → Utf8 s → Comes s (want []) 0 v → Judged s v
-judged-comes {s} l u x = subst (Judged s) (x.runs is-too-large says-too-large) (judged-run s l u)
+judged_comes : {s : List ℕ} {v : Verdict} → length s ≤ 65000 → Utf8 s → Comes s (want []) 0 v → Judged s v
+judged_comes {s} l u x = subst (Judged s) (x.runs is_too_large says_too_large) (judged_run s l u)
 
-fault-numbers : (f : Fault) (room : ℕ) → numbers (importing f) ≡ answer room (verdict f)
+fault_numbers : (f : Fault) (room : ℕ) → numbers (importing f) ≡ answer room (verdict f)
 unfolding numbers answer
-fault-numbers (faults.NotJson n) room = refl
-fault-numbers (faults.Deep n) room = refl
-fault-numbers (faults.Large a e) room = refl
+fault_numbers (faults.NotJson n) room = refl
+fault_numbers (faults.Deep n) room = refl
+fault_numbers (faults.Large a e) room = refl
 
 -- A refusal has no image.
-fault-size : (f : Fault) → written (importing f) ≡ 0
+fault_size : (f : Fault) → written (importing f) ≡ 0
 unfolding written numbers
-fault-size (faults.NotJson n) = refl
-fault-size (faults.Deep n) = refl
-fault-size (faults.Large a e) = refl
+fault_size (faults.NotJson n) = refl
+fault_size (faults.Deep n) = refl
+fault_size (faults.Large a e) = refl
 
-fault-output : (f : Fault) (room : ℕ) → output room (verdict f) ≡ replicate room 0
+fault_output : (f : Fault) (room : ℕ) → output room (verdict f) ≡ replicate room 0
 unfolding output
-fault-output (faults.NotJson n) room = refl
-fault-output (faults.Deep n) room = refl
-fault-output (faults.Large a e) room = refl
+fault_output (faults.NotJson n) room = refl
+fault_output (faults.Deep n) room = refl
+fault_output (faults.Large a e) room = refl
 
-same-long : (out out' bs : List ℕ) → out' ≡ sets out 0 bs → length out' ≡ length out
-same-long out out' bs e = ap length e ∙ length-sets out 0 bs
+same_long : (out out' bs : List ℕ) → out' ≡ sets out 0 bs → length out' ≡ length out
+same_long out out' bs e = ap length e ∙ length-sets out 0 bs
 
-minus-none : (n : ℕ) → n - 0 ≡ n
-minus-none n = omega arith
+minus_none : (n : ℕ) → n - 0 ≡ n
+minus_none n = omega arith
 
 module _ {s out out' : List ℕ} where
   -- a refusal
-  finds-refusal : {v : Verdict} {r : Importing} → Judged s v → numbers r ≡ answer (length out) v → written r ≡ 0 → output (length out) v ≡ replicate (length out) 0 → Finds s out r out'
-  finds-refusal {v} {r} j q z o =
+  finds_refusal : {v : Verdict} {r : Importing} → Judged s v → numbers r ≡ answer (length out) v → written r ≡ 0 → output (length out) v ≡ replicate (length out) 0 → Finds s out r out'
+  finds_refusal {v} {r} j q z o =
       record {
         found = v;
         judged = j;
         told = q;
         room = omega (arith, z);
-        left = o ∙ ap (λ (n : ℕ). replicate n 0) (sym (minus-none (length out))) ∙ ap (λ (n : ℕ). take n out' ++ replicate (length out - n) 0) (sym z);
+        left = o ∙ ap (λ (n : ℕ). replicate n 0) (sym (minus_none (length out))) ∙ ap (λ (n : ℕ). take n out' ++ replicate (length out - n) 0) (sym z);
       }
 
-  pub finds-long : 65000 < length s → Finds s out Long out'
+  pub finds_long : 65000 < length s → Finds s out Long out'
   unfolding numbers answer output written
-  finds-long h = finds-refusal (Judged.too_long h) refl refl refl
+  finds_long h = finds_refusal (Judged.too_long h) refl refl refl
 
-  pub finds-encoding : {n : ℕ} → length s ≤ 65000 → ValidTo s n → n < length s → Finds s out (Encoding n) out'
+  pub finds_encoding : {n : ℕ} → length s ≤ 65000 → ValidTo s n → n < length s → Finds s out (Encoding n) out'
   unfolding numbers answer output written
-  finds-encoding l v h = finds-refusal (Judged.not-utf8 l v h) refl refl refl
+  finds_encoding l v h = finds_refusal (Judged.not_utf8 l v h) refl refl refl
 
   module _ (l : length s ≤ 65000) (u : Utf8 s) where
-    pub finds-broken : {f : Fault} {r : Importing} → ParsedTo s out (leaves.Broken f) out' → r ≡ importing f → Finds s out r out'
-    finds-broken {f} {r} (ParsedTo.broken comes) e =
+    pub finds_broken : {f : Fault} {r : Importing} → ParsedTo s out (leaves.Broken f) out' → r ≡ importing f → Finds s out r out'
+    finds_broken {f} {r} (ParsedTo.broken comes) e =
         subst (λ (x : Importing). Finds s out x out') (sym e)
-        (finds-refusal (judged-comes l u comes) (fault-numbers f (length out)) (fault-size f) (fault-output f (length out)))
+        (finds_refusal (judged_comes l u comes) (fault_numbers f (length out)) (fault_size f) (fault_output f (length out)))
 
     -- without room
-    pub finds-room : {e w : ℕ} → ParsedTo s out (leaves.Done e w) out' → length out' < w → Finds s out (Room w) out'
+    pub finds_room : {e w : ℕ} → ParsedTo s out (leaves.Done e w) out' → length out' < w → Finds s out (Room w) out'
     unfolding numbers written
-    finds-room {w = w} (parsed t comes put) h =
-        let z : length out < length (image t) = omega (arith, put.to, h, same-long out out' (image t) put.stored) in
+    finds_room {w = w} (parsed t comes put) h =
+        let z : length out < length (image t) = omega (arith, put.to, h, same_long out out' (image t) put.stored) in
         let q : w ≡ length (image t) = omega (arith, put.to) in
         record {
           found = tree t;
-          judged = judged-comes l u comes;
-          told = ap (λ (n : ℕ). numbers (Room n)) q ∙ sym (lacks-answer (length out) t z);
+          judged = judged_comes l u comes;
+          told = ap (λ (n : ℕ). numbers (Room n)) q ∙ sym (lacks_answer (length out) t z);
           room = omega arith;
-          left = lacks-output (length out) t z ∙ ap (λ (n : ℕ). replicate n 0) (sym (minus-none (length out)));
+          left = lacks_output (length out) t z ∙ ap (λ (n : ℕ). replicate n 0) (sym (minus_none (length out)));
         }
 
     -- with room
-    pub finds-tree : {e w : ℕ} → ParsedTo s out (leaves.Done e w) out' → w ≤ length out' → Finds s out (Tree w) out'
+    pub finds_tree : {e w : ℕ} → ParsedTo s out (leaves.Done e w) out' → w ≤ length out' → Finds s out (Tree w) out'
     unfolding numbers written
-    finds-tree {w = w} (parsed t comes put) h =
-        let z : length (image t) ≤ length out = omega (arith, put.to, h, same-long out out' (image t) put.stored) in
+    finds_tree {w = w} (parsed t comes put) h =
+        let z : length (image t) ≤ length out = omega (arith, put.to, h, same_long out out' (image t) put.stored) in
         let q : w ≡ length (image t) = omega (arith, put.to) in
         let p : out' ≡ image t ++ drop (0 + length (image t)) out = put.stored ∙ sets-eq (image t) out 0 (omega (arith, z)) in
         record {
           found = tree t;
-          judged = judged-comes l u comes;
+          judged = judged_comes l u comes;
           told = ap (λ (n : ℕ). numbers (Tree n)) q ∙ sym (fits-answer (length out) t z);
           room = omega (arith, q, z);
           left =
@@ -207,9 +207,9 @@ module _ {s out out' : List ℕ} where
         }
 
   -- and what is beyond it cleared
-  pub imports-cleared : {r : Importing} {n : ℕ} {last : List ℕ} → Finds s out r out' → n ≡ written r → length out' ≡ length out
+  pub imports_cleared : {r : Importing} {n : ℕ} {last : List ℕ} → Finds s out r out' → n ≡ written r → length out' ≡ length out
       → last ≡ replicate (length (take (length out' - n) (drop n out'))) 0 → Imports s out r (take n out' ++ (last ++ drop (length out' - n) (drop n out')))
-  imports-cleared {r} {n} {last} f q k e =
+  imports_cleared {r} {n} {last} f q k e =
       record {
         found = f.found;
         judged = f.judged;
@@ -225,12 +225,12 @@ module _ {s out out' : List ℕ} where
       long = ap length (take_all (length out' - n) (drop n out') (omega (arith, length-drop n out'))) ∙ length-drop n out' ∙ ap (λ (m : ℕ). m - n) k
 
 -- Only a tree has an image.
-pub no-image : (r : Importing) → OneOf (1 ∷ 2 ∷ 3 ∷ 4 ∷ 5 ∷ 6 ∷ []) (tag_of the_type r) → 0 ≡ written r
+pub no_image : (r : Importing) → OneOf (1 ∷ 2 ∷ 3 ∷ 4 ∷ 5 ∷ 6 ∷ []) (tag_of the_type r) → 0 ≡ written r
 unfolding written numbers
-no-image (Tree n) m = absurd (miss (1 ∷ 2 ∷ 3 ∷ 4 ∷ 5 ∷ 6 ∷ []) 0 tt m)
-no-image Long m = refl
-no-image (Encoding n) m = refl
-no-image (NotJson n) m = refl
-no-image (Depth n) m = refl
-no-image (Room n) m = refl
-no-image (Large a e) m = refl
+no_image (Tree n) m = absurd (miss (1 ∷ 2 ∷ 3 ∷ 4 ∷ 5 ∷ 6 ∷ []) 0 tt m)
+no_image Long m = refl
+no_image (Encoding n) m = refl
+no_image (NotJson n) m = refl
+no_image (Depth n) m = refl
+no_image (Room n) m = refl
+no_image (Large a e) m = refl

@@ -4,54 +4,54 @@ use mathlib.Core.Path.{refl}
 use mathlib.Core.List.{List, [], ◌∷◌}
 use Prim.Native.Nat.{ℕ}
 use Rattle.numerals.specs.Inner.{ascii}
-use Rattle.numerals.proofs.Always.{is-too-large}
+use Rattle.numerals.proofs.Always.{is_too_large}
 use Rattle.json.specs.Json.{Continues}
-use Rattle.json.specs.Machine.{run, step, finish, begin, start, past, spelled, closed, escaped, ended, next, whole, is-over, signed, hex, meant}
-use Rattle.json.proofs.EveryText.{sticks-continues}
+use Rattle.json.specs.Machine.{run, step, finish, begin, start, past, spelled, closed, escaped, ended, next, whole, is_over, signed, hex, meant}
+use Rattle.json.proofs.EveryText.{sticks_continues}
 
 -- Nothing; two blanks; a text that merely stops; a word that goes wrong.
 pub empty : Continues [] 0
 unfolding run finish
-empty = sticks-continues [] 0 refl
+empty = sticks_continues [] 0 refl
 
 pub blanks : Continues (ascii "  ") 2
 unfolding run step finish
-blanks = sticks-continues (ascii "  ") 2 refl
+blanks = sticks_continues (ascii "  ") 2 refl
 
-pub short-word : Continues (ascii "tru") 3
+pub short_word : Continues (ascii "tru") 3
 unfolding run step finish begin start spelled
-short-word = sticks-continues (ascii "tru") 3 refl
+short_word = sticks_continues (ascii "tru") 3 refl
 
 pub wrong_word : Continues (ascii "trux") 3
 unfolding run step finish begin start spelled
-wrong_word = sticks-continues (ascii "trux") 3 refl
+wrong_word = sticks_continues (ascii "trux") 3 refl
 
 -- A leading zero; a comma that trails; something behind the value.
-pub leading-zero : Continues (ascii "01") 1
-unfolding run step finish begin start past next whole is-over signed is-too-large
-leading-zero = sticks-continues (ascii "01") 1 refl
+pub leading_zero : Continues (ascii "01") 1
+unfolding run step finish begin start past next whole is_over signed is_too_large
+leading_zero = sticks_continues (ascii "01") 1 refl
 
-pub trailing-comma : Continues (ascii "[null,]") 6
+pub trailing_comma : Continues (ascii "[null,]") 6
 unfolding run step finish begin start past spelled
-trailing-comma = sticks-continues (ascii "[null,]") 6 refl
+trailing_comma = sticks_continues (ascii "[null,]") 6 refl
 
 pub behind : Continues (ascii "[] x") 3
 unfolding run step finish begin start past
-behind = sticks-continues (ascii "[] x") 3 refl
+behind = sticks_continues (ascii "[] x") 3 refl
 
 -- `"\x`: the letter, not the backslash. `"\uDC`: a low half alone, at its second digit. `"\uD800"`: the quote. `"\uD800\u0`: the first digit of what is no low half.
-pub no-escape : Continues (0x22 ∷ 0x5C ∷ 0x78 ∷ []) 2
+pub no_escape : Continues (0x22 ∷ 0x5C ∷ 0x78 ∷ []) 2
 unfolding run step finish begin start escaped meant
-no-escape = sticks-continues (0x22 ∷ 0x5C ∷ 0x78 ∷ []) 2 refl
+no_escape = sticks_continues (0x22 ∷ 0x5C ∷ 0x78 ∷ []) 2 refl
 
-pub low-alone : Continues (0x22 ∷ 0x5C ∷ 0x75 ∷ 0x44 ∷ 0x43 ∷ []) 4
+pub low_alone : Continues (0x22 ∷ 0x5C ∷ 0x75 ∷ 0x44 ∷ 0x43 ∷ []) 4
 unfolding run step finish begin start escaped meant hex
-low-alone = sticks-continues (0x22 ∷ 0x5C ∷ 0x75 ∷ 0x44 ∷ 0x43 ∷ []) 4 refl
+low_alone = sticks_continues (0x22 ∷ 0x5C ∷ 0x75 ∷ 0x44 ∷ 0x43 ∷ []) 4 refl
 
-pub high-alone : Continues (0x22 ∷ 0x5C ∷ 0x75 ∷ 0x44 ∷ 0x38 ∷ 0x30 ∷ 0x30 ∷ 0x22 ∷ []) 7
+pub high_alone : Continues (0x22 ∷ 0x5C ∷ 0x75 ∷ 0x44 ∷ 0x38 ∷ 0x30 ∷ 0x30 ∷ 0x22 ∷ []) 7
 unfolding run step finish begin start escaped meant hex
-high-alone = sticks-continues (0x22 ∷ 0x5C ∷ 0x75 ∷ 0x44 ∷ 0x38 ∷ 0x30 ∷ 0x30 ∷ 0x22 ∷ []) 7 refl
+high_alone = sticks_continues (0x22 ∷ 0x5C ∷ 0x75 ∷ 0x44 ∷ 0x38 ∷ 0x30 ∷ 0x30 ∷ 0x22 ∷ []) 7 refl
 
-pub no-low : Continues (0x22 ∷ 0x5C ∷ 0x75 ∷ 0x44 ∷ 0x38 ∷ 0x30 ∷ 0x30 ∷ 0x5C ∷ 0x75 ∷ 0x30 ∷ []) 9
+pub no_low : Continues (0x22 ∷ 0x5C ∷ 0x75 ∷ 0x44 ∷ 0x38 ∷ 0x30 ∷ 0x30 ∷ 0x5C ∷ 0x75 ∷ 0x30 ∷ []) 9
 unfolding run step finish begin start escaped meant hex
-no-low = sticks-continues (0x22 ∷ 0x5C ∷ 0x75 ∷ 0x44 ∷ 0x38 ∷ 0x30 ∷ 0x30 ∷ 0x5C ∷ 0x75 ∷ 0x30 ∷ []) 9 refl
+no_low = sticks_continues (0x22 ∷ 0x5C ∷ 0x75 ∷ 0x44 ∷ 0x38 ∷ 0x30 ∷ 0x30 ∷ 0x5C ∷ 0x75 ∷ 0x30 ∷ []) 9 refl

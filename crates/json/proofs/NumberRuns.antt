@@ -6,14 +6,14 @@ use mathlib.Core.List.{List, [], ◌∷◌, ◌++◌, append_assoc, append-nil}
 use Prim.Native.Nat.{ℕ, suc, ◌+◌}
 use native.Mathlib.Omega.{arith}
 use lib.ListN.{length}
-use Rattle.numerals.specs.Value.{isDigit}
+use Rattle.numerals.specs.Value.{is_digit}
 use Rattle.grammar.specs.Numbers.{LARGE}
 use Rattle.grammar.specs.Trees.{Trees}
 use Rattle.grammar.specs.Answer.{Verdict, refused}
 use Rattle.json.specs.Tokens.{Number}
-use Rattle.json.specs.Machine.{Frame, Shape, State, digits, after, broken, stuck, begun, next, whole, is-over, walk, Stopped, signed, past, step, finish, run}
-use Rattle.json.proofs.Skips.{stays-broken}
-use Rattle.json.proofs.NumberShapes.{from, whole-goes, goes_at}
+use Rattle.json.specs.Machine.{Frame, Shape, State, digits, after, broken, stuck, begun, next, whole, is_over, walk, Stopped, signed, past, step, finish, run}
+use Rattle.json.proofs.Skips.{stays_broken}
+use Rattle.json.proofs.NumberShapes.{from, whole_goes, goes_at}
 
 module _ (deep : ℕ → Bool) (large : List ℕ → Bool) (neg : Bool) (a : ℕ) (fs : List Frame) where
   -- The literal is whole, and is judged before the byte behind it.
@@ -25,21 +25,21 @@ module _ (deep : ℕ → Bool) (large : List ℕ → Bool) (neg : Bool) (a : ℕ
     where
       by : (c : Bool) → run deep large (cond c (broken LARGE a i) (past (signed neg w) fs i b)) (i + 1) r
           ≡ cond c (refused LARGE a i 0) (run deep large (past (signed neg w) fs i b) (i + 1) r)
-      by true = stays-broken deep large LARGE a i (i + 1) r
+      by true = stays_broken deep large LARGE a i (i + 1) r
       by false = refl
 
-  pub run-digits : (sh : Shape) (w v r t : List ℕ) (i : ℕ) → w ++ v ≡ t → whole (walk sh v) ≡ true → Stopped (walk sh v) r
+  pub run_digits : (sh : Shape) (w v r t : List ℕ) (i : ℕ) → w ++ v ≡ t → whole (walk sh v) ≡ true → Stopped (walk sh v) r
       → run deep large (digits sh neg a w fs) i (v ++ r) ≡ cond (large t) (refused LARGE a (i + length v) 0) (run deep large (after (signed neg t) fs) (i + length v) r)
   unfolding run step walk
-  run-digits sh w [] r t i e p q =
+  run_digits sh w [] r t i e p q =
       let same : w ≡ t = sym (append-nil w) ∙ e in
       let at : i ≡ i + 0 = omega arith in
       judged sh w r i p q
       ∙ ap (λ (l : List ℕ). cond (large l) (refused LARGE a i 0) (run deep large (after (signed neg l) fs) i r)) same
       ∙ ap (λ (n : ℕ). cond (large t) (refused LARGE a n 0) (run deep large (after (signed neg t) fs) n r)) at
-  run-digits sh w (b ∷ v) r t i e p q =
-      let on : is-over (next sh b) ≡ false = goes_at (next sh b) v (whole-goes (walk (next sh b) v) p) in
+  run_digits sh w (b ∷ v) r t i e p q =
+      let on : is_over (next sh b) ≡ false = goes_at (next sh b) v (whole_goes (walk (next sh b) v) p) in
       let at : i + 1 + length v ≡ i + suc (length v) = omega arith in
       ap (λ (c : Bool). run deep large (cond c (cond (whole sh) (cond (large w) (broken LARGE a i) (past (signed neg w) fs i b)) (stuck i)) (digits (next sh b) neg a (w ++ (b ∷ [])) fs)) (i + 1) (v ++ r)) on
-      ∙ run-digits (next sh b) (w ++ (b ∷ [])) v r t (i + 1) (append_assoc w (b ∷ []) v ∙ e) p q
+      ∙ run_digits (next sh b) (w ++ (b ∷ [])) v r t (i + 1) (append_assoc w (b ∷ []) v ∙ e) p q
       ∙ ap (λ (n : ℕ). cond (large t) (refused LARGE a n 0) (run deep large (after (signed neg t) fs) n r)) at

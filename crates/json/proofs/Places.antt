@@ -13,17 +13,17 @@ use lib.Seq.{drop-cons}
 use borrow.Author.Tests.{eq-eqb, ne_eqb}
 use Rattle.strings.specs.Utf8.{utf8}
 use Rattle.strings.proofs.Stores.{drop-next}
-use Rattle.strings.proofs.Utf8Laws.{utf8-size}
+use Rattle.strings.proofs.Utf8Laws.{utf8_size}
 use Rattle.grammar.specs.Trees.{Trees}
 use Rattle.grammar.specs.Answer.{refused}
-use Rattle.json.specs.Json.{NOT-JSON}
+use Rattle.json.specs.Json.{NOT_JSON}
 use Rattle.json.specs.Machine.{Frame, Use, Escape, State, after, word, chars, escape, stuck, spelled, spelling, escaped, step, finish, run}
 use Rattle.json.specs.Inner.{Leads, Sticks, WordTo, spelt, other, EscapeTo, code, stops}
 use Rattle.json.specs.declared.Scanned.TheVariants.{To, Stops}
 use Rattle.json.specs.declared.text.Escaped.{Escaped}
 use Rattle.json.specs.declared.text.Escaped.TheVariants as variants
-use Rattle.json.proofs.Skips.{stays-stuck}
-use Rattle.json.proofs.Tokens.{other-letter}
+use Rattle.json.proofs.Skips.{stays_stuck}
+use Rattle.json.proofs.Tokens.{other_letter}
 
 -- ── One byte ──────────────────────────────────────────────────────────────────────────────────────
 
@@ -35,14 +35,14 @@ byte_inside s at n = by (dec_lt at (length s))
     by (yes h) = h
     by (no h) = absurd (n (get_or-eq_default s 0 (omega (arith, h))))
 
-pub leads-here : {s : List ℕ} (st : State) (at : ℕ) → Leads s st at st at
-leads-here st at = record { runs = λ deep large. refl }
+pub leads_here : {s : List ℕ} (st : State) (at : ℕ) → Leads s st at st at
+leads_here st at = record { runs = λ deep large. refl }
 
-pub leads-on : {s : List ℕ} {a b c : State} {i j k : ℕ} → Leads s a i b j → Leads s b j c k → Leads s a i c k
-leads-on x y = record { runs = λ deep large. x.runs deep large ∙ y.runs deep large }
+pub leads_on : {s : List ℕ} {a b c : State} {i j k : ℕ} → Leads s a i b j → Leads s b j c k → Leads s a i c k
+leads_on x y = record { runs = λ deep large. x.runs deep large ∙ y.runs deep large }
 
-pub leads-stick : {s : List ℕ} {a b : State} {i j n : ℕ} → Leads s a i b j → Sticks s b j n → Sticks s a i n
-leads-stick x y = record { runs = λ deep large. x.runs deep large ∙ y.runs deep large }
+pub leads_stick : {s : List ℕ} {a b : State} {i j n : ℕ} → Leads s a i b j → Sticks s b j n → Sticks s a i n
+leads_stick x y = record { runs = λ deep large. x.runs deep large ∙ y.runs deep large }
 
 pub one_on : {s : List ℕ} (a b : State) (i j : ℕ) → i < length s → j ≡ i + 1 → ((deep : ℕ → Bool) (large : List ℕ → Bool) → step deep large a i (get_or s i 0) ≡ b) → Leads s a i b j
 unfolding run
@@ -54,17 +54,17 @@ one_on {s} a b i j h e f =
     }
 
 -- The machine sticks at this byte, or here the text ends in a state that no text ends in.
-pub sticks-here : {s : List ℕ} (a : State) (i : ℕ) → ((deep : ℕ → Bool) (large : List ℕ → Bool) → finish deep large a i ≡ refused NOT-JSON i i 0)
+pub sticks_here : {s : List ℕ} (a : State) (i : ℕ) → ((deep : ℕ → Bool) (large : List ℕ → Bool) → finish deep large a i ≡ refused NOT_JSON i i 0)
     → (i < length s → (deep : ℕ → Bool) (large : List ℕ → Bool) → step deep large a i (get_or s i 0) ≡ stuck i) → Sticks s a i i
 unfolding run
-sticks-here {s} a i e f = by (dec_lt i (length s))
+sticks_here {s} a i e f = by (dec_lt i (length s))
   where
     by : Dec (i < length s) → Sticks s a i i
     by (yes h) =
         record {
           runs = λ deep large.
               ap (λ (l : List ℕ). run deep large a i l) (drop-next s i h) ∙ ap (λ (st : State). run deep large st (i + 1) (drop (i + 1) s)) (f h deep large)
-              ∙ stays-stuck deep large i (i + 1) (drop (i + 1) s);
+              ∙ stays_stuck deep large i (i + 1) (drop (i + 1) s);
         }
     by (no h) = let past : length s ≤ i = omega (arith, h) in record { runs = λ deep large. ap (λ (l : List ℕ). run deep large a i l) (drop_of_length-le s past) ∙ e deep large }
 
@@ -76,65 +76,65 @@ pub record SpeltSoFar (s letters : List ℕ) (at i : ℕ) : Type 0 where
   pub within : at + i ≤ length s
   pub leads : (t : Trees) (fs : List Frame) → Leads s (spelling letters t fs) at (spelling (drop i letters) t fs) (at + i)
 
-pub spelt-start : (s letters : List ℕ) (at : ℕ) → at ≤ length s → SpeltSoFar s letters at 0
-spelt-start s letters at h =
+pub spelt_start : (s letters : List ℕ) (at : ℕ) → at ≤ length s → SpeltSoFar s letters at 0
+spelt_start s letters at h =
     let same : at ≡ at + 0 = omega arith in
-    record { most = omega arith; within = omega (arith, h); leads = λ t fs. subst (λ (k : ℕ). Leads s (spelling letters t fs) at (spelling letters t fs) k) same (leads-here _ at) }
+    record { most = omega arith; within = omega (arith, h); leads = λ t fs. subst (λ (k : ℕ). Leads s (spelling letters t fs) at (spelling letters t fs) k) same (leads_here _ at) }
 
-right-letter : (deep : ℕ → Bool) (large : List ℕ → Bool) (c : ℕ) (cs : List ℕ) (t : Trees) (fs : List Frame) (i b : ℕ) → b ≡ c → step deep large (spelling (c ∷ cs) t fs) i b ≡ spelling cs t fs
+right_letter : (deep : ℕ → Bool) (large : List ℕ → Bool) (c : ℕ) (cs : List ℕ) (t : Trees) (fs : List Frame) (i b : ℕ) → b ≡ c → step deep large (spelling (c ∷ cs) t fs) i b ≡ spelling cs t fs
 unfolding step spelled
-right-letter deep large c [] t fs i b e = rw (eq-eqb b c e) refl
-right-letter deep large c (d ∷ cs) t fs i b e = rw (eq-eqb b c e) refl
+right_letter deep large c [] t fs i b e = rw (eq-eqb b c e) refl
+right_letter deep large c (d ∷ cs) t fs i b e = rw (eq-eqb b c e) refl
 
-wrong-letter : (deep : ℕ → Bool) (large : List ℕ → Bool) (c : ℕ) (cs : List ℕ) (t : Trees) (fs : List Frame) (i b : ℕ) → (b ≡ c → ⊥) → step deep large (spelling (c ∷ cs) t fs) i b ≡ stuck i
+wrong_letter : (deep : ℕ → Bool) (large : List ℕ → Bool) (c : ℕ) (cs : List ℕ) (t : Trees) (fs : List Frame) (i b : ℕ) → (b ≡ c → ⊥) → step deep large (spelling (c ∷ cs) t fs) i b ≡ stuck i
 unfolding step
-wrong-letter deep large c cs t fs i b n = other-letter c cs t fs i b (ne_eqb b c n)
+wrong_letter deep large c cs t fs i b n = other_letter c cs t fs i b (ne_eqb b c n)
 
-no-letter : (deep : ℕ → Bool) (large : List ℕ → Bool) (c : ℕ) (cs : List ℕ) (t : Trees) (fs : List Frame) (i : ℕ) → finish deep large (spelling (c ∷ cs) t fs) i ≡ refused NOT-JSON i i 0
+no_letter : (deep : ℕ → Bool) (large : List ℕ → Bool) (c : ℕ) (cs : List ℕ) (t : Trees) (fs : List Frame) (i : ℕ) → finish deep large (spelling (c ∷ cs) t fs) i ≡ refused NOT_JSON i i 0
 unfolding finish
-no-letter deep large c cs t fs i = refl
+no_letter deep large c cs t fs i = refl
 
 module _ {s letters : List ℕ} {at i : ℕ} (x : SpeltSoFar s letters at i) (h : i < length letters) where
-  pub spelt-more : at + i < length s → get_or s (at + i) 0 ≡ get_or letters i 0 → SpeltSoFar s letters at (i + 1)
-  spelt-more l e =
+  pub spelt_more : at + i < length s → get_or s (at + i) 0 ≡ get_or letters i 0 → SpeltSoFar s letters at (i + 1)
+  spelt_more l e =
       record {
         most = omega (arith, h);
         within = omega (arith, l);
         leads = λ t fs.
-            leads-on (subst (λ (r : List ℕ). Leads s (spelling letters t fs) at (spelling r t fs) (at + i)) (drop-next letters i h) (x.leads t fs))
+            leads_on (subst (λ (r : List ℕ). Leads s (spelling letters t fs) at (spelling r t fs) (at + i)) (drop-next letters i h) (x.leads t fs))
             (one_on (spelling (get_or letters i 0 ∷ drop (i + 1) letters) t fs) (spelling (drop (i + 1) letters) t fs) (at + i) (at + (i + 1)) l (omega arith)
-            (λ deep large. right-letter deep large (get_or letters i 0) (drop (i + 1) letters) t fs (at + i) (get_or s (at + i) 0) e));
+            (λ deep large. right_letter deep large (get_or letters i 0) (drop (i + 1) letters) t fs (at + i) (get_or s (at + i) 0) e));
       }
 
-  pub spelt-other : (at + i < length s → get_or s (at + i) 0 ≡ get_or letters i 0 → ⊥) → WordTo s letters at (Stops (at + i))
-  spelt-other n =
+  pub spelt_other : (at + i < length s → get_or s (at + i) 0 ≡ get_or letters i 0 → ⊥) → WordTo s letters at (Stops (at + i))
+  spelt_other n =
       other
       (λ t fs.
-      leads-stick (subst (λ (r : List ℕ). Leads s (spelling letters t fs) at (spelling r t fs) (at + i)) (drop-next letters i h) (x.leads t fs))
-      (sticks-here (spelling (get_or letters i 0 ∷ drop (i + 1) letters) t fs) (at + i) (λ deep large. no-letter deep large (get_or letters i 0) (drop (i + 1) letters) t fs (at + i))
-      (λ l deep large. wrong-letter deep large (get_or letters i 0) (drop (i + 1) letters) t fs (at + i) (get_or s (at + i) 0) (n l))))
+      leads_stick (subst (λ (r : List ℕ). Leads s (spelling letters t fs) at (spelling r t fs) (at + i)) (drop-next letters i h) (x.leads t fs))
+      (sticks_here (spelling (get_or letters i 0 ∷ drop (i + 1) letters) t fs) (at + i) (λ deep large. no_letter deep large (get_or letters i 0) (drop (i + 1) letters) t fs (at + i))
+      (λ l deep large. wrong_letter deep large (get_or letters i 0) (drop (i + 1) letters) t fs (at + i) (get_or s (at + i) 0) (n l))))
 
-pub spelt-end : {s letters : List ℕ} {at i : ℕ} → SpeltSoFar s letters at i → length letters ≤ i → WordTo s letters at (To (at + i))
-spelt-end {s} {letters} {at} {i} x h =
+pub spelt_end : {s letters : List ℕ} {at i : ℕ} → SpeltSoFar s letters at i → length letters ≤ i → WordTo s letters at (To (at + i))
+spelt_end {s} {letters} {at} {i} x h =
     spelt {e = at + i} (omega (arith, x.most, h)) x.within
     (λ t fs. subst (λ (r : List ℕ). Leads s (spelling letters t fs) at (spelling r t fs) (at + i)) (drop_of_length-le letters h) (x.leads t fs))
 
 -- ── Escapes ───────────────────────────────────────────────────────────────────────────────────────
 
 -- One byte more of an escape, before what it comes to.
-pub one-before : {s : List ℕ} {k m at j : ℕ} {r : Escaped} (x y : Escape) → at < length s → m ≡ k + 1 → j ≡ at + 1
+pub one_before : {s : List ℕ} {k m at j : ℕ} {r : Escaped} (x y : Escape) → at < length s → m ≡ k + 1 → j ≡ at + 1
     → ((w : List ℕ) (us : Use) (fs : List Frame) (i : ℕ) → escaped x w us fs i (get_or s at 0) ≡ escape y w us fs) → EscapeTo s y m j r → EscapeTo s x k at r
 unfolding step
-one-before {s} {k} {m} {at} {j} x y h p q f (code {c} {e} on within below short leads) =
+one_before {s} {k} {m} {at} {j} x y h p q f (code {c} {e} on within below short leads) =
     code {e = e} (omega (arith, on, q)) within below (omega (arith, short, p, q))
-    (λ w us fs. leads-on (one_on (escape x w us fs) (escape y w us fs) at j h q (λ deep large. f w us fs at)) (leads w us fs))
-one-before {s} {k} {m} {at} {j} x y h p q f (stops sticks) =
-    stops (λ w us fs. leads-stick (one_on (escape x w us fs) (escape y w us fs) at j h q (λ deep large. f w us fs at)) (sticks w us fs))
+    (λ w us fs. leads_on (one_on (escape x w us fs) (escape y w us fs) at j h q (λ deep large. f w us fs at)) (leads w us fs))
+one_before {s} {k} {m} {at} {j} x y h p q f (stops sticks) =
+    stops (λ w us fs. leads_stick (one_on (escape x w us fs) (escape y w us fs) at j h q (λ deep large. f w us fs at)) (sticks w us fs))
 
 -- No escape goes on here.
 pub stops-here : {s : List ℕ} {k at : ℕ} (x : Escape) → ((w : List ℕ) (us : Use) (fs : List Frame) (i : ℕ) → escaped x w us fs i (get_or s at 0) ≡ stuck i) → EscapeTo s x k at (variants.Stops at)
 unfolding step finish
-stops-here {s} {k} {at} x f = stops (λ w us fs. sticks-here (escape x w us fs) at (λ deep large. refl) (λ l deep large. f w us fs at))
+stops-here {s} {k} {at} x f = stops (λ w us fs. sticks_here (escape x w us fs) at (λ deep large. refl) (λ l deep large. f w us fs at))
 
 -- The last byte of an escape.
 pub code_here : {s : List ℕ} {k at j : ℕ} (x : Escape) (c : ℕ) → at < length s → j ≡ at + 1 → c < 0x110000 → length (utf8 c) ≤ k + 1

@@ -10,16 +10,16 @@ use native.Mathlib.Decide.{dec_lt}
 use lib.ListN.{length, drop, get_or, get_or-eq_default, length-append, drop_of_length-le}
 use lib.Seq.{drop-cons}
 use borrow.Author.Tests.{ne_eqb}
-use Rattle.numerals.specs.Value.{isDigit}
-use Rattle.json.specs.Tokens.{At, ◌▹◌, isBlank, Ws}
-use Rattle.json.specs.Machine.{Shape, zero, int, point, frac, mark, sign, exp, over, isMark, isSign, begun, next, whole, is-over, walk, Stopped, Frame, State, digits, run}
-use Rattle.json.specs.Json.{NOT-JSON}
-use Rattle.json.specs.Inner.{Blanks, ScannedTo, at-end, cut_off, NumberTo, literal, broken}
+use Rattle.numerals.specs.Value.{is_digit}
+use Rattle.json.specs.Tokens.{At, ◌▹◌, is_blank, Ws}
+use Rattle.json.specs.Machine.{Shape, zero, int, point, frac, mark, sign, exp, over, is_mark, is_sign, begun, next, whole, is_over, walk, Stopped, Frame, State, digits, run}
+use Rattle.json.specs.Json.{NOT_JSON}
+use Rattle.json.specs.Inner.{Blanks, ScannedTo, at_end, cut_off, NumberTo, literal, broken}
 use Rattle.json.specs.declared.Scanned.{Scanned}
 use Rattle.grammar.specs.Answer.{refused}
-use Rattle.json.proofs.Skips.{stays-stuck}
-use Rattle.json.proofs.NumberShapes.{walk-append}
-use Rattle.json.proofs.Tokens.{a-digit, no_digit, cut_short}
+use Rattle.json.proofs.Skips.{stays_stuck}
+use Rattle.json.proofs.NumberShapes.{walk_append}
+use Rattle.json.proofs.Tokens.{a_digit, no_digit_lem, cut_short}
 
 -- ── White space ───────────────────────────────────────────────────────────────────────────────────
 
@@ -28,59 +28,59 @@ pub record BlanksSoFar (s : List ℕ) (from at : ℕ) : Type 0 where
   pub within : at ≤ length s
   pub ws : Ws (from ▹ drop from s) (at ▹ drop at s)
 
-ws-more : {h : At} {i b : ℕ} {s : List ℕ} → isBlank b ≡ true → Ws h (i ▹ b ∷ s) → Ws h (i + 1 ▹ s)
-ws-more p Ws.none = Ws.more p Ws.none
-ws-more p (Ws.more q w) = Ws.more q (ws-more p w)
+ws_more : {h : At} {i b : ℕ} {s : List ℕ} → is_blank b ≡ true → Ws h (i ▹ b ∷ s) → Ws h (i + 1 ▹ s)
+ws_more p Ws.none = Ws.more p Ws.none
+ws_more p (Ws.more q w) = Ws.more q (ws_more p w)
 
-pub blanks-start : (s : List ℕ) (from : ℕ) → from ≤ length s → BlanksSoFar s from from
-blanks-start s from h = record { on = omega arith; within = h; ws = Ws.none }
+pub blanks_start : (s : List ℕ) (from : ℕ) → from ≤ length s → BlanksSoFar s from from
+blanks_start s from h = record { on = omega arith; within = h; ws = Ws.none }
 
-pub blanks-more : {s : List ℕ} {from at : ℕ} → BlanksSoFar s from at → at < length s → isBlank (get_or s at 0) ≡ true → BlanksSoFar s from (at + 1)
-blanks-more {s} {from} {at} x h p =
+pub blanks_more : {s : List ℕ} {from at : ℕ} → BlanksSoFar s from at → at < length s → is_blank (get_or s at 0) ≡ true → BlanksSoFar s from (at + 1)
+blanks_more {s} {from} {at} x h p =
     record {
       on = omega (arith, x.on);
       within = omega (arith, h);
       ws = subst (λ (l : List ℕ). Ws (from ▹ drop from s) (at + 1 ▹ l)) (ap (λ (n : ℕ). drop n s) (sym (add-one at)))
-          (ws-more p (subst (λ (l : List ℕ). Ws (from ▹ drop from s) (at ▹ l)) (drop-cons s at 0 h) x.ws));
+          (ws_more p (subst (λ (l : List ℕ). Ws (from ▹ drop from s) (at ▹ l)) (drop-cons s at 0 h) x.ws));
     }
 
-pub blanks-stop : {s : List ℕ} {from at : ℕ} → BlanksSoFar s from at → isBlank (get_or s at 0) ≡ false → Blanks s from at
-blanks-stop x p = record { on = x.on; within = x.within; ws = x.ws; unblank = p }
+pub blanks_stop : {s : List ℕ} {from at : ℕ} → BlanksSoFar s from at → is_blank (get_or s at 0) ≡ false → Blanks s from at
+blanks_stop x p = record { on = x.on; within = x.within; ws = x.ws; unblank = p }
 
-pub blanks-end : {s : List ℕ} {from at : ℕ} → BlanksSoFar s from at → length s ≤ at → Blanks s from at
-blanks-end {s} {from} {at} x h = blanks-stop x (ap (λ (b : ℕ). isBlank b) (get_or-eq_default s 0 h))
+pub blanks_end : {s : List ℕ} {from at : ℕ} → BlanksSoFar s from at → length s ≤ at → Blanks s from at
+blanks_end {s} {from} {at} x h = blanks_stop x (ap (λ (b : ℕ). is_blank b) (get_or-eq_default s 0 h))
 
 -- ── Shapes of numbers ─────────────────────────────────────────────────────────────────────────────
 
-pub int-other : (b : ℕ) → isDigit b ≡ false → next int b ≡ next zero b
+pub int_other : (b : ℕ) → is_digit b ≡ false → next int b ≡ next zero b
 unfolding next
-int-other b p = rw p refl
+int_other b p = rw p refl
 
-pub zero-point : (b : ℕ) → b ≡ 0x2E → next zero b ≡ point
+pub zero_point : (b : ℕ) → b ≡ 0x2E → next zero b ≡ point
 unfolding next
-zero-point b p = rw p refl
+zero_point b p = rw p refl
 
-pub zero-other : (b : ℕ) → (b ≡ 0x2E → ⊥) → next zero b ≡ cond (isMark b) mark over
+pub zero_other : (b : ℕ) → (b ≡ 0x2E → ⊥) → next zero b ≡ cond (is_mark b) mark over
 unfolding next
-zero-other b n = rw (ne_eqb b 0x2E n) refl
+zero_other b n = rw (ne_eqb b 0x2E n) refl
 
-pub frac-other : (b : ℕ) → isDigit b ≡ false → next frac b ≡ cond (isMark b) mark over
+pub frac_other : (b : ℕ) → is_digit b ≡ false → next frac b ≡ cond (is_mark b) mark over
 unfolding next
-frac-other b p = rw p refl
+frac_other b p = rw p refl
 
-pub mark-sign : (b : ℕ) → isDigit b ≡ false → isSign b ≡ true → next mark b ≡ sign
+pub mark_sign : (b : ℕ) → is_digit b ≡ false → is_sign b ≡ true → next mark b ≡ sign
 unfolding next
-mark-sign b p q = rw (p, q) refl
+mark_sign b p q = rw (p, q) refl
 
-pub mark-other : (b : ℕ) → isDigit b ≡ false → isSign b ≡ false → next mark b ≡ over
+pub mark_other : (b : ℕ) → is_digit b ≡ false → is_sign b ≡ false → next mark b ≡ over
 unfolding next
-mark-other b p q = rw (p, q) refl
+mark_other b p q = rw (p, q) refl
 
-pub begun-zero : (b : ℕ) → b ≡ 0x30 → begun b ≡ zero
-begun-zero b p = rw p refl
+pub begun_zero : (b : ℕ) → b ≡ 0x30 → begun b ≡ zero
+begun_zero b p = rw p refl
 
-pub begun-int : (b : ℕ) → (b ≡ 0x30 → ⊥) → begun b ≡ int
-begun-int b n = rw (ne_eqb b 0x30 n) refl
+pub begun_int : (b : ℕ) → (b ≡ 0x30 → ⊥) → begun b ≡ int
+begun_int b n = rw (ne_eqb b 0x30 n) refl
 
 pub cond_yes : (c : Bool) (x y : Shape) → c ≡ true → x ≡ cond c x y
 cond_yes c x y p = rw p refl
@@ -117,11 +117,11 @@ walked_start s at h e =
 drop_here : (s : List ℕ) (i : ℕ) → i < length s → drop i s ≡ get_or s i 0 ∷ drop (i + 1) s
 drop_here s i h = drop-cons s i 0 h ∙ ap (λ (n : ℕ). get_or s i 0 ∷ drop n s) (sym (add-one i))
 
-walk-snoc : (sh : Shape) (u : List ℕ) (b : ℕ) → walk sh (u ++ (b ∷ [])) ≡ next (walk sh u) b
+walk_snoc : (sh : Shape) (u : List ℕ) (b : ℕ) → walk sh (u ++ (b ∷ [])) ≡ next (walk sh u) b
 unfolding walk
-walk-snoc sh u b = walk-append sh u (b ∷ [])
+walk_snoc sh u b = walk_append sh u (b ∷ [])
 
-pub walked_more : {s : List ℕ} {at i : ℕ} {sh more : Shape} → WalkedSoFar s at sh i → i < length s → more ≡ next sh (get_or s i 0) → is-over more ≡ false → WalkedSoFar s at more (i + 1)
+pub walked_more : {s : List ℕ} {at i : ℕ} {sh more : Shape} → WalkedSoFar s at sh i → i < length s → more ≡ next sh (get_or s i 0) → is_over more ≡ false → WalkedSoFar s at more (i + 1)
 unfolding run
 walked_more {s} {at} {i} {sh} {more} x h e o =
     let b = get_or s i 0 in
@@ -130,31 +130,31 @@ walked_more {s} {at} {i} {sh} {more} x h e o =
       split = x.split ∙ ap (λ (l : List ℕ). x.read ++ l) (drop_here s i h) ∙ sym (append_assoc x.read (b ∷ []) (drop (i + 1) s));
       place = omega (arith, x.place, length-append x.read (b ∷ []));
       within = omega (arith, h);
-      shaped = walk-snoc (begun (get_or s at 0)) x.read b ∙ ap (λ (y : Shape). next y b) x.shaped ∙ sym e;
+      shaped = walk_snoc (begun (get_or s at 0)) x.read b ∙ ap (λ (y : Shape). next y b) x.shaped ∙ sym e;
       runs = λ deep large neg a w fs.
           x.runs deep large neg a w fs
           ∙ ap (λ (l : List ℕ). run deep large (digits sh neg a (w ++ x.read) fs) i l) (drop_here s i h)
-          ∙ ap (λ (st : State). run deep large st (i + 1) (drop (i + 1) s)) (a-digit deep large sh neg a (w ++ x.read) fs i b (ap (λ (y : Shape). is-over y) (sym e) ∙ o))
+          ∙ ap (λ (st : State). run deep large st (i + 1) (drop (i + 1) s)) (a_digit deep large sh neg a (w ++ x.read) fs i b (ap (λ (y : Shape). is_over y) (sym e) ∙ o))
           ∙ ap (λ (y : Shape). run deep large (digits y neg a ((w ++ x.read) ++ (b ∷ [])) fs) (i + 1) (drop (i + 1) s)) (sym e)
           ∙ ap (λ (l : List ℕ). run deep large (digits more neg a l fs) (i + 1) (drop (i + 1) s)) (append_assoc w x.read (b ∷ []));
     }
 
 -- The number ends here: whole, or cut off.
 walked_to : {s : List ℕ} {at i : ℕ} {sh : Shape} {r : Scanned} → WalkedSoFar s at sh i → Stopped sh (drop i s)
-    → ((deep : ℕ → Bool) (large : List ℕ → Bool) (neg : Bool) (a : ℕ) (w : List ℕ) (fs : List Frame) → whole sh ≡ false → run deep large (digits sh neg a w fs) i (drop i s) ≡ refused NOT-JSON i i 0)
+    → ((deep : ℕ → Bool) (large : List ℕ → Bool) (neg : Bool) (a : ℕ) (w : List ℕ) (fs : List Frame) → whole sh ≡ false → run deep large (digits sh neg a w fs) i (drop i s) ≡ refused NOT_JSON i i 0)
     → ScannedTo sh i r → NumberTo s at r
-walked_to {s} {at} {i} {sh} x st f (at-end p) =
+walked_to {s} {at} {i} {sh} x st f (at_end p) =
     literal x.read x.split x.place x.within (ap (λ (y : Shape). whole y) x.shaped ∙ p) (subst (λ (y : Shape). Stopped y (drop i s)) (sym x.shaped) st)
 walked_to {s} {at} {i} {sh} x st f (cut_off p) = broken (λ deep large neg a w fs. x.runs deep large neg a w fs ∙ f deep large neg a (w ++ x.read) fs p)
 
-pub walked_stop : {s : List ℕ} {at i : ℕ} {sh more : Shape} {r : Scanned} → WalkedSoFar s at sh i → i < length s → more ≡ next sh (get_or s i 0) → is-over more ≡ true → ScannedTo sh i r → NumberTo s at r
+pub walked_stop : {s : List ℕ} {at i : ℕ} {sh more : Shape} {r : Scanned} → WalkedSoFar s at sh i → i < length s → more ≡ next sh (get_or s i 0) → is_over more ≡ true → ScannedTo sh i r → NumberTo s at r
 unfolding run
 walked_stop {s} {at} {i} {sh} x h e o sc =
-    let over-here : is-over (next sh (get_or s i 0)) ≡ true = ap (λ (y : Shape). is-over y) (sym e) ∙ o in
+    let over-here : is_over (next sh (get_or s i 0)) ≡ true = ap (λ (y : Shape). is_over y) (sym e) ∙ o in
     walked_to x (subst (Stopped sh) (sym (drop_here s i h)) over-here)
     (λ deep large neg a w fs p.
     ap (λ (l : List ℕ). run deep large (digits sh neg a w fs) i l) (drop_here s i h)
-    ∙ ap (λ (y : State). run deep large y (i + 1) (drop (i + 1) s)) (no_digit deep large sh neg a w fs i (get_or s i 0) over-here p) ∙ stays-stuck deep large i (i + 1) (drop (i + 1) s))
+    ∙ ap (λ (y : State). run deep large y (i + 1) (drop (i + 1) s)) (no_digit_lem deep large sh neg a w fs i (get_or s i 0) over-here p) ∙ stays_stuck deep large i (i + 1) (drop (i + 1) s))
     sc
 
 pub walked_end : {s : List ℕ} {at i : ℕ} {sh : Shape} {r : Scanned} → WalkedSoFar s at sh i → length s ≤ i → ScannedTo sh i r → NumberTo s at r

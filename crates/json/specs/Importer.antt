@@ -3,7 +3,7 @@
 use Rattle.std.specs.Prelude.{◌≡◌, cond, List, ◌++◌, ℕ, ◌-◌, ◌≤◌, eqb, length, get_or, take, replicate}
 use Rattle.grammar.specs.Numbers.{TREE, LONG, ENCODING, DEPTH, ROOM, LARGE}
 use Rattle.grammar.specs.Answer.{Answer, Verdict, answer, output}
-use Rattle.json.specs.Json.{NOT-JSON, Judged, ReadsJson}
+use Rattle.json.specs.Json.{NOT_JSON, Judged, ReadsJson}
 use Rattle.json.specs.declared.Fault.{Fault}
 use Rattle.json.specs.declared.Fault.TheVariants as faults
 use Rattle.json.specs.declared.fields.Fields.{Fields}
@@ -24,7 +24,7 @@ unfoldable pub numbers : Importing → Answer
 numbers (Tree n) = tree_of TREE n
 numbers Long = refusal LONG 0 0
 numbers (Encoding n) = refusal ENCODING n n
-numbers (NotJson n) = refusal NOT-JSON n n
+numbers (NotJson n) = refusal NOT_JSON n n
 numbers (Depth n) = refusal DEPTH n n
 numbers (Room n) = tree_of ROOM n
 numbers (Large a e) = refusal LARGE a e

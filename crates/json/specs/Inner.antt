@@ -7,8 +7,8 @@ use Rattle.grammar.specs.Trees.{text, Trees}
 use Rattle.grammar.specs.Image.{entry}
 use Rattle.grammar.specs.Writing.{Wrote}
 use Rattle.grammar.specs.Answer.{refused}
-use Rattle.json.specs.Tokens.{At, ◌▹◌, isBlank, Ws}
-use Rattle.json.specs.Json.{NOT-JSON}
+use Rattle.json.specs.Tokens.{At, ◌▹◌, is_blank, Ws}
+use Rattle.json.specs.Json.{NOT_JSON}
 use Rattle.json.specs.Machine.{Frame, Use, Shape, zero, int, point, frac, mark, sign, exp, over, Escape, State, after, digits, chars, escape, begun, whole, walk, Stopped, closed, spelling, run}
 use Rattle.json.specs.declared.scan.Shape.{Shape as Coded}
 use Rattle.json.specs.declared.scan.Shape.TheVariants.{Zero, Int, Point, Frac, Mark, Sign, Exp, Over}
@@ -28,7 +28,7 @@ pub record Leads (s : List ℕ) (st : State) (at : ℕ) (to : State) (e : ℕ) :
 
 -- To the byte at which no text goes on.
 pub record Sticks (s : List ℕ) (st : State) (at n : ℕ) : Type 0 where
-  pub runs : (deep : ℕ → Bool) (large : List ℕ → Bool) → run deep large st at (drop at s) ≡ refused NOT-JSON n n 0
+  pub runs : (deep : ℕ → Bool) (large : List ℕ → Bool) → run deep large st at (drop at s) ≡ refused NOT_JSON n n 0
 
 -- ── White space, words and numbers ────────────────────────────────────────────────────────────────
 
@@ -37,7 +37,7 @@ pub record Blanks (s : List ℕ) (from r : ℕ) : Type 0 where
   pub on : from ≤ r
   pub within : r ≤ length s
   pub ws : Ws (from ▹ drop from s) (r ▹ drop r s)
-  pub unblank : isBlank (get_or s r 0) ≡ false
+  pub unblank : is_blank (get_or s r 0) ≡ false
 
 -- The letters of a word stand from a place on, or the first that is another.
 pub data WordTo (s letters : List ℕ) (at : ℕ) : Scanned → Type 0 where
@@ -57,7 +57,7 @@ shape Over = over
 
 -- A literal's end where its shape is whole; the byte at which no number goes on where it is not.
 pub data ScannedTo (sh : Shape) (at : ℕ) : Scanned → Type 0 where
-  at-end : whole sh ≡ true → ScannedTo sh at (To at)
+  at_end : whole sh ≡ true → ScannedTo sh at (To at)
   cut_off : whole sh ≡ false → ScannedTo sh at (Stops at)
 
 -- From a number's first digit on: its literal is whole, or the machine sticks.
@@ -65,7 +65,7 @@ pub data NumberTo (s : List ℕ) (at : ℕ) : Scanned → Type 0 where
   literal : {e : ℕ} (v : List ℕ) → drop (at + 1) s ≡ v ++ drop e s → e ≡ at + 1 + length v → e ≤ length s → whole (walk (begun (get_or s at 0)) v) ≡ true
       → Stopped (walk (begun (get_or s at 0)) v) (drop e s) → NumberTo s at (To e)
   broken : {n : ℕ} → ((deep : ℕ → Bool) (large : List ℕ → Bool) (neg : Bool) (a : ℕ) (w : List ℕ) (fs : List Frame)
-      → run deep large (digits (begun (get_or s at 0)) neg a w fs) (at + 1) (drop (at + 1) s) ≡ refused NOT-JSON n n 0) → NumberTo s at (Stops n)
+      → run deep large (digits (begun (get_or s at 0)) neg a w fs) (at + 1) (drop (at + 1) s) ≡ refused NOT_JSON n n 0) → NumberTo s at (Stops n)
 
 -- ── Strings ───────────────────────────────────────────────────────────────────────────────────────
 

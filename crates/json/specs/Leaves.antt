@@ -10,8 +10,8 @@ use Rattle.grammar.specs.Image.{image}
 use Rattle.grammar.specs.Writing.{Wrote}
 use Rattle.grammar.specs.Answer.{Verdict, refused}
 use Rattle.json.specs.Values as values
-use Rattle.json.specs.Json.{NOT-JSON}
-use Rattle.json.specs.Machine.{Frame, State, after, digits, begun, signed, is-deep, run}
+use Rattle.json.specs.Json.{NOT_JSON}
+use Rattle.json.specs.Machine.{Frame, State, after, digits, begun, signed, is_deep, run}
 use Rattle.json.specs.declared.Leaf.{Leaf}
 use Rattle.json.specs.declared.Leaf.TheVariants.{Done, Broken}
 use Rattle.json.specs.declared.Fault.{Fault}
@@ -19,14 +19,14 @@ use Rattle.json.specs.declared.Fault.TheVariants.{NotJson, Deep, Large}
 
 -- From a state at a place of the text the machine comes to another, or to its verdict, with 01's depth and whatever tells the numbers that are too large.
 pub record Goes (s : List ℕ) (st : State) (at : ℕ) (to : State) (e : ℕ) : Type 0 where
-  pub runs : (large : List ℕ → Bool) → ((w : List ℕ) → Says (large w) (TooLarge w)) → run is-deep large st at (drop at s) ≡ run is-deep large to e (drop e s)
+  pub runs : (large : List ℕ → Bool) → ((w : List ℕ) → Says (large w) (TooLarge w)) → run is_deep large st at (drop at s) ≡ run is_deep large to e (drop e s)
 
 pub record Comes (s : List ℕ) (st : State) (at : ℕ) (v : Verdict) : Type 0 where
-  pub runs : (large : List ℕ → Bool) → ((w : List ℕ) → Says (large w) (TooLarge w)) → run is-deep large st at (drop at s) ≡ v
+  pub runs : (large : List ℕ → Bool) → ((w : List ℕ) → Says (large w) (TooLarge w)) → run is_deep large st at (drop at s) ≡ v
 
 -- What a fault is told as.
 abbrev pub verdict : Fault → Verdict
-verdict (NotJson n) = refused NOT-JSON n n 0
+verdict (NotJson n) = refused NOT_JSON n n 0
 verdict (Deep n) = refused DEPTH n n 0
 verdict (Large a e) = refused LARGE a e 0
 

@@ -5,15 +5,15 @@ use Rattle.std.specs.Prelude.{◌≡◌, Bool, false, ◌&&◌, ◌||◌, ℕ, s
 use Rattle.std.proofs.Math.Bool.{true, cond}
 use mathlib.Core.List.{List, [], ◌∷◌, ◌++◌}
 use Rattle.strings.specs.Utf8.{utf8}
-use Rattle.numerals.specs.Value.{isDigit}
+use Rattle.numerals.specs.Value.{is_digit}
 use Rattle.grammar.specs.Tags.{NULL, BOOL, NUMBER, STRING}
 use Rattle.grammar.specs.Numbers.{DEPTH, LARGE}
 use Rattle.grammar.specs.Trees.{byte, Trees, none, tree, ◌⊕◌}
 use Rattle.grammar.specs.Answer.{Verdict, refused}
 use Rattle.grammar.specs.Answer as answer
-use Rattle.json.specs.Tokens.{At, ◌▹◌, isBlank, is_plain}
-use Rattle.json.specs.Values.{leaf, negative, field, array, object, canBegin}
-use Rattle.json.specs.Json.{NOT-JSON}
+use Rattle.json.specs.Tokens.{At, ◌▹◌, is_blank, is_plain}
+use Rattle.json.specs.Values.{leaf, negative, field, array, object, can_begin}
+use Rattle.json.specs.Json.{NOT_JSON}
 
 -- An open value: an array with its elements before, or an object with its fields before and the name of the field whose value is being read.
 pub data Frame : Type 0 where
@@ -22,8 +22,8 @@ pub data Frame : Type 0 where
 
 -- What a string is read for: a value; or a name behind these fields, which begins here.
 pub data Use : Type 0 where
-  a-value : Use
-  a-name : Trees → ℕ → Use
+  a_value : Use
+  a_name : Trees → ℕ → Use
 
 -- How far a number is: `0`, more digits, a point, digits behind it, `e`, its sign, its digits; or none.
 pub data Shape : Type 0 where
@@ -32,14 +32,14 @@ pub data Shape : Type 0 where
 -- How far an escape is: behind the backslash; behind `\u` and none to three digits; behind a high half, its low half's backslash, its `u`,
 -- and one to three of its digits.
 pub data Escape : Type 0 where
-  slash u-none : Escape
-  u-one u-two u-three : ℕ → Escape
-  high high-slash high-u : ℕ → Escape
-  low-one : ℕ → Escape
-  low-two low-three : ℕ → ℕ → Escape
+  slash u_none : Escape
+  u_one u_two u_three : ℕ → Escape
+  high high_slash high_u : ℕ → Escape
+  low_one : ℕ → Escape
+  low_two low_three : ℕ → ℕ → Escape
 
 pub data State : Type 0 where
-  want first first-name : List Frame → State
+  want first first_name : List Frame → State
   name : Trees → List Frame → State
   colon : Trees → List ℕ → ℕ → ℕ → List Frame → State
   after : Trees → List Frame → State
@@ -51,21 +51,21 @@ pub data State : Type 0 where
   stuck : ℕ → State
   broken : ℕ → ℕ → ℕ → State
 
-abbrev pub isMark : ℕ → Bool
-isMark b = eqb b 0x65 || eqb b 0x45
+abbrev pub is_mark : ℕ → Bool
+is_mark b = eqb b 0x65 || eqb b 0x45
 
-abbrev pub isSign : ℕ → Bool
-isSign b = eqb b 0x2B || eqb b 0x2D
+abbrev pub is_sign : ℕ → Bool
+is_sign b = eqb b 0x2B || eqb b 0x2D
 
 -- A number with one byte more.
 unfoldable pub next : Shape → ℕ → Shape
-next zero b = cond (eqb b 0x2E) point (cond (isMark b) mark over)
-next int b = cond (isDigit b) int (cond (eqb b 0x2E) point (cond (isMark b) mark over))
-next point b = cond (isDigit b) frac over
-next frac b = cond (isDigit b) frac (cond (isMark b) mark over)
-next mark b = cond (isDigit b) exp (cond (isSign b) sign over)
-next sign b = cond (isDigit b) exp over
-next exp b = cond (isDigit b) exp over
+next zero b = cond (eqb b 0x2E) point (cond (is_mark b) mark over)
+next int b = cond (is_digit b) int (cond (eqb b 0x2E) point (cond (is_mark b) mark over))
+next point b = cond (is_digit b) frac over
+next frac b = cond (is_digit b) frac (cond (is_mark b) mark over)
+next mark b = cond (is_digit b) exp (cond (is_sign b) sign over)
+next sign b = cond (is_digit b) exp over
+next exp b = cond (is_digit b) exp over
 next over b = over
 
 -- Its first digit.
@@ -82,15 +82,15 @@ whole sign = false
 whole exp = true
 whole over = false
 
-unfoldable pub is-over : Shape → Bool
-is-over zero = false
-is-over int = false
-is-over point = false
-is-over frac = false
-is-over mark = false
-is-over sign = false
-is-over exp = false
-is-over over = true
+unfoldable pub is_over : Shape → Bool
+is_over zero = false
+is_over int = false
+is_over point = false
+is_over frac = false
+is_over mark = false
+is_over sign = false
+is_over exp = false
+is_over over = true
 
 -- A shape behind more bytes.
 unfoldable pub walk : Shape → List ℕ → Shape
@@ -101,7 +101,7 @@ walk sh (b ∷ v) = walk (next sh b) v
 -- No number goes on from a shape with what is left.
 abbrev pub Stopped : Shape → List ℕ → Type 0
 Stopped sh [] = Unit {0}
-Stopped sh (b ∷ r) = is-over (next sh b) ≡ true
+Stopped sh (b ∷ r) = is_over (next sh b) ≡ true
 
 -- A hex digit's value, 16 for another byte.
 unfoldable pub hex : ℕ → ℕ
@@ -124,26 +124,26 @@ meant b =
 
 -- A string is closed; its closing quote's end is e.
 unfoldable pub closed : List ℕ → Use → ℕ → List Frame → State
-closed w a-value e fs = after (leaf STRING w) fs
-closed w (a-name ts a) e fs = colon ts w a e fs
+closed w a_value e fs = after (leaf STRING w) fs
+closed w (a_name ts a) e fs = colon ts w a e fs
 
 -- One byte more of an escape. A half is told as soon as no text has it.
 unfoldable pub escaped : Escape → List ℕ → Use → List Frame → ℕ → ℕ → State
 unfolding meant hex
-escaped slash w u fs i b = cond (eqb b 0x75) (escape u-none w u fs) (cond (leb 256 (meant b)) (stuck i) (chars (w ++ (meant b ∷ [])) u fs))
-escaped u-none w u fs i b = cond (leb 16 (hex b)) (stuck i) (escape (u-one (hex b)) w u fs)
-escaped (u-one x) w u fs i b =
-    cond (leb 16 (hex b) || (leb 0xDC (x * 16 + hex b) && leb (x * 16 + hex b) 0xDF)) (stuck i) (escape (u-two (x * 16 + hex b)) w u fs)
-escaped (u-two x) w u fs i b = cond (leb 16 (hex b)) (stuck i) (escape (u-three (x * 16 + hex b)) w u fs)
-escaped (u-three x) w u fs i b =
+escaped slash w u fs i b = cond (eqb b 0x75) (escape u_none w u fs) (cond (leb 256 (meant b)) (stuck i) (chars (w ++ (meant b ∷ [])) u fs))
+escaped u_none w u fs i b = cond (leb 16 (hex b)) (stuck i) (escape (u_one (hex b)) w u fs)
+escaped (u_one x) w u fs i b =
+    cond (leb 16 (hex b) || (leb 0xDC (x * 16 + hex b) && leb (x * 16 + hex b) 0xDF)) (stuck i) (escape (u_two (x * 16 + hex b)) w u fs)
+escaped (u_two x) w u fs i b = cond (leb 16 (hex b)) (stuck i) (escape (u_three (x * 16 + hex b)) w u fs)
+escaped (u_three x) w u fs i b =
     cond (leb 16 (hex b)) (stuck i)
     (cond (leb 0xD800 (x * 16 + hex b) && leb (x * 16 + hex b) 0xDBFF) (escape (high (x * 16 + hex b)) w u fs) (chars (w ++ utf8 (x * 16 + hex b)) u fs))
-escaped (high n) w u fs i b = cond (eqb b 0x5C) (escape (high-slash n) w u fs) (stuck i)
-escaped (high-slash n) w u fs i b = cond (eqb b 0x75) (escape (high-u n) w u fs) (stuck i)
-escaped (high-u n) w u fs i b = cond (eqb (hex b) 13) (escape (low-one n) w u fs) (stuck i)
-escaped (low-one n) w u fs i b = cond (leb 12 (hex b) && leb (hex b) 15) (escape (low-two n (13 * 16 + hex b)) w u fs) (stuck i)
-escaped (low-two n x) w u fs i b = cond (leb 16 (hex b)) (stuck i) (escape (low-three n (x * 16 + hex b)) w u fs)
-escaped (low-three n x) w u fs i b =
+escaped (high n) w u fs i b = cond (eqb b 0x5C) (escape (high_slash n) w u fs) (stuck i)
+escaped (high_slash n) w u fs i b = cond (eqb b 0x75) (escape (high_u n) w u fs) (stuck i)
+escaped (high_u n) w u fs i b = cond (eqb (hex b) 13) (escape (low_one n) w u fs) (stuck i)
+escaped (low_one n) w u fs i b = cond (leb 12 (hex b) && leb (hex b) 15) (escape (low_two n (13 * 16 + hex b)) w u fs) (stuck i)
+escaped (low_two n x) w u fs i b = cond (leb 16 (hex b)) (stuck i) (escape (low_three n (x * 16 + hex b)) w u fs)
+escaped (low_three n x) w u fs i b =
     cond (leb 16 (hex b)) (stuck i) (chars (w ++ utf8 (0x10000 + (n - 0xD800) * 0x400 + (x * 16 + hex b - 0xDC00))) u fs)
 
 -- A number's tree.
@@ -153,11 +153,11 @@ signed true w = negative (leaf NUMBER w)
 
 -- A value is whole, and another byte comes.
 unfoldable pub past : Trees → List Frame → ℕ → ℕ → State
-past t [] i b = cond (isBlank b) (after t []) (stuck i)
+past t [] i b = cond (is_blank b) (after t []) (stuck i)
 past t (arr ts ∷ fs) i b =
-    cond (isBlank b) (after t (arr ts ∷ fs)) (cond (eqb b 0x2C) (want (arr (ts ⊕ t) ∷ fs)) (cond (eqb b 0x5D) (after (array (ts ⊕ t)) fs) (stuck i)))
+    cond (is_blank b) (after t (arr ts ∷ fs)) (cond (eqb b 0x2C) (want (arr (ts ⊕ t) ∷ fs)) (cond (eqb b 0x5D) (after (array (ts ⊕ t)) fs) (stuck i)))
 past t (obj ts w a e ∷ fs) i b =
-    cond (isBlank b) (after t (obj ts w a e ∷ fs))
+    cond (is_blank b) (after t (obj ts w a e ∷ fs))
     (cond (eqb b 0x2C) (name (ts ⊕ field w a e t) fs) (cond (eqb b 0x7D) (after (object (ts ⊕ field w a e t)) fs) (stuck i)))
 
 -- A word with one letter more.
@@ -174,37 +174,37 @@ spelling (c ∷ cs) t fs = word (c ∷ cs) t fs
 -- A value's first byte, where it may begin.
 unfoldable pub start : List Frame → ℕ → ℕ → State
 start fs i b =
-    cond (isDigit b) (digits (begun b) false i (b ∷ []) fs)
-    (cond (eqb b 0x22) (chars [] a-value fs)
+    cond (is_digit b) (digits (begun b) false i (b ∷ []) fs)
+    (cond (eqb b 0x22) (chars [] a_value fs)
     (cond (eqb b 0x5B) (first fs)
-    (cond (eqb b 0x7B) (first-name fs)
+    (cond (eqb b 0x7B) (first_name fs)
     (cond (eqb b 0x2D) (minus fs)
     (cond (eqb b 0x66) (word (0x61 ∷ 0x6C ∷ 0x73 ∷ 0x65 ∷ []) (tree BOOL (byte 0 ∷ []) none) fs)
     (cond (eqb b 0x6E) (word (0x75 ∷ 0x6C ∷ 0x6C ∷ []) (tree NULL [] none) fs)
     (cond (eqb b 0x74) (word (0x72 ∷ 0x75 ∷ 0x65 ∷ []) (tree BOOL (byte 1 ∷ []) none) fs) (stuck i))))))))
 
 -- 01's depth.
-abbrev pub is-deep : ℕ → Bool
-is-deep k = leb 200 k
+abbrev pub is_deep : ℕ → Bool
+is_deep k = leb 200 k
 
 module _ (deep : ℕ → Bool) (large : List ℕ → Bool) where
   unfoldable pub begin : List Frame → ℕ → ℕ → State
   unfolding start
-  begin fs i b = cond (canBegin b) (cond (deep (length fs)) (broken DEPTH i i) (start fs i b)) (stuck i)
+  begin fs i b = cond (can_begin b) (cond (deep (length fs)) (broken DEPTH i i) (start fs i b)) (stuck i)
 
   -- One byte more.
   unfoldable pub step : State → ℕ → ℕ → State
-  unfolding begin next whole is-over signed past spelled escaped closed
-  step (want fs) i b = cond (isBlank b) (want fs) (begin fs i b)
-  step (first fs) i b = cond (isBlank b) (first fs) (cond (eqb b 0x5D) (after (array none) fs) (begin (arr none ∷ fs) i b))
-  step (first-name fs) i b = cond (isBlank b) (first-name fs) (cond (eqb b 0x22) (chars [] (a-name none i) fs) (cond (eqb b 0x7D) (after (object none) fs) (stuck i)))
-  step (name ts fs) i b = cond (isBlank b) (name ts fs) (cond (eqb b 0x22) (chars [] (a-name ts i) fs) (stuck i))
-  step (colon ts w a e fs) i b = cond (isBlank b) (colon ts w a e fs) (cond (eqb b 0x3A) (want (obj ts w a e ∷ fs)) (stuck i))
+  unfolding begin next whole is_over signed past spelled escaped closed
+  step (want fs) i b = cond (is_blank b) (want fs) (begin fs i b)
+  step (first fs) i b = cond (is_blank b) (first fs) (cond (eqb b 0x5D) (after (array none) fs) (begin (arr none ∷ fs) i b))
+  step (first_name fs) i b = cond (is_blank b) (first_name fs) (cond (eqb b 0x22) (chars [] (a_name none i) fs) (cond (eqb b 0x7D) (after (object none) fs) (stuck i)))
+  step (name ts fs) i b = cond (is_blank b) (name ts fs) (cond (eqb b 0x22) (chars [] (a_name ts i) fs) (stuck i))
+  step (colon ts w a e fs) i b = cond (is_blank b) (colon ts w a e fs) (cond (eqb b 0x3A) (want (obj ts w a e ∷ fs)) (stuck i))
   step (after t fs) i b = past t fs i b
   step (word cs t fs) i b = spelled cs t fs i b
-  step (minus fs) i b = cond (isDigit b) (cond (deep (length fs + 1)) (broken DEPTH i i) (digits (begun b) true i (b ∷ []) fs)) (stuck i)
+  step (minus fs) i b = cond (is_digit b) (cond (deep (length fs + 1)) (broken DEPTH i i) (digits (begun b) true i (b ∷ []) fs)) (stuck i)
   step (digits sh neg a w fs) i b =
-      cond (is-over (next sh b)) (cond (whole sh) (cond (large w) (broken LARGE a i) (past (signed neg w) fs i b)) (stuck i))
+      cond (is_over (next sh b)) (cond (whole sh) (cond (large w) (broken LARGE a i) (past (signed neg w) fs i b)) (stuck i))
       (digits (next sh b) neg a (w ++ (b ∷ [])) fs)
   step (chars w u fs) i b = cond (is_plain b) (chars (w ++ (b ∷ [])) u fs) (cond (eqb b 0x22) (closed w u (i + 1) fs) (cond (eqb b 0x5C) (escape slash w u fs) (stuck i)))
   step (escape x w u fs) i b = escaped x w u fs i b
@@ -213,23 +213,23 @@ module _ (deep : ℕ → Bool) (large : List ℕ → Bool) where
 
   unfoldable pub ended : Trees → List Frame → ℕ → Verdict
   ended t [] i = answer.tree t
-  ended t (f ∷ fs) i = refused NOT-JSON i i 0
+  ended t (f ∷ fs) i = refused NOT_JSON i i 0
 
   -- The end of the text.
   unfoldable pub finish : State → ℕ → Verdict
   unfolding ended whole signed
-  finish (want fs) i = refused NOT-JSON i i 0
-  finish (first fs) i = refused NOT-JSON i i 0
-  finish (first-name fs) i = refused NOT-JSON i i 0
-  finish (name ts fs) i = refused NOT-JSON i i 0
-  finish (colon ts w a e fs) i = refused NOT-JSON i i 0
+  finish (want fs) i = refused NOT_JSON i i 0
+  finish (first fs) i = refused NOT_JSON i i 0
+  finish (first_name fs) i = refused NOT_JSON i i 0
+  finish (name ts fs) i = refused NOT_JSON i i 0
+  finish (colon ts w a e fs) i = refused NOT_JSON i i 0
   finish (after t fs) i = ended t fs i
-  finish (word cs t fs) i = refused NOT-JSON i i 0
-  finish (minus fs) i = refused NOT-JSON i i 0
-  finish (digits sh neg a w fs) i = cond (whole sh) (cond (large w) (refused LARGE a i 0) (ended (signed neg w) fs i)) (refused NOT-JSON i i 0)
-  finish (chars w u fs) i = refused NOT-JSON i i 0
-  finish (escape x w u fs) i = refused NOT-JSON i i 0
-  finish (stuck n) i = refused NOT-JSON n n 0
+  finish (word cs t fs) i = refused NOT_JSON i i 0
+  finish (minus fs) i = refused NOT_JSON i i 0
+  finish (digits sh neg a w fs) i = cond (whole sh) (cond (large w) (refused LARGE a i 0) (ended (signed neg w) fs i)) (refused NOT_JSON i i 0)
+  finish (chars w u fs) i = refused NOT_JSON i i 0
+  finish (escape x w u fs) i = refused NOT_JSON i i 0
+  finish (stuck n) i = refused NOT_JSON n n 0
   finish (broken n a e) i = refused n a e 0
 
   unfoldable pub run : State → ℕ → List ℕ → Verdict

@@ -3,7 +3,7 @@
 use Rattle.std.specs.Prelude.{◌≡◌, Bool, true, not, ◌&&◌, ◌||◌, List, [], ◌∷◌, ◌++◌, ℕ, ◌+◌, ◌-◌, ◌*◌, eqb, leb, length}
 use Rattle.strings.specs.Utf8.{In, Scalar, utf8}
 use Rattle.strings.specs.Literals.{Four, Low, Begins}
-use Rattle.numerals.specs.Value.{isDigit}
+use Rattle.numerals.specs.Value.{is_digit}
 
 infix 60 ◌▹◌
 -- R61. A place in a text: its offset, and the bytes from there on.
@@ -13,12 +13,12 @@ pub data At : Type 0 where
 -- ── Section 2: white space and structural characters ──────────────────────────────────────────────
 
 -- R61. "ws = *( %x20 / %x09 / %x0A / %x0D )"
-abbrev pub isBlank : ℕ → Bool
-isBlank b = eqb b 0x20 || (eqb b 0x09 || (eqb b 0x0A || eqb b 0x0D))
+abbrev pub is_blank : ℕ → Bool
+is_blank b = eqb b 0x20 || (eqb b 0x09 || (eqb b 0x0A || eqb b 0x0D))
 
 pub data Ws : At → At → Type 0 where
   none : {h : At} → Ws h h
-  more : {i b : ℕ} {s : List ℕ} {h : At} → isBlank b ≡ true → Ws (i + 1 ▹ s) h → Ws (i ▹ b ∷ s) h
+  more : {i b : ℕ} {s : List ℕ} {h : At} → is_blank b ≡ true → Ws (i + 1 ▹ s) h → Ws (i ▹ b ∷ s) h
 
 -- R61. A bracket that closes, with the white space before it.
 pub data Closes (c : ℕ) : At → At → Type 0 where
@@ -32,8 +32,8 @@ pub data Around (c : ℕ) : At → At → Type 0 where
 
 -- R63. "1*DIGIT"
 pub data Digits : List ℕ → Type 0 where
-  one : {b : ℕ} → isDigit b ≡ true → Digits (b ∷ [])
-  more : {b : ℕ} {w : List ℕ} → isDigit b ≡ true → Digits w → Digits (b ∷ w)
+  one : {b : ℕ} → is_digit b ≡ true → Digits (b ∷ [])
+  more : {b : ℕ} {w : List ℕ} → is_digit b ≡ true → Digits w → Digits (b ∷ w)
 
 -- R63. "int = zero / ( digit1-9 *DIGIT )"
 pub data Int : List ℕ → Type 0 where
@@ -77,16 +77,16 @@ is_plain b = leb 0x20 b && (not (eqb b 0x22) && not (eqb b 0x5C))
 
 -- R64. "escape ( %x22 / %x5C / %x2F / %x62 / %x66 / %x6E / %x72 / %x74 )": the letter, and the character that it stands for.
 pub data Letter : ℕ → ℕ → Type 0 where
-  quotation-mark : Letter 0x22 0x22
-  reverse-solidus : Letter 0x5C 0x5C
+  quotation_mark : Letter 0x22 0x22
+  reverse_solidus : Letter 0x5C 0x5C
   solidus : Letter 0x2F 0x2F
   backspace : Letter 0x62 0x08
-  form-feed : Letter 0x66 0x0C
-  line-feed : Letter 0x6E 0x0A
+  form_feed : Letter 0x66 0x0C
+  line_feed : Letter 0x6E 0x0A
   return : Letter 0x72 0x0D
   tab : Letter 0x74 0x09
 
--- R64. "*char quotation-mark": the characters up to the closing quote, and their text. "\u" and four hex digits are a code point, and two halves
+-- R64. "*char quotation_mark": the characters up to the closing quote, and their text. "\u" and four hex digits are a code point, and two halves
 -- are one ("12-character sequence"); a half alone is refused (02, Item 6), so that it stands in no text.
 pub data Chars : At → List ℕ → At → Type 0 where
   end : {i : ℕ} {s : List ℕ} → Chars (i ▹ 0x22 ∷ s) [] (i + 1 ▹ s)
@@ -97,6 +97,6 @@ pub data Chars : At → List ℕ → At → Type 0 where
       {i hi lo : ℕ} {s q r t : List ℕ} {h : At} → Four s hi q → In 0xD800 0xDBFF hi → Low q lo r → Chars (i + 12 ▹ r) t h →
       Chars (i ▹ 0x5C ∷ 0x75 ∷ s) (utf8 (0x10000 + (hi - 0xD800) * 0x400 + (lo - 0xDC00)) ++ t) h
 
--- R64. "string = quotation-mark *char quotation-mark"
+-- R64. "string = quotation_mark *char quotation_mark"
 pub data String : At → List ℕ → At → Type 0 where
   string : {i : ℕ} {s w : List ℕ} {h : At} → Chars (i + 1 ▹ s) w h → String (i ▹ 0x22 ∷ s) w h

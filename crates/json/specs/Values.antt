@@ -1,7 +1,7 @@
 -- Values of a JSON text: RFC 8259, sections 3, 4 and 5, with the trees that they are, and where the reading of one breaks off.
 -- Assumes nothing.
 use Rattle.std.specs.Prelude.{◌≡◌, Bool, true, ◌||◌, List, [], ◌∷◌, ℕ, ◌+◌, eqb}
-use Rattle.numerals.specs.Value.{isDigit}
+use Rattle.numerals.specs.Value.{is_digit}
 use Rattle.grammar.specs.Tags.{NULL, BOOL, NUMBER, STRING, ARRAY, MEMBERS, PREFIX, FIELD}
 use Rattle.grammar.specs.Numbers.{DEPTH, LARGE}
 use Rattle.grammar.specs.Trees.{byte, number, span, text, Trees, none, tree, ◌⊕◌, count}
@@ -25,8 +25,8 @@ abbrev pub object : Trees → Trees
 object ts = tree MEMBERS (number (count ts) ∷ []) ts
 
 -- R62. The bytes that can begin a value: `{ [ " - f n t` and the digits.
-abbrev pub canBegin : ℕ → Bool
-canBegin b = eqb b 0x7B || (eqb b 0x5B || (eqb b 0x22 || (eqb b 0x2D || (eqb b 0x66 || (eqb b 0x6E || (eqb b 0x74 || isDigit b))))))
+abbrev pub can_begin : ℕ → Bool
+can_begin b = eqb b 0x7B || (eqb b 0x5B || (eqb b 0x22 || (eqb b 0x2D || (eqb b 0x66 || (eqb b 0x6E || (eqb b 0x74 || is_digit b))))))
 
 -- R62. "member = string name-separator value", up to the value: the name's text, from where to where it stands, and where the value begins.
 pub data Named : At → List ℕ → ℕ → ℕ → At → Type 0 where
@@ -45,46 +45,46 @@ pub data Outcome : Type 0 where
 -- leave no room for one more, `Large w` that no number may be w.
 pub data Reads (Deep : ℕ → Type 0) (Large : List ℕ → Type 0) : Part → ℕ → At → Outcome → Type 0 where
   -- "start = end = where that value or number begins, given only if a byte that can begin it is there"
-  too-deep : {k i b : ℕ} {s : List ℕ} → Deep k → canBegin b ≡ true → Reads Deep Large value k (i ▹ b ∷ s) (broken DEPTH i i)
+  too_deep : {k i b : ℕ} {s : List ℕ} → Deep k → can_begin b ≡ true → Reads Deep Large value k (i ▹ b ∷ s) (broken DEPTH i i)
   -- "false / null / true"
-  a-false : {k i : ℕ} {s : List ℕ} → (Deep k → ⊥)
+  a_false : {k i : ℕ} {s : List ℕ} → (Deep k → ⊥)
       → Reads Deep Large value k (i ▹ 0x66 ∷ 0x61 ∷ 0x6C ∷ 0x73 ∷ 0x65 ∷ s) (done (tree BOOL (byte 0 ∷ []) none) (i + 5 ▹ s))
-  a-null : {k i : ℕ} {s : List ℕ} → (Deep k → ⊥) → Reads Deep Large value k (i ▹ 0x6E ∷ 0x75 ∷ 0x6C ∷ 0x6C ∷ s) (done (tree NULL [] none) (i + 4 ▹ s))
-  a-true : {k i : ℕ} {s : List ℕ} → (Deep k → ⊥) → Reads Deep Large value k (i ▹ 0x74 ∷ 0x72 ∷ 0x75 ∷ 0x65 ∷ s) (done (tree BOOL (byte 1 ∷ []) none) (i + 4 ▹ s))
+  a_null : {k i : ℕ} {s : List ℕ} → (Deep k → ⊥) → Reads Deep Large value k (i ▹ 0x6E ∷ 0x75 ∷ 0x6C ∷ 0x6C ∷ s) (done (tree NULL [] none) (i + 4 ▹ s))
+  a_true : {k i : ℕ} {s : List ℕ} → (Deep k → ⊥) → Reads Deep Large value k (i ▹ 0x74 ∷ 0x72 ∷ 0x75 ∷ 0x65 ∷ s) (done (tree BOOL (byte 1 ∷ []) none) (i + 4 ▹ s))
   -- "string"
-  a-string : {k : ℕ} {h g : At} {w : List ℕ} → (Deep k → ⊥) → String h w g → Reads Deep Large value k h (done (leaf STRING w) g)
+  a_string : {k : ℕ} {h g : At} {w : List ℕ} → (Deep k → ⊥) → String h w g → Reads Deep Large value k h (done (leaf STRING w) g)
   -- "number = [ minus ] ..": 02, "one for each minus sign"
   positive : {k : ℕ} {h : At} {o : Outcome} → Reads Deep Large unsigned k h o → Reads Deep Large value k h o
   minus : {k i : ℕ} {s : List ℕ} {t : Trees} {g : At} → (Deep k → ⊥) → Reads Deep Large unsigned (k + 1) (i + 1 ▹ s) (done t g)
       → Reads Deep Large value k (i ▹ 0x2D ∷ s) (done (negative t) g)
-  minus-broken : {k i n a e : ℕ} {s : List ℕ} → (Deep k → ⊥) → Reads Deep Large unsigned (k + 1) (i + 1 ▹ s) (broken n a e)
+  minus_broken : {k i n a e : ℕ} {s : List ℕ} → (Deep k → ⊥) → Reads Deep Large unsigned (k + 1) (i + 1 ▹ s) (broken n a e)
       → Reads Deep Large value k (i ▹ 0x2D ∷ s) (broken n a e)
-  deep-number : {k i b : ℕ} {s : List ℕ} → Deep k → isDigit b ≡ true → Reads Deep Large unsigned k (i ▹ b ∷ s) (broken DEPTH i i)
-  a-number : {k : ℕ} {h g : At} {w : List ℕ} → (Deep k → ⊥) → Literal h w g → (Large w → ⊥) → Reads Deep Large unsigned k h (done (leaf NUMBER w) g)
+  deep_number : {k i b : ℕ} {s : List ℕ} → Deep k → is_digit b ≡ true → Reads Deep Large unsigned k (i ▹ b ∷ s) (broken DEPTH i i)
+  a_number : {k : ℕ} {h g : At} {w : List ℕ} → (Deep k → ⊥) → Literal h w g → (Large w → ⊥) → Reads Deep Large unsigned k h (done (leaf NUMBER w) g)
   -- R67. 17 "at the literal without its minus"
   large : {k i j : ℕ} {s r w : List ℕ} → (Deep k → ⊥) → Literal (i ▹ s) w (j ▹ r) → Large w → Reads Deep Large unsigned k (i ▹ s) (broken LARGE i j)
   -- "array = begin-array [ value *( value-separator value ) ] end-array"
-  empty-array : {k i : ℕ} {s : List ℕ} {g : At} → (Deep k → ⊥) → Closes 0x5D (i + 1 ▹ s) g → Reads Deep Large value k (i ▹ 0x5B ∷ s) (done (array none) g)
-  an-array : {k i : ℕ} {s : List ℕ} {h g : At} {ts : Trees} → (Deep k → ⊥) → Ws (i + 1 ▹ s) h → Reads Deep Large elements (k + 1) h (done ts g)
+  empty_array : {k i : ℕ} {s : List ℕ} {g : At} → (Deep k → ⊥) → Closes 0x5D (i + 1 ▹ s) g → Reads Deep Large value k (i ▹ 0x5B ∷ s) (done (array none) g)
+  an_array : {k i : ℕ} {s : List ℕ} {h g : At} {ts : Trees} → (Deep k → ⊥) → Ws (i + 1 ▹ s) h → Reads Deep Large elements (k + 1) h (done ts g)
       → Reads Deep Large value k (i ▹ 0x5B ∷ s) (done (array ts) g)
-  array-broken : {k i n a e : ℕ} {s : List ℕ} {h : At} → (Deep k → ⊥) → Ws (i + 1 ▹ s) h → Reads Deep Large elements (k + 1) h (broken n a e)
+  array_broken : {k i n a e : ℕ} {s : List ℕ} {h : At} → (Deep k → ⊥) → Ws (i + 1 ▹ s) h → Reads Deep Large elements (k + 1) h (broken n a e)
       → Reads Deep Large value k (i ▹ 0x5B ∷ s) (broken n a e)
-  last-element : {k : ℕ} {h m g : At} {t : Trees} → Reads Deep Large value k h (done t m) → Closes 0x5D m g → Reads Deep Large elements k h (done t g)
-  next-element : {k : ℕ} {h m n g : At} {t ts : Trees} → Reads Deep Large value k h (done t m) → Around 0x2C m n → Reads Deep Large elements k n (done ts g)
+  last_element : {k : ℕ} {h m g : At} {t : Trees} → Reads Deep Large value k h (done t m) → Closes 0x5D m g → Reads Deep Large elements k h (done t g)
+  next_element : {k : ℕ} {h m n g : At} {t ts : Trees} → Reads Deep Large value k h (done t m) → Around 0x2C m n → Reads Deep Large elements k n (done ts g)
       → Reads Deep Large elements k h (done (t ⊕ ts) g)
-  element-broken : {k n a e : ℕ} {h : At} → Reads Deep Large value k h (broken n a e) → Reads Deep Large elements k h (broken n a e)
-  elements-broken : {k n a e : ℕ} {h m l : At} {t : Trees} → Reads Deep Large value k h (done t m) → Around 0x2C m l → Reads Deep Large elements k l (broken n a e)
+  element_broken : {k n a e : ℕ} {h : At} → Reads Deep Large value k h (broken n a e) → Reads Deep Large elements k h (broken n a e)
+  elements_broken : {k n a e : ℕ} {h m l : At} {t : Trees} → Reads Deep Large value k h (done t m) → Around 0x2C m l → Reads Deep Large elements k l (broken n a e)
       → Reads Deep Large elements k h (broken n a e)
   -- "object = begin-object [ member *( value-separator member ) ] end-object"; "duplicate names stay"
-  empty-object : {k i : ℕ} {s : List ℕ} {g : At} → (Deep k → ⊥) → Closes 0x7D (i + 1 ▹ s) g → Reads Deep Large value k (i ▹ 0x7B ∷ s) (done (object none) g)
-  an-object : {k i : ℕ} {s : List ℕ} {h g : At} {ts : Trees} → (Deep k → ⊥) → Ws (i + 1 ▹ s) h → Reads Deep Large members (k + 1) h (done ts g)
+  empty_object : {k i : ℕ} {s : List ℕ} {g : At} → (Deep k → ⊥) → Closes 0x7D (i + 1 ▹ s) g → Reads Deep Large value k (i ▹ 0x7B ∷ s) (done (object none) g)
+  an_object : {k i : ℕ} {s : List ℕ} {h g : At} {ts : Trees} → (Deep k → ⊥) → Ws (i + 1 ▹ s) h → Reads Deep Large members (k + 1) h (done ts g)
       → Reads Deep Large value k (i ▹ 0x7B ∷ s) (done (object ts) g)
-  object-broken : {k i n a e : ℕ} {s : List ℕ} {h : At} → (Deep k → ⊥) → Ws (i + 1 ▹ s) h → Reads Deep Large members (k + 1) h (broken n a e)
+  object_broken : {k i n a e : ℕ} {s : List ℕ} {h : At} → (Deep k → ⊥) → Ws (i + 1 ▹ s) h → Reads Deep Large members (k + 1) h (broken n a e)
       → Reads Deep Large value k (i ▹ 0x7B ∷ s) (broken n a e)
-  last-member : {k a e : ℕ} {h v m g : At} {w : List ℕ} {t : Trees} → Named h w a e v → Reads Deep Large value k v (done t m) → Closes 0x7D m g
+  last_member : {k a e : ℕ} {h v m g : At} {w : List ℕ} {t : Trees} → Named h w a e v → Reads Deep Large value k v (done t m) → Closes 0x7D m g
       → Reads Deep Large members k h (done (field w a e t) g)
-  next-member : {k a e : ℕ} {h v m n g : At} {w : List ℕ} {t ts : Trees} → Named h w a e v → Reads Deep Large value k v (done t m) → Around 0x2C m n
+  next_member : {k a e : ℕ} {h v m n g : At} {w : List ℕ} {t ts : Trees} → Named h w a e v → Reads Deep Large value k v (done t m) → Around 0x2C m n
       → Reads Deep Large members k n (done ts g) → Reads Deep Large members k h (done (field w a e t ⊕ ts) g)
-  member-broken : {k a e n b c : ℕ} {h v : At} {w : List ℕ} → Named h w a e v → Reads Deep Large value k v (broken n b c) → Reads Deep Large members k h (broken n b c)
-  members-broken : {k a e n b c : ℕ} {h v m l : At} {w : List ℕ} {t : Trees} → Named h w a e v → Reads Deep Large value k v (done t m) → Around 0x2C m l
+  member_broken : {k a e n b c : ℕ} {h v : At} {w : List ℕ} → Named h w a e v → Reads Deep Large value k v (broken n b c) → Reads Deep Large members k h (broken n b c)
+  members_broken : {k a e n b c : ℕ} {h v m l : At} {w : List ℕ} {t : Trees} → Named h w a e v → Reads Deep Large value k v (done t m) → Around 0x2C m l
       → Reads Deep Large members k l (broken n b c) → Reads Deep Large members k h (broken n b c)

@@ -4,9 +4,9 @@ ghost use Rattle.grammar.specs.Tags.{NULL, BOOL, FIELD};
 ghost use Rattle.grammar.specs.Trees.{byte, number as number01, span, none, tree};
 ghost use Rattle.grammar.specs.Image.{entry};
 ghost use Rattle.grammar.specs.Writing.{Wrote};
-ghost use Rattle.json.specs.Values.{canBegin};
-ghost use Rattle.json.specs.Tokens.{isBlank};
-ghost use Rattle.json.specs.Machine.{spelling, minus, first, first-name, want};
+ghost use Rattle.json.specs.Values.{can_begin};
+ghost use Rattle.json.specs.Tokens.{is_blank};
+ghost use Rattle.json.specs.Machine.{spelling, minus, first, first_name, want};
 ghost use Rattle.json.specs.Leaves.{Ready, LeafTo, Any, NumeralTo};
 ghost use Rattle.json.specs.Steps.{stepped, Shallow, ColonTo, NamedTo, OpensTo, Behind, Standing, ArrayNext, ObjectNext, OpenNext, EndedTo, ParsedTo};
 ghost use Rattle.json.specs.Importer.{importing, written as written01, Finds, Imports};
@@ -153,7 +153,7 @@ fn negative(text: &[u8], out: &mut [u8], at: usize, w: usize, depth: usize) -> L
 
 // Whether a byte can begin a value.
 fn begins(b: u8) -> bool
-    ensures { result ≡ canBegin b }
+    ensures { result ≡ can_begin b }
 {
     match b {
         b'"' => true,
@@ -190,7 +190,7 @@ fn behind_name(text: &[u8], end: usize, w: usize, o: Open) -> Naming
 
 // A field's name at a place, and the colon behind it.
 fn named(text: &[u8], out: &mut [u8], at: usize, w: usize, count: usize) -> Naming
-    requires { Ready text.now at w × (isBlank (get_or text.now at 0) ≡ false) }
+    requires { Ready text.now at w × (is_blank (get_or text.now at 0) ≡ false) }
     ensures { NamedTo text.now out.old at w count result out.new }
 {
     if scan::peek(text, at) != b'"' {
@@ -232,7 +232,7 @@ fn array(text: &[u8], out: &mut [u8], from: usize, w: usize) -> Step
 // Behind a `{`: an empty object, or a first field's name.
 fn object(text: &[u8], out: &mut [u8], from: usize, w: usize) -> Step
     requires { Ready text.now from w }
-    ensures { OpensTo text.now out.old Shallow first-name from w result out.new }
+    ensures { OpensTo text.now out.old Shallow first_name from w result out.new }
 {
     let at = scan::blanks(text, from);
     if scan::peek(text, at) == b'}' {
@@ -247,7 +247,7 @@ fn object(text: &[u8], out: &mut [u8], from: usize, w: usize) -> Step
 
 // A value within so many open ones.
 fn value(text: &[u8], out: &mut [u8], at: usize, w: usize, depth: usize) -> Step
-    requires { Ready text.now at w × (isBlank (get_or text.now at 0) ≡ false) }
+    requires { Ready text.now at w × (is_blank (get_or text.now at 0) ≡ false) }
     ensures { OpensTo text.now out.old (λ fs. length fs ≡ depth) want at w result out.new }
 {
     let b = scan::peek(text, at);

@@ -1,8 +1,8 @@
 // What a JSON text's bytes are by themselves: white space, words, digits and numbers.
 ghost use Rattle.std.specs.Prelude.{◌≡◌, cond, ◌≤◌, ◌<◌, length, get_or};
-ghost use Rattle.numerals.specs.Value.{isDigit};
-ghost use Rattle.json.specs.Tokens.{isBlank};
-ghost use Rattle.json.specs.Machine.{isMark, isSign, zero, int, frac, mark, over, whole, begun as begun01, next as next01, is-over as is_over};
+ghost use Rattle.numerals.specs.Value.{is_digit};
+ghost use Rattle.json.specs.Tokens.{is_blank};
+ghost use Rattle.json.specs.Machine.{is_mark, is_sign, zero, int, frac, mark, over, whole, begun as begun01, next as next01, is_over as is_over};
 ghost use Rattle.json.specs.Inner.{Blanks, WordTo, shape, ScannedTo, NumberTo};
 
 use crate::Scanned;
@@ -15,7 +15,7 @@ pub(crate) fn peek(text: &[u8], at: usize) -> u8
 }
 
 fn is_blank(b: u8) -> bool
-    ensures { result ≡ isBlank b }
+    ensures { result ≡ is_blank b }
 {
     match b {
         b' ' => true,
@@ -62,7 +62,7 @@ pub(crate) fn word(text: &[u8], at: usize, letters: &[u8]) -> Scanned
 }
 
 pub(crate) fn is_digit(b: u8) -> bool
-    ensures { result ≡ isDigit b }
+    ensures { result ≡ is_digit b }
 {
     if b < b'0' {
         return false;
@@ -84,7 +84,7 @@ pub(crate) enum Shape {
 }
 
 fn is_mark(b: u8) -> bool
-    ensures { result ≡ isMark b }
+    ensures { result ≡ is_mark b }
 {
     match b {
         b'e' => true,
@@ -94,7 +94,7 @@ fn is_mark(b: u8) -> bool
 }
 
 fn is_sign(b: u8) -> bool
-    ensures { result ≡ isSign b }
+    ensures { result ≡ is_sign b }
 {
     match b {
         b'+' => true,
@@ -115,7 +115,7 @@ fn begun(b: u8) -> Shape
 
 // A digit leads to one shape, any other byte to none.
 fn on_digit(b: u8, to: Shape) -> Shape
-    ensures { shape result ≡ cond (isDigit b) (shape to) over }
+    ensures { shape result ≡ cond (is_digit b) (shape to) over }
 {
     if is_digit(b) {
         return to;
@@ -124,7 +124,7 @@ fn on_digit(b: u8, to: Shape) -> Shape
 }
 
 fn on_mark(b: u8) -> Shape
-    ensures { shape result ≡ cond (isMark b) mark over }
+    ensures { shape result ≡ cond (is_mark b) mark over }
 {
     if is_mark(b) {
         return Shape::Mark;

@@ -4,7 +4,7 @@ ghost use Rattle.strings.specs.Utf8.{In};
 ghost use Rattle.grammar.specs.Image.{two};
 ghost use Rattle.grammar.specs.Writing.{Wrote};
 ghost use Rattle.json.specs.Tokens.{is_plain};
-ghost use Rattle.json.specs.Machine.{slash, u-none, u-two, high, low-two, hex, meant as meant01};
+ghost use Rattle.json.specs.Machine.{slash, u_none, u_two, high, low_two, hex, meant as meant01};
 ghost use Rattle.json.specs.Inner.{EscapeTo, StringTo};
 
 use crate::scan::peek;
@@ -29,7 +29,7 @@ fn digit_at(text: &[u8], at: usize) -> u32
 // The last two digits of a low half.
 fn low_end(text: &[u8], at: usize, half: u32, x: u32) -> Escaped
     requires { (at < 2 ^ 32) × In 0xD800 0xDBFF half × In 0xDC 0xDF x }
-    ensures { EscapeTo text.now (low-two half x) 10 at result }
+    ensures { EscapeTo text.now (low_two half x) 10 at result }
 {
     let c = digit_at(text, at);
     if 15 < c {
@@ -70,7 +70,7 @@ fn low_half(text: &[u8], at: usize, half: u32) -> Escaped
 // The last two digits behind `\u`: no half, or a high one and its low one.
 fn unit_end(text: &[u8], at: usize, x: u32) -> Escaped
     requires { (at < 2 ^ 30) × (x < 256) }
-    ensures { EscapeTo text.now (u-two x) 4 at result }
+    ensures { EscapeTo text.now (u_two x) 4 at result }
 {
     let c = digit_at(text, at);
     if 15 < c {
@@ -93,7 +93,7 @@ fn unit_end(text: &[u8], at: usize, x: u32) -> Escaped
 // Behind `\u`. A low half alone is told from its second digit.
 fn unit(text: &[u8], at: usize) -> Escaped
     requires { at < 2 ^ 29 }
-    ensures { EscapeTo text.now u-none 2 at result }
+    ensures { EscapeTo text.now u_none 2 at result }
 {
     let a = digit_at(text, at);
     if 15 < a {

@@ -17,13 +17,13 @@ use Rattle.grammar.specs.Says.{Spoils}
 use Rattle.grammar.specs.Numbers.{ESCAPE, LARGE}
 use Rattle.grammar.specs.Reading.{choose}
 use Rattle.grammar.specs.Writing.{Wrote}
-use Rattle.grammar.specs.Productions.{Phrase, Body, end, goto, fail, ◌▸◌, eat, leaf, rule, basic, string, object-rest-end, object-pattern-close}
-use Rattle.leaves.specs.Lexing.{Stands, Moved, Past, past, same, Quoting, double, single, double-verbatim, single-verbatim, block, Quotes, quotes, none as no-quotes}
+use Rattle.grammar.specs.Productions.{Phrase, Body, end, goto, fail, ◌▸◌, eat, leaf, rule, basic, string, object_rest_end, object_pattern_close}
+use Rattle.leaves.specs.Lexing.{Stands, Moved, Past, past, same, Quoting, double, single, double_verbatim, single_verbatim, block, Quotes, quotes, none as no-quotes}
 use Rattle.leaves.specs.Meets.{Ready, State, state, Seg, Eats, Leads, power}
 use Rattle.leaves.proofs.LexemeLaws.{lies, sight}
 use Rattle.leaves.proofs.Steps
-use Rattle.leaves.proofs.PartLaws.{lent-short, wrote-lent}
-use Rattle.leaves.proofs.LeafRules.{rest-comma, rest_over, bad-string, large-number}
+use Rattle.leaves.proofs.PartLaws.{lent_short, wrote_lent}
+use Rattle.leaves.proofs.LeafRules.{rest_comma, rest_over, bad_string, large_number}
 use Rattle.leaves.proofs.TextLaws.{spoiling, exceeding}
 use Rattle.leaves.specs.declared.Cursor.{Cursor}
 use Rattle.leaves.specs.declared.Refusal.{Refusal}
@@ -32,35 +32,35 @@ use Rattle.leaves.specs.declared.Answer.TheVariants.{Done, Broken}
 
 -- ── Answers ───────────────────────────────────────────────────────────────────────────────────────
 
-pub done-once : {c c₁ : Cursor} {w w₁ k k₁ : ℕ} → Done c w k ≡ Done c₁ w₁ k₁ → (c ≡ c₁) × (w ≡ w₁) × (k ≡ k₁)
-done-once e = (cc, cc, cc)
+pub done_once : {c c₁ : Cursor} {w w₁ k k₁ : ℕ} → Done c w k ≡ Done c₁ w₁ k₁ → (c ≡ c₁) × (w ≡ w₁) × (k ≡ k₁)
+done_once e = (cc, cc, cc)
 
 -- no answer is both
-pub not-both : {a : Answer} {r : Refusal} {c : Cursor} {w k : ℕ} → a ≡ Broken r → a ≡ Done c w k → ⊥
-not-both e f = let z : ◌≡◌ {A = ℕ} 0 1 = cc in omega arith
+pub not_both : {a : Answer} {r : Refusal} {c : Cursor} {w k : ℕ} → a ≡ Broken r → a ≡ Done c w k → ⊥
+not_both e f = let z : ◌≡◌ {A = ℕ} 0 1 = cc in omega arith
 
 -- past a lexeme
 pub moves : {s : List ℕ} {c c₁ c₂ : Cursor} {w w₁ k k₁ : ℕ} → Stands s c → Moved s c c₁ → ¬ (c.kind ≡ 1) → Done c₁ w k ≡ Done c₂ w₁ k₁
     → (c.at < c₂.at) × (w₁ ≡ w) × (c₂.at ≡ c.end)
 moves st mv h q =
-    let x = done-once q in
+    let x = done_once q in
     let a = ap (λ (y : Cursor). y.at) (sym x.0) ∙ mv.at in
     (omega (arith, a, (lies st).from, (lies st).some h), sym x.1, a)
 
 -- ── Strings ───────────────────────────────────────────────────────────────────────────────────────
 
-pub a-string : {j k : ℕ} → Quoting j → k ≡ j → Quotes k true
-a-string q e = quotes (subst⁻¹ Quoting e q)
+pub a_string : {j k : ℕ} → Quoting j → k ≡ j → Quotes k true
+a_string q e = quotes (subst⁻¹ Quoting e q)
 
 which : {k : ℕ} → Quoting k → ¬ (k ≡ 41) → ¬ (k ≡ 43) → ¬ (k ≡ 45) → ¬ (k ≡ 47) → ¬ (k ≡ 50) → ⊥
 which double a b c d e = a refl
 which single a b c d e = b refl
-which double-verbatim a b c d e = c refl
-which single-verbatim a b c d e = d refl
+which double_verbatim a b c d e = c refl
+which single_verbatim a b c d e = d refl
 which block a b c d e = e refl
 
-pub no-string : {k : ℕ} → ¬ (k ≡ 41) → ¬ (k ≡ 43) → ¬ (k ≡ 45) → ¬ (k ≡ 47) → ¬ (k ≡ 50) → Quotes k false
-no-string a b c d e = no-quotes (λ q. which q a b c d e)
+pub no_string : {k : ℕ} → ¬ (k ≡ 41) → ¬ (k ≡ 43) → ¬ (k ≡ 45) → ¬ (k ≡ 47) → ¬ (k ≡ 50) → Quotes k false
+no_string a b c d e = no-quotes (λ q. which q a b c d e)
 
 -- ── Room ──────────────────────────────────────────────────────────────────────────────────────────
 
@@ -75,8 +75,8 @@ pub few : {s : List ℕ} {c : Cursor} {w n : ℕ} → Ready s c w → n ≤ c.at
 few r h = omega (arith, h, r.stands.short, r.stands.within)
 
 -- a lexeme's bytes
-pub bytes-short : {s : List ℕ} {c : Cursor} {w : ℕ} → Ready s c w → length (take (c.end - c.start) (drop c.start s)) < 65000 + 1
-bytes-short {s} {c} r = lent-short s c.start c.end r.stands.short (lies r.stands).within
+pub bytes_short : {s : List ℕ} {c : Cursor} {w : ℕ} → Ready s c w → length (take (c.end - c.start) (drop c.start s)) < 65000 + 1
+bytes_short {s} {c} r = lent_short s c.start c.end r.stands.short (lies r.stands).within
 
 -- further on
 pub onward : {s : List ℕ} {c c₁ : Cursor} {w : ℕ} → Ready s c w → Stands s c₁ → c.at ≤ c₁.at → Ready s c₁ w
@@ -87,13 +87,13 @@ moved_on st mv = let l = lies st in omega (arith, l.from, l.on, mv.at)
 
 -- ── Sizes of records ──────────────────────────────────────────────────────────────────────────────
 
-pub text-size : (t : ℕ) {s : List ℕ} {c : Cursor} → Stands s c → length (entry t (text (slice c.start c.end s) ∷ [])) ≤ 7 + (c.end - c.at)
+pub text_size : (t : ℕ) {s : List ℕ} {c : Cursor} → Stands s c → length (entry t (text (slice c.start c.end s) ∷ [])) ≤ 7 + (c.end - c.at)
 unfolding entry payload
-text-size t {s} {c} st = let l = lies st in omega (arith, length-slice c.start c.end s l.within, l.from)
+text_size t {s} {c} st = let l = lies st in omega (arith, length-slice c.start c.end s l.within, l.from)
 
-pub name-size : (t : ℕ) {s : List ℕ} {c : Cursor} → Stands s c → length (entry t (span c.start c.end ∷ text (slice c.start c.end s) ∷ [])) ≤ 7 + (c.end - c.at)
+pub name_size : (t : ℕ) {s : List ℕ} {c : Cursor} → Stands s c → length (entry t (span c.start c.end ∷ text (slice c.start c.end s) ∷ [])) ≤ 7 + (c.end - c.at)
 unfolding entry payload
-name-size t {s} {c} st = let l = lies st in omega (arith, length-slice c.start c.end s l.within, l.from)
+name_size t {s} {c} st = let l = lies st in omega (arith, length-slice c.start c.end s l.within, l.from)
 
 -- a record of at most 8 bytes is paid for by any lexeme
 pub small : {s : List ℕ} {c : Cursor} {n : ℕ} → Stands s c → 1 < c.kind → n ≤ 8 → n ≤ 7 + (c.end - c.at)
@@ -101,65 +101,65 @@ small st k h = let l = lies st in let y = l.some (λ z. omega (arith, k, z)) in 
 
 -- ── Past a comma ──────────────────────────────────────────────────────────────────────────────────
 
-pub past-stands : {s : List ℕ} {c c₁ : Cursor} → Stands s c → Past s c c₁ → Stands s c₁ × (c.at ≤ c₁.at)
-past-stands st (past k mv) = (mv.stands, moved_on st mv)
-past-stands {s} {c} st (same h e) = (subst⁻¹ (Stands s) e st, omega (arith, ap (λ (x : Cursor). x.at) e))
+pub past_stands : {s : List ℕ} {c c₁ : Cursor} → Stands s c → Past s c c₁ → Stands s c₁ × (c.at ≤ c₁.at)
+past_stands st (past k mv) = (mv.stands, moved_on st mv)
+past_stands {s} {c} st (same h e) = (subst⁻¹ (Stands s) e st, omega (arith, ap (λ (x : Cursor). x.at) e))
 
 -- where one stands
-pub moved-past : {s : List ℕ} {c c₁ : Cursor} → Past s c c₁ → c.kind ≡ COMMA → Moved s c c₁
-moved-past (past k mv) h = mv
-moved-past (same k e) h = absurd (k h)
+pub moved_past : {s : List ℕ} {c c₁ : Cursor} → Past s c c₁ → c.kind ≡ COMMA → Moved s c c₁
+moved_past (past k mv) h = mv
+moved_past (same k e) h = absurd (k h)
 
-pub past-comma : {g : ℕ} {s : List ℕ} {d : ℕ} {from : State} {r n e v w : ℕ} {x : List ℕ} {c c₁ : Cursor} {o : List ℕ} → Stands s c → Past s c c₁
-    → Seg g s d from e v (state (goto (object-rest-end r x)) n c w o) → Seg g s d from e v (state (goto (object-pattern-close r x)) n c₁ w o)
-past-comma {g} {s} {d} {from} {r} {n} {e} {v} {w} {x} {c} {c₁} {o} st (past k mv) p =
-    let b = Steps.known (eat 33 ▸ goto (object-pattern-close r x)) st k (λ xs t. rest-comma g c xs n r x t) p in
+pub past_comma : {g : ℕ} {s : List ℕ} {d : ℕ} {from : State} {r n e v w : ℕ} {x : List ℕ} {c c₁ : Cursor} {o : List ℕ} → Stands s c → Past s c c₁
+    → Seg g s d from e v (state (goto (object_rest_end r x)) n c w o) → Seg g s d from e v (state (goto (object_pattern_close r x)) n c₁ w o)
+past_comma {g} {s} {d} {from} {r} {n} {e} {v} {w} {x} {c} {c₁} {o} st (past k mv) p =
+    let b = Steps.known (eat 33 ▸ goto (object_pattern_close r x)) st k (λ xs t. rest_comma g c xs n r x t) p in
     let q : e + 0 ≡ e = omega arith in
-    subst (λ (m : ℕ). Seg g s d from m v (state (goto (object-pattern-close r x)) n c₁ w o)) q (Steps.taken_of 0 (omega arith) st mv k b)
-past-comma {g} {s} {d} {from} {r} {n} {e} {v} {w} {x} {c} {c₁} {o} st (same h q) p =
-    subst⁻¹ (λ (y : Cursor). Seg g s d from e v (state (goto (object-pattern-close r x)) n y w o)) q
-    (Steps.known (goto (object-pattern-close r x)) st refl (λ xs t. rest_over g c xs n r x c.kind t h) p)
+    subst (λ (m : ℕ). Seg g s d from m v (state (goto (object_pattern_close r x)) n c₁ w o)) q (Steps.taken_of 0 (omega arith) st mv k b)
+past_comma {g} {s} {d} {from} {r} {n} {e} {v} {w} {x} {c} {c₁} {o} st (same h q) p =
+    subst⁻¹ (λ (y : Cursor). Seg g s d from e v (state (goto (object_pattern_close r x)) n y w o)) q
+    (Steps.known (goto (object_pattern_close r x)) st refl (λ xs t. rest_over g c xs n r x c.kind t h) p)
 
 -- ── Past a lexeme that `eat` took ─────────────────────────────────────────────────────────────────
 
-pub ate-stands : {s : List ℕ} {c c₁ : Cursor} {w w₁ k j : ℕ} {a : Answer} → Stands s c → Eats s k c w a → a ≡ Done c₁ w₁ j → Stands s c₁
-ate-stands {s} {c} {c₁} {w} {k = k} st m q = (Steps.ate m q (Steps.at 0 s 0 (eat k ▸ end) 0 c w [])).stands st
+pub ate_stands : {s : List ℕ} {c c₁ : Cursor} {w w₁ k j : ℕ} {a : Answer} → Stands s c → Eats s k c w a → a ≡ Done c₁ w₁ j → Stands s c₁
+ate_stands {s} {c} {c₁} {w} {k = k} st m q = (Steps.ate m q (Steps.at 0 s 0 (eat k ▸ end) 0 c w [])).stands st
 
 -- ── What `is_string_token` tells ──────────────────────────────────────────────────────────────────
 
-pub is-quoted : {k : ℕ} {b : Bool} → Quotes k b → b ≡ true → Quoting k
-is-quoted (quotes q) e = q
-is-quoted (no-quotes f) e = absurd (let z : ◌≡◌ {A = ℕ} 0 1 = cc in omega arith)
+pub is_quoted : {k : ℕ} {b : Bool} → Quotes k b → b ≡ true → Quoting k
+is_quoted (quotes q) e = q
+is_quoted (no-quotes f) e = absurd (let z : ◌≡◌ {A = ℕ} 0 1 = cc in omega arith)
 
-pub not-quoted : {k : ℕ} {b : Bool} → Quotes k b → b ≡ false → Quoting k → ⊥
-not-quoted (quotes q) e = absurd (let z : ◌≡◌ {A = ℕ} 0 1 = cc in omega arith)
-not-quoted (no-quotes f) e = f
+pub not_quoted : {k : ℕ} {b : Bool} → Quotes k b → b ≡ false → Quoting k → ⊥
+not_quoted (quotes q) e = absurd (let z : ◌≡◌ {A = ℕ} 0 1 = cc in omega arith)
+not_quoted (no-quotes f) e = f
 
 -- ── Texts ─────────────────────────────────────────────────────────────────────────────────────────
 
-pub any-size : (k : ℕ) {s : List ℕ} {c : Cursor} → Stands s c → (t : List ℕ) → length t ≤ c.end - c.start → length (entry k (text t ∷ [])) ≤ 7 + (c.end - c.at)
+pub any_size : (k : ℕ) {s : List ℕ} {c : Cursor} → Stands s c → (t : List ℕ) → length t ≤ c.end - c.start → length (entry k (text t ∷ [])) ≤ 7 + (c.end - c.at)
 unfolding entry payload
-any-size k st t h = omega (arith, h, (lies st).from)
+any_size k st t h = omega (arith, h, (lies st).from)
 
 -- a literal with a bad escape
 pub bad-answer : {g : ℕ} {s : List ℕ} {d n w u m x : ℕ} {b : Body} {c : Cursor} {o o₁ : List ℕ} {a : Answer} → Stands s c → Spoils s c.kind c.start c.end x
     → a ≡ Broken (record { number = ESCAPE; place = c; detail = c.start + 1 + x }) → Leads g s d (state (goto string) n c w o) u b m a o₁
 bad-answer {g} {n = n} {x = x} {c = c} st f e =
-    Steps.broke (Steps.fails st (spoiling (fail 9 (c.start + 1 + x)) st f (λ xs. bad-string g c xs n c.kind x) Steps.here)) e
+    Steps.broke (Steps.fails st (spoiling (fail 9 (c.start + 1 + x)) st f (λ xs. bad_string g c xs n c.kind x) Steps.here)) e
 
 -- a number beyond a double
-pub large-answer : {g : ℕ} {s : List ℕ} {d n w u m : ℕ} {b : Body} {c : Cursor} {o o₁ : List ℕ} {a : Answer} → Stands s c → c.kind ≡ FLOAT
+pub large_answer : {g : ℕ} {s : List ℕ} {d n w u m : ℕ} {b : Body} {c : Cursor} {o o₁ : List ℕ} {a : Answer} → Stands s c → c.kind ≡ FLOAT
     → TooLarge (plain (slice c.start c.end s)) → a ≡ Broken (record { number = LARGE; place = c; detail = 0 }) → Leads g s d (state (goto basic) n c w o) u b m a o₁
-large-answer {g} {n = n} {c = c} st k l e = Steps.broke (Steps.fails st (exceeding (fail LARGE 0) st k l (λ xs. large-number g c xs n) Steps.here)) e
+large_answer {g} {n = n} {c = c} st k l e = Steps.broke (Steps.fails st (exceeding (fail LARGE 0) st k l (λ xs. large_number g c xs n) Steps.here)) e
 
 -- ── Phrases of one lexeme ─────────────────────────────────────────────────────────────────────────
 
 module _ {g : ℕ} {s : List ℕ} {d : ℕ} {q : Phrase} {n w w₁ j : ℕ} {c c₁ : Cursor} {o o₁ : List ℕ} where
   -- a lexeme of kind k is a record of at most 8 bytes
-  pub one-leaf : {k t : ℕ} {f : List Field} → Stands s c → c.kind ≡ k → 1 < k
+  pub one_leaf : {k t : ℕ} {f : List Field} → Stands s c → c.kind ≡ k → 1 < k
       → ((xs : List Lexeme) (u : Said) → choose g (rule (power g) q (sight c xs n k u)) ≡ leaf t f ▸ end) → Moved s c c₁ → length (entry t f) ≤ 8 → Wrote o w (entry t f) w₁ o₁
       → Leads g s d (state (goto q) n c w o) 0 end (n + 1) (Done c₁ w₁ j) o₁
-  one-leaf {k} {t} {f} st e h r mv i u =
+  one_leaf {k} {t} {f} st e h r mv i u =
       let some : 1 < c.kind = omega (arith, e, h) in
       Steps.ends (omega arith) (Steps.leaved st mv some (small st some i) u (Steps.known (leaf t f ▸ end) st e r Steps.here))
 
@@ -169,13 +169,13 @@ module _ {g : ℕ} {s : List ℕ} {d : ℕ} {q : Phrase} {n w w₁ j : ℕ} {c c
       → Moved s c c₁ → Wrote o w (entry t (span c.start c.end ∷ text (take (c.end - c.start) (drop c.start s)) ∷ [])) w₁ o₁
       → Leads g s d (state (goto q) n c w o) 0 end (n + 1) (Done c₁ w₁ j) o₁
   one_name t st e r mv u =
-      let written = wrote-lent t (λ (l : List ℕ). span c.start c.end ∷ text l ∷ []) s c.start c.end u in
+      let written = wrote_lent t (λ (l : List ℕ). span c.start c.end ∷ text l ∷ []) s c.start c.end u in
       let there = Steps.called (leaf t (span c.start c.end ∷ text (slice c.start c.end s) ∷ []) ▸ end) st e r Steps.here in
-      Steps.ends (omega arith) (Steps.leaved st mv (omega (arith, e)) (name-size t st) written there)
+      Steps.ends (omega arith) (Steps.leaved st mv (omega (arith, e)) (name_size t st) written there)
 
 -- a phrase that is broken off by rule
 module _ {g : ℕ} {s : List ℕ} {d : ℕ} {q : Phrase} {n w : ℕ} {c : Cursor} {o o₁ : List ℕ} where
-  pub one-fault : {m x u k : ℕ} {b : Body} {a : Answer} → Stands s c
+  pub one_fault : {m x u k : ℕ} {b : Body} {a : Answer} → Stands s c
       → ((xs : List Lexeme) (t : Said) → choose g (rule (power g) q (sight c xs n c.kind t)) ≡ fail m x) → a ≡ Broken (record { number = m; place = c; detail = x })
       → Leads g s d (state (goto q) n c w o) u b k a o₁
-  one-fault {m} {x} st r e = Steps.broke (Steps.fails st (Steps.known (fail m x) st refl r Steps.here)) e
+  one_fault {m} {x} st r e = Steps.broke (Steps.fails st (Steps.known (fail m x) st refl r Steps.here)) e

@@ -21,13 +21,13 @@ lent (suc a) (suc e) [] = take-nil (suc e - suc a)
 lent (suc a) (suc e) (x ∷ s) = ap (λ (n : ℕ). take n (drop a s)) (let q : suc e - suc a ≡ e - a = omega arith in q) ∙ lent a e s
 
 -- it is as short as the source
-pub lent-short : (s : List ℕ) (a e : ℕ) → length s ≤ 65000 → e ≤ length s → length (take (e - a) (drop a s)) < 65000 + 1
-lent-short s a e h i = omega (arith, ap length (lent a e s), length-slice a e s i, h, i)
+pub lent_short : (s : List ℕ) (a e : ℕ) → length s ≤ 65000 → e ≤ length s → length (take (e - a) (drop a s)) < 65000 + 1
+lent_short s a e h i = omega (arith, ap length (lent a e s), length-slice a e s i, h, i)
 
 -- a record that ends in one
-pub wrote-lent : (t : ℕ) (f : List ℕ → List Field) (s : List ℕ) (a e : ℕ) {o o₁ : List ℕ} {w w₁ : ℕ} → Wrote o w (entry t (f (take (e - a) (drop a s)))) w₁ o₁
+pub wrote_lent : (t : ℕ) (f : List ℕ → List Field) (s : List ℕ) (a e : ℕ) {o o₁ : List ℕ} {w w₁ : ℕ} → Wrote o w (entry t (f (take (e - a) (drop a s)))) w₁ o₁
     → Wrote o w (entry t (f (slice a e s))) w₁ o₁
-wrote-lent t f s a e {o} {o₁} {w} {w₁} u = subst (λ (l : List ℕ). Wrote o w (entry t (f l)) w₁ o₁) (lent a e s) u
+wrote_lent t f s a e {o} {o₁} {w} {w₁} u = subst (λ (l : List ℕ). Wrote o w (entry t (f l)) w₁ o₁) (lent a e s) u
 
 -- ── The rest of the output ────────────────────────────────────────────────────────────────────────
 
@@ -49,9 +49,9 @@ sets-rest out last bs w e =
     ∙ sets-part out w 0 bs
     ∙ ap (λ (n : ℕ). sets out n bs) (let q : w + 0 ≡ w = omega arith in q)
 
-sets-none : (out : List ℕ) (w : ℕ) (bs : List ℕ) → length out ≤ w → sets out w bs ≡ out
-sets-none out w [] h = refl
-sets-none out w (b ∷ bs) h = ap (λ (l : List ℕ). sets l (suc w) bs) (set_out out w b h) ∙ sets-none out (suc w) bs (omega arith)
+sets_none : (out : List ℕ) (w : ℕ) (bs : List ℕ) → length out ≤ w → sets out w bs ≡ out
+sets_none out w [] h = refl
+sets_none out w (b ∷ bs) h = ap (λ (l : List ℕ). sets l (suc w) bs) (set_out out w b h) ∙ sets_none out (suc w) bs (omega arith)
 
 -- what was written first, and what is written before it
 set_comm : (l : List ℕ) (i j x y : ℕ) → ¬ (i ≡ j) → set (set l i x) j y ≡ set (set l j y) i x
@@ -74,20 +74,20 @@ sets-before out w (x ∷ h) bs =
     ∙ sets-before (set out w x) (suc w) h bs
 
 -- the same where there may be no room
-sets-around : (out : List ℕ) (w from : ℕ) (h bs : List ℕ) → (from ≡ w + length h) ⊎ ((from ≡ length out) × (length out ≤ w + length h))
+sets_around : (out : List ℕ) (w from : ℕ) (h bs : List ℕ) → (from ≡ w + length h) ⊎ ((from ≡ length out) × (length out ≤ w + length h))
     → sets (sets out from bs) w h ≡ sets out w (h ++ bs)
-sets-around out w from h bs (inl e) = ap (λ (n : ℕ). sets (sets out n bs) w h) e ∙ sets-before out w h bs
-sets-around out w from h bs (inr e) =
-    ap (λ (l : List ℕ). sets l w h) (sets-none out from bs (omega (arith, e.0)) ∙ sym (sets-none out (w + length h) bs e.1)) ∙ sets-before out w h bs
+sets_around out w from h bs (inl e) = ap (λ (n : ℕ). sets (sets out n bs) w h) e ∙ sets-before out w h bs
+sets_around out w from h bs (inr e) =
+    ap (λ (l : List ℕ). sets l w h) (sets_none out from bs (omega (arith, e.0)) ∙ sym (sets_none out (w + length h) bs e.1)) ∙ sets-before out w h bs
 
 -- a text that was written first, with its head
-pub text-wrote : (t : ℕ) (out : List ℕ) (w from : ℕ) (xs : List ℕ) {out₁ out₂ : List ℕ} {w₁ n : ℕ} → n ≡ length xs → out₁ ≡ sets out from xs
+pub text_wrote : (t : ℕ) (out : List ℕ) (w from : ℕ) (xs : List ℕ) {out₁ out₂ : List ℕ} {w₁ n : ℕ} → n ≡ length xs → out₁ ≡ sets out from xs
     → (from ≡ w + 3) ⊎ ((from ≡ length out) × (length out ≤ w + 3)) → Wrote out₁ w (t ∷ two n) w₁ out₂ → Wrote out w (entry t (text xs ∷ [])) (w₁ + n) out₂
 unfolding entry payload
-text-wrote t out w from xs {out₁} {out₂} {w₁} {n} e q h v =
+text_wrote t out w from xs {out₁} {out₂} {w₁} {n} e q h v =
     record {
       to = omega (arith, v.to, e);
       stored =
-          v.stored ∙ ap (λ (l : List ℕ). sets l w (t ∷ two n)) q ∙ sets-around out w from (t ∷ two n) xs h
+          v.stored ∙ ap (λ (l : List ℕ). sets l w (t ∷ two n)) q ∙ sets_around out w from (t ∷ two n) xs h
           ∙ ap (λ (k : ℕ). sets out w (t ∷ (two k ++ xs))) e;
     }

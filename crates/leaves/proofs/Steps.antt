@@ -8,17 +8,17 @@ use native.Mathlib.Omega.{arith}
 use lib.ListN.{length, length-append}
 use lib.Seq.{sets, slice, length-sets}
 use denote.Enum.Declared.{tag_of}
-use Rattle.strings.proofs.Stores.{sets-append}
+use Rattle.strings.proofs.Stores.{sets_append}
 use Rattle.grammar.specs.Trees.{Field, Trees, none, tree, ◌⊕◌, count as size}
 use Rattle.grammar.specs.Image.{image, entry}
-use Rattle.grammar.specs.Lexemes.{Lexeme, Said, says, rest, kind-of, word_of, stop-of}
+use Rattle.grammar.specs.Lexemes.{Lexeme, Said, says, rest, kind_of, word_of, stop_of}
 use Rattle.grammar.specs.Writing.{Wrote}
 use Rattle.grammar.specs.Productions.{Phrase, Body, end, goto, fail, ◌▸◌, Step, eat, leaf, sub, deep, close, rule}
-use Rattle.grammar.specs.Reading.{Outcome, done, broken, Reading, ended, failed, gone as read-gone, eaten, uneaten, leafed, closed as read-closed, subbed, unsubbed, deepened, undeepened, too-deep as read-too-deep, production, choose}
+use Rattle.grammar.specs.Reading.{Outcome, done, broken, Reading, ended, failed, gone as read_gone, eaten, uneaten, leafed, closed as read-closed, subbed, unsubbed, deepened, undeepened, too_deep as read-too-deep, production, choose}
 use Rattle.leaves.specs.Lexing.{Left, Stands, Moved}
 use Rattle.leaves.specs.Meets.{power, Ready, State, state, Comes, Seg, Stops, Breaks, Led, Leads, Takes, TakesSome, Counted, Counts, Told, Tells, Eats}
-use Rattle.grammar.proofs.ImageLaws.{image-row, count-row, image-close, image-leaf}
-use Rattle.leaves.proofs.LexemeLaws.{lies, Sees, sees, sight, seen, name-says}
+use Rattle.grammar.proofs.ImageLaws.{image-row, count-row, image_close, image-leaf}
+use Rattle.leaves.proofs.LexemeLaws.{lies, Sees, sees, sight, seen, name_says}
 use Rattle.leaves.specs.contracts.Answer.{the_type}
 use Rattle.leaves.specs.declared.Cursor.{Cursor}
 use Rattle.leaves.specs.declared.Refusal.{Refusal}
@@ -52,12 +52,12 @@ at g s d b n c w o = here
 
 -- what a phrase goes on as
 ungone : {g d : ℕ} {q : Phrase} {ts : Trees} {p : ℕ} {xs : List Lexeme} {o : Outcome} → Reading (power g) g (goto q) ts d p xs o → Reading (power g) g (production (power g) g q p xs (size ts)) ts d p xs o
-ungone (read-gone r) = r
+ungone (read_gone r) = r
 
 -- an answer that is not `Done` is `Broken`
-pub no-done : (a : Answer) → tag_of the_type a ≡ 1 → (r : Refusal) × (a ≡ Broken r)
-no-done (Done c w k) e = absurd (let z : ◌≡◌ {A = ℕ} 0 1 = e in omega arith)
-no-done (Broken r) e = (r, refl)
+pub no_done : (a : Answer) → tag_of the_type a ≡ 1 → (r : Refusal) × (a ≡ Broken r)
+no_done (Done c w k) e = absurd (let z : ◌≡◌ {A = ℕ} 0 1 = e in omega arith)
+no_done (Broken r) e = (r, refl)
 
 module _ {g : ℕ} {s : List ℕ} {d : ℕ} where
   -- two stretches make one, with what it has taken and written counted anew
@@ -73,7 +73,7 @@ module _ {g : ℕ} {s : List ℕ} {d : ℕ} where
             let r = p.run ts xs z l in
             let t = q.run (p.trees ts) r.left (p.counted ts z) r.kept in
             record { left = t.left; kept = t.kept; back = λ o x. r.back o (t.back o x) };
-        stored = q.stored ∙ ap (λ (l : List ℕ). sets l mid.written q.bytes) p.stored ∙ sets-append from.out from.written mid.written p.bytes q.bytes p.wrote;
+        stored = q.stored ∙ ap (λ (l : List ℕ). sets l mid.written q.bytes) p.stored ∙ sets_append from.out from.written mid.written p.bytes q.bytes p.wrote;
         wrote = omega (arith, p.wrote, q.wrote, length-append p.bytes q.bytes);
         stands = λ z. q.stands (p.stands z);
         onward = omega (arith, h, p.onward, q.onward);
@@ -111,8 +111,8 @@ module _ {g : ℕ} {s : List ℕ} {d : ℕ} where
   fits r h p = let i = (p.stands r.stands).within in omega (arith, r.stands.short, r.room, h, p.credit, i)
 
   -- the number of trees, and the place, written otherwise
-  pub count-is : {from : State} {b : Body} {n n₁ e v w : ℕ} {c : Cursor} {o : List ℕ} → n ≡ n₁ → Seg g s d from e v (state b n c w o) → Seg g s d from e v (state b n₁ c w o)
-  count-is {from} {b} {e = e} {v} {w} {c} {o} q p = subst (λ (m : ℕ). Seg g s d from e v (state b m c w o)) q p
+  pub count_is : {from : State} {b : Body} {n n₁ e v w : ℕ} {c : Cursor} {o : List ℕ} → n ≡ n₁ → Seg g s d from e v (state b n c w o) → Seg g s d from e v (state b n₁ c w o)
+  count_is {from} {b} {e = e} {v} {w} {c} {o} q p = subst (λ (m : ℕ). Seg g s d from e v (state b m c w o)) q p
 
   pub body_is : {from : State} {b b₁ : Body} {n e v w : ℕ} {c : Cursor} {o : List ℕ} → b ≡ b₁ → Seg g s d from e v (state b n c w o) → Seg g s d from e v (state b₁ n c w o)
   body_is {from} {n = n} {e} {v} {w} {c} {o} q p = subst (λ (x : Body). Seg g s d from e v (state x n c w o)) q p
@@ -135,7 +135,7 @@ module _ {g : ℕ} {s : List ℕ} {d : ℕ} where
             record {
               left = r.left;
               kept = r.kept;
-              back = λ o x. r.back o (read-gone (subst⁻¹ (λ (m : ℕ). there (production (power g) g q c.at r.left m) o) (p.counted ts z) (subst⁻¹ (λ (m : Body). there m o) (f r.left y) x)));
+              back = λ o x. r.back o (read_gone (subst⁻¹ (λ (m : ℕ). there (production (power g) g q c.at r.left m) o) (p.counted ts z) (subst⁻¹ (λ (m : Body). there m o) (f r.left y) x)));
             };
         stored = p.stored;
         wrote = p.wrote;
@@ -155,7 +155,7 @@ module _ {g : ℕ} {s : List ℕ} {d : ℕ} where
       → ((xs : List Lexeme) → choose g (rule (power g) q (sight c xs n 55 (says (slice c.start c.end s)))) ≡ b)
       → Seg g s d from e v (state (goto q) n c w o) → Seg g s d from e v (state b n c w o)
   called {q = q} {n} {c = c} b st k f p =
-      goes b st (λ xs y. seen (power g) g q n y k (name-says k (y.says (λ z. omega (arith, k, z)))) ∙ f xs) p
+      goes b st (λ xs y. seen (power g) g q n y k (name_says k (y.says (λ z. omega (arith, k, z)))) ∙ f xs) p
 
   -- ── Lexemes ─────────────────────────────────────────────────────────────────────────────────────
 
@@ -209,7 +209,7 @@ module _ {g : ℕ} {s : List ℕ} {d : ℕ} where
               kept = subst⁻¹ (λ (q : ℕ). Left s q (rest r.left)) mv.at y.later;
               back = λ o x. r.back o (leafed (subst (λ (q : ℕ). Reading (power g) g b (p.trees ts ⊕ tree t f none) d q (rest r.left) o) (mv.at ∙ sym y.stop) x));
             };
-        stored = u.stored ∙ ap (λ (z : List ℕ). sets z w (entry t f)) p.stored ∙ sets-append from.out from.written w p.bytes (entry t f) p.wrote;
+        stored = u.stored ∙ ap (λ (z : List ℕ). sets z w (entry t f)) p.stored ∙ sets_append from.out from.written w p.bytes (entry t f) p.wrote;
         wrote = omega (arith, p.wrote, u.to, length-append p.bytes (entry t f));
         stands = λ _. mv.stands;
         onward = omega (arith, p.onward, y, l.from, mv.at);
@@ -225,9 +225,9 @@ module _ {g : ℕ} {s : List ℕ} {d : ℕ} where
         bytes = p.bytes ++ entry t f;
         trees = λ ts. tree t f (p.trees ts);
         counted = λ ts z. refl;
-        imaged = λ ts. image-close t f (p.trees ts) ∙ ap (λ (z : List ℕ). z ++ entry t f) (p.imaged ts) ∙ append_assoc (image ts) p.bytes (entry t f);
+        imaged = λ ts. image_close t f (p.trees ts) ∙ ap (λ (z : List ℕ). z ++ entry t f) (p.imaged ts) ∙ append_assoc (image ts) p.bytes (entry t f);
         run = λ ts xs z h. let r = p.run ts xs z h in record { left = r.left; kept = r.kept; back = λ o x. r.back o (read-closed x) };
-        stored = u.stored ∙ ap (λ (z : List ℕ). sets z w (entry t f)) p.stored ∙ sets-append from.out from.written w p.bytes (entry t f) p.wrote;
+        stored = u.stored ∙ ap (λ (z : List ℕ). sets z w (entry t f)) p.stored ∙ sets_append from.out from.written w p.bytes (entry t f) p.wrote;
         wrote = omega (arith, p.wrote, u.to, length-append p.bytes (entry t f));
         stands = p.stands;
         onward = p.onward;
@@ -251,16 +251,16 @@ module _ {g : ℕ} {s : List ℕ} {d : ℕ} where
   took {b = b} {n} m q p = then p (led (m.takes b n) q)
 
   -- by one that owes u
-  pub took-owing : {from : State} {st : Step} {b : Body} {n k e v u w w₁ j : ℕ} {c c₁ : Cursor} {o o₁ : List ℕ} {a : Answer} → Takes g s st k u d c w o a o₁ → a ≡ Done c₁ w₁ j
+  pub took_owing : {from : State} {st : Step} {b : Body} {n k e v u w w₁ j : ℕ} {c c₁ : Cursor} {o o₁ : List ℕ} {a : Answer} → Takes g s st k u d c w o a o₁ → a ≡ Done c₁ w₁ j
       → Seg g s d from e v (state (st ▸ b) n c w o) → Seg g s d from e (v + u) (state b (n + k) c₁ w₁ o₁)
-  took-owing {b = b} {n} m q p = went (m.takes b n) q p
+  took_owing {b = b} {n} m q p = went (m.takes b n) q p
 
   -- a lexeme is taken by `eat`
   pub ate : {from : State} {b : Body} {n k e v w w₁ j : ℕ} {c c₁ : Cursor} {o : List ℕ} {a : Answer} → Eats s k c w a → a ≡ Done c₁ w₁ j
       → Seg g s d from e v (state (eat k ▸ b) n c w o) → Seg g s d from (e + 1) v (state b n c₁ w₁ o)
   ate {n = n} {w₁ = w₁} {j} {c₁ = c₁} {o = o} m q p =
       let x = m.moved c₁ w₁ j q in
-      let r = count-is (let z : n + 0 ≡ n = omega arith in z) (took (m.eats g d o) q p) in
+      let r = count_is (let z : n + 0 ≡ n = omega arith in z) (took (m.eats g d o) q p) in
       record {
         bytes = r.bytes;
         trees = r.trees;
@@ -283,9 +283,9 @@ module _ {g : ℕ} {s : List ℕ} {d : ℕ} where
   unfolding Told
   follows m q p = then p (told m q).0
 
-  pub told-small : {mid : State} {next : ℕ → Body} {n w k : ℕ} {c : Cursor} {o : List ℕ} {a : Answer} → Tells g s d mid next n a o → a ≡ Done c w k → k ≤ 4
+  pub told_small : {mid : State} {next : ℕ → Body} {n w k : ℕ} {c : Cursor} {o : List ℕ} {a : Answer} → Tells g s d mid next n a o → a ≡ Done c w k → k ≤ 4
   unfolding Told
-  told-small m q = (told m q).1
+  told_small m q = (told m q).1
 
   -- a list was read, of as many trees as it tells
   pub counted : {q : Phrase} {v w w₁ k : ℕ} {c c₁ : Cursor} {o o₁ : List ℕ} {a : Answer} → Counts g s q v d c w o a o₁ → a ≡ Done c₁ w₁ k
@@ -314,20 +314,20 @@ module _ {g : ℕ} {s : List ℕ} {d : ℕ} where
   unfolding Led
   broke {from} {b} {n} {u} {o} h e = record { led = subst⁻¹ (λ (x : Answer). Led g s d from u b n x o) e h }
 
-  pub broke-telling : {from : State} {next : ℕ → Body} {n : ℕ} {o : List ℕ} {r : Refusal} {a : Answer} → Breaks g s d from r → a ≡ Broken r → Tells g s d from next n a o
+  pub broke_telling : {from : State} {next : ℕ → Body} {n : ℕ} {o : List ℕ} {r : Refusal} {a : Answer} → Breaks g s d from r → a ≡ Broken r → Tells g s d from next n a o
   unfolding Told
-  broke-telling {from} {next} {n} {o} h e = record { tells = subst⁻¹ (λ (x : Answer). Told g s d from next n x o) e h }
+  broke_telling {from} {next} {n} {o} h e = record { tells = subst⁻¹ (λ (x : Answer). Told g s d from next n x o) e h }
 
   pub refused : {mid : State} {b : Body} {n u : ℕ} {o : List ℕ} {r : Refusal} {a : Answer} → Leads g s d mid u b n a o → a ≡ Broken r → Breaks g s d mid r
   unfolding Led
   refused {mid} {b} {n} {u} {o} m e = subst (λ (x : Answer). Led g s d mid u b n x o) e m.led
 
-  pub refused-telling : {mid : State} {next : ℕ → Body} {n : ℕ} {o : List ℕ} {r : Refusal} {a : Answer} → Tells g s d mid next n a o → a ≡ Broken r → Breaks g s d mid r
+  pub refused_telling : {mid : State} {next : ℕ → Body} {n : ℕ} {o : List ℕ} {r : Refusal} {a : Answer} → Tells g s d mid next n a o → a ≡ Broken r → Breaks g s d mid r
   unfolding Told
-  refused-telling {mid} {next} {n} {o} m e = subst (λ (x : Answer). Told g s d mid next n x o) e m.tells
+  refused_telling {mid} {next} {n} {o} m e = subst (λ (x : Answer). Told g s d mid next n x o) e m.tells
 
-  pub breaks-on : {from mid : State} {e v : ℕ} {r : Refusal} → Breaks g s d mid r → Seg g s d from e v mid → Breaks g s d from r
-  breaks-on h p =
+  pub breaks_on : {from mid : State} {e v : ℕ} {r : Refusal} → Breaks g s d mid r → Seg g s d from e v mid → Breaks g s d from r
+  breaks_on h p =
       record {
         breaks = λ ts xs z l.
             let r = p.run ts xs z l in
@@ -337,61 +337,61 @@ module _ {g : ℕ} {s : List ℕ} {d : ℕ} where
       }
 
   -- the refusal of a function that leads on, takes a step, tells, or counts, is found by
-  pub leads-broken : {mid : State} {b : Body} {n u : ℕ} {o : List ℕ} {a : Answer} → Leads g s d mid u b n a o → tag_of the_type a ≡ 1 → (r : Refusal) × (a ≡ Broken r) × Breaks g s d mid r
-  leads-broken {a = a} m q = let x = no-done a q in (x.0, x.1, refused m x.1)
+  pub leads_broken : {mid : State} {b : Body} {n u : ℕ} {o : List ℕ} {a : Answer} → Leads g s d mid u b n a o → tag_of the_type a ≡ 1 → (r : Refusal) × (a ≡ Broken r) × Breaks g s d mid r
+  leads_broken {a = a} m q = let x = no_done a q in (x.0, x.1, refused m x.1)
 
-  pub tells-broken : {mid : State} {next : ℕ → Body} {n : ℕ} {o : List ℕ} {a : Answer} → Tells g s d mid next n a o → tag_of the_type a ≡ 1 → (r : Refusal) × (a ≡ Broken r) × Breaks g s d mid r
-  tells-broken {a = a} m q = let x = no-done a q in (x.0, x.1, refused-telling m x.1)
+  pub tells_broken : {mid : State} {next : ℕ → Body} {n : ℕ} {o : List ℕ} {a : Answer} → Tells g s d mid next n a o → tag_of the_type a ≡ 1 → (r : Refusal) × (a ≡ Broken r) × Breaks g s d mid r
+  tells_broken {a = a} m q = let x = no_done a q in (x.0, x.1, refused_telling m x.1)
 
-  pub takes-broken : {st : Step} {b : Body} {n k u w : ℕ} {c : Cursor} {o o₁ : List ℕ} {a : Answer} → Takes g s st k u d c w o a o₁ → tag_of the_type a ≡ 1
+  pub takes_broken : {st : Step} {b : Body} {n k u w : ℕ} {c : Cursor} {o o₁ : List ℕ} {a : Answer} → Takes g s st k u d c w o a o₁ → tag_of the_type a ≡ 1
       → (r : Refusal) × (a ≡ Broken r) × Breaks g s d (state (st ▸ b) n c w o) r
-  takes-broken {b = b} {n = n} m q = leads-broken (m.takes b n) q
+  takes_broken {b = b} {n = n} m q = leads_broken (m.takes b n) q
 
-  pub eats-broken : {b : Body} {n k w : ℕ} {c : Cursor} {o : List ℕ} {a : Answer} → Eats s k c w a → tag_of the_type a ≡ 1
+  pub eats_broken : {b : Body} {n k w : ℕ} {c : Cursor} {o : List ℕ} {a : Answer} → Eats s k c w a → tag_of the_type a ≡ 1
       → (r : Refusal) × (a ≡ Broken r) × Breaks g s d (state (eat k ▸ b) n c w o) r
-  eats-broken {b = b} {n = n} {o = o} m q = takes-broken {b = b} {n = n} (m.eats g d o) q
+  eats_broken {b = b} {n = n} {o = o} m q = takes_broken {b = b} {n = n} (m.eats g d o) q
 
-  pub counts-broken : {q : Phrase} {b : Body} {n v w : ℕ} {c : Cursor} {o o₁ : List ℕ} {a : Answer} → Counts g s q v d c w o a o₁ → tag_of the_type a ≡ 1
+  pub counts_broken : {q : Phrase} {b : Body} {n v w : ℕ} {c : Cursor} {o o₁ : List ℕ} {a : Answer} → Counts g s q v d c w o a o₁ → tag_of the_type a ≡ 1
       → (r : Refusal) × (a ≡ Broken r) × Breaks g s d (state (sub q ▸ b) n c w o) r
   unfolding Counted
-  counts-broken {q} {b} {n} {v} {w} {c} {o} {o₁} {a} m e =
-      let x = no-done a e in
+  counts_broken {q} {b} {n} {v} {w} {c} {o} {o₁} {a} m e =
+      let x = no_done a e in
       let y : Takes g s (sub q) 0 v d c w o (Broken x.0) o₁ = subst (λ (z : Answer). Counted g s q v d c w o z o₁) x.1 m.counts in
       (x.0, x.1, refused (y.takes b n) refl)
 
   -- and passed up, by a function that leads on or tells
   pub passed : {from mid : State} {b : Body} {n u e v : ℕ} {o : List ℕ} {a : Answer} → ((r : Refusal) × (a ≡ Broken r) × Breaks g s d mid r) → Seg g s d from e v mid → Leads g s d from u b n a o
-  passed x p = broke (breaks-on x.2 p) x.1
+  passed x p = broke (breaks_on x.2 p) x.1
 
-  pub passed-telling : {from mid : State} {next : ℕ → Body} {n e v : ℕ} {o : List ℕ} {a : Answer} → ((r : Refusal) × (a ≡ Broken r) × Breaks g s d mid r) → Seg g s d from e v mid
+  pub passed_telling : {from mid : State} {next : ℕ → Body} {n e v : ℕ} {o : List ℕ} {a : Answer} → ((r : Refusal) × (a ≡ Broken r) × Breaks g s d mid r) → Seg g s d from e v mid
       → Tells g s d from next n a o
-  passed-telling x p = broke-telling (breaks-on x.2 p) x.1
+  passed_telling x p = broke_telling (breaks_on x.2 p) x.1
 
   -- a function's answer is this one's
   pub tail : {from mid : State} {b : Body} {n e v u t : ℕ} {o : List ℕ} {a : Answer} → v + u ≤ 32 * e + t → Leads g s d mid u b n a o → Seg g s d from e v mid → Leads g s d from t b n a o
   tail {a = Done c w k} h m p = owes h (went m refl p)
-  tail {a = Broken r} h m p = broke (breaks-on (refused m refl) p) refl
+  tail {a = Broken r} h m p = broke (breaks_on (refused m refl) p) refl
 
-  pub tail-telling : {from mid : State} {next : ℕ → Body} {n e v : ℕ} {o : List ℕ} {a : Answer} → v ≤ 32 * e → Tells g s d mid next n a o → Seg g s d from e v mid → Tells g s d from next n a o
+  pub tail_telling : {from mid : State} {next : ℕ → Body} {n e v : ℕ} {o : List ℕ} {a : Answer} → v ≤ 32 * e → Tells g s d mid next n a o → Seg g s d from e v mid → Tells g s d from next n a o
   unfolding Told
-  tail-telling {a = Done c w k} h m p = says_on (told m refl).1 h (follows m refl p)
-  tail-telling {a = Broken r} h m p = broke-telling (breaks-on (refused-telling m refl) p) refl
+  tail_telling {a = Done c w k} h m p = says_on (told m refl).1 h (follows m refl p)
+  tail_telling {a = Broken r} h m p = broke_telling (breaks_on (refused_telling m refl) p) refl
 
   -- a lexeme that ends the phrase
-  pub eat-last : {from : State} {n k e v w : ℕ} {c : Cursor} {o : List ℕ} {a : Answer} → Eats s k c w a → v ≤ 32 * (e + 1) → Seg g s d from e v (state (eat k ▸ end) n c w o) → Leads g s d from 0 end n a o
-  eat-last {a = Done c₁ w₁ j} m h p = ends h (ate m refl p)
-  eat-last {a = Broken r} m h p = broke (breaks-on (refused ((m.eats g d _).takes end _) refl) p) refl
+  pub eat_last : {from : State} {n k e v w : ℕ} {c : Cursor} {o : List ℕ} {a : Answer} → Eats s k c w a → v ≤ 32 * (e + 1) → Seg g s d from e v (state (eat k ▸ end) n c w o) → Leads g s d from 0 end n a o
+  eat_last {a = Done c₁ w₁ j} m h p = ends h (ate m refl p)
+  eat_last {a = Broken r} m h p = broke (breaks_on (refused ((m.eats g d _).takes end _) refl) p) refl
 
   -- a refusal by rule
   pub fails : {from : State} {n e v m x w : ℕ} {c : Cursor} {o : List ℕ} → Stands s c → Seg g s d from e v (state (fail m x) n c w o)
       → Breaks g s d from (record { number = m; place = c; detail = x })
-  fails st p = breaks-on (record { breaks = λ ts xs z h. record { left = xs; kept = h; reading = failed }; stands = st }) p
+  fails st p = breaks_on (record { breaks = λ ts xs z h. record { left = xs; kept = h; reading = failed }; stands = st }) p
 
   -- a lexeme that is not there
   pub misses : {from : State} {b : Body} {n e v k w : ℕ} {c : Cursor} {o : List ℕ} → Stands s c → ¬ (c.kind ≡ k) → Seg g s d from e v (state (eat k ▸ b) n c w o)
       → Breaks g s d from (record { number = 5; place = c; detail = k })
   misses st q p =
-      breaks-on
+      breaks_on
       (record { breaks = λ ts xs z h. record { left = xs; kept = h; reading = uneaten (λ y. q (sym (sees st refl h).kind ∙ y)) }; stands = st }) p
 
   -- the output is as long as it was
@@ -424,10 +424,10 @@ module _ {g : ℕ} {s : List ℕ} {d : ℕ} where
         credit = p.credit;
       }
 
-  pub as-sub : {q : Phrase} {c : Cursor} {w k v : ℕ} {o o₁ : List ℕ} {a : Answer} → Leads g s d (state (goto q) 0 c w o) v end k a o₁ → Takes g s (sub q) k v d c w o a o₁
+  pub as_sub : {q : Phrase} {c : Cursor} {w k v : ℕ} {o o₁ : List ℕ} {a : Answer} → Leads g s d (state (goto q) 0 c w o) v end k a o₁ → Takes g s (sub q) k v d c w o a o₁
   unfolding size Led
-  as-sub {a = Done c₁ w₁ j} m = record { takes = λ b n. record { led = under (led m refl) b n } }
-  as-sub {a = Broken r} m =
+  as_sub {a = Done c₁ w₁ j} m = record { takes = λ b n. record { led = under (led m refl) b n } }
+  as_sub {a = Broken r} m =
       let h = refused m refl in
       record {
         takes = λ b n. broke (record {
@@ -469,14 +469,14 @@ module _ {g : ℕ} {s : List ℕ} {d : ℕ} where
         }) refl;
       }
 
-pub as-deep : {g : ℕ} {s : List ℕ} {d : ℕ} {q : Phrase} {c : Cursor} {w k : ℕ} {o o₁ : List ℕ} {a : Answer} → ¬ (d ≡ 0) → Leads g s (d - 1) (state (goto q) 0 c w o) 0 end k a o₁
+pub as_deep : {g : ℕ} {s : List ℕ} {d : ℕ} {q : Phrase} {c : Cursor} {w k : ℕ} {o o₁ : List ℕ} {a : Answer} → ¬ (d ≡ 0) → Leads g s (d - 1) (state (goto q) 0 c w o) 0 end k a o₁
     → Takes g s (deep q) k 0 d c w o a o₁
-as-deep {g} {s} {d} {q} {c} {w} {k} {o} {o₁} {a} h m = let e : suc (d - 1) ≡ d = omega (arith, h) in subst (λ (n : ℕ). Takes g s (deep q) k 0 n c w o a o₁) e (deeper m)
+as_deep {g} {s} {d} {q} {c} {w} {k} {o} {o₁} {a} h m = let e : suc (d - 1) ≡ d = omega (arith, h) in subst (λ (n : ℕ). Takes g s (deep q) k 0 n c w o a o₁) e (deeper m)
 
 -- no level is left
-pub too-deep : {g : ℕ} {s : List ℕ} {d : ℕ} {q : Phrase} {b : Body} {n w : ℕ} {c : Cursor} {o : List ℕ} → d ≡ 0 → Stands s c
+pub too_deep : {g : ℕ} {s : List ℕ} {d : ℕ} {q : Phrase} {b : Body} {n w : ℕ} {c : Cursor} {o : List ℕ} → d ≡ 0 → Stands s c
     → Breaks g s d (state (deep q ▸ b) n c w o) (record { number = 11; place = c; detail = 0 })
-too-deep {g} {s} {d} {q} {b} {n} {w} {c} {o} e st =
+too_deep {g} {s} {d} {q} {b} {n} {w} {c} {o} e st =
     subst⁻¹ (λ (m : ℕ). Breaks g s m (state (deep q ▸ b) n c w o) (record { number = 11; place = c; detail = 0 })) e
     (record { breaks = λ ts xs z h. record { left = xs; kept = h; reading = read-too-deep }; stands = st })
 
@@ -514,8 +514,8 @@ module _ {g : ℕ} {s : List ℕ} {st : Step} {k v d w : ℕ} {c : Cursor} {o o�
   pub taking : {c₁ : Cursor} {w₁ j : ℕ} → Takes g s st k v d c w o (Done c₁ w₁ j) o₁ → c.at < c₁.at → TakesSome g s st k v d c w o (Done c₁ w₁ j) o₁
   taking {c₁} m h = record { takes = m; some = λ c₂ w₂ n q. let e : c₁ ≡ c₂ = cc in subst (λ (x : Cursor). c.at < x.at) e h }
 
-  pub taking-none : {a : Answer} {r : Refusal} → a ≡ Broken r → Takes g s st k v d c w o a o₁ → TakesSome g s st k v d c w o a o₁
-  taking-none e m = record { takes = m; some = λ c₂ w₂ n q. absurd (not_done (sym e ∙ q)) }
+  pub taking_none : {a : Answer} {r : Refusal} → a ≡ Broken r → Takes g s st k v d c w o a o₁ → TakesSome g s st k v d c w o a o₁
+  taking_none e m = record { takes = m; some = λ c₂ w₂ n q. absurd (not_done (sym e ∙ q)) }
 
 -- past a lexeme
 pub beyond : {s : List ℕ} {c c₁ : Cursor} → 1 < c.kind → Stands s c → Moved s c c₁ → c.at < c₁.at

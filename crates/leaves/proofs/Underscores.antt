@@ -11,22 +11,22 @@ use lib.Dec.{eqb}
 use lib.ListN.{take, drop}
 use lib.Seq.{slice}
 use borrow.Author.Tests.{ne_eqb}
-use Rattle.numerals.specs.Value.{isDigit, spelled, digits, before, behind, has, places, Large, multiplied, divided, TooLarge, Verdict, too_large, in-range}
+use Rattle.numerals.specs.Value.{is_digit, spelled, digits, before, behind, has, places, Large, multiplied, divided, TooLarge, Verdict, too_large, in_range}
 use Rattle.numerals.specs.Inner.{pushed}
-use Rattle.numerals.proofs.Scans.{before_here, before-other, behind-here, behind-other}
+use Rattle.numerals.proofs.Scans.{before_here, before_other, behind-here, behind_other}
 use Rattle.lexemes.specs.Texts.{plain}
 use Rattle.leaves.proofs.PartLaws.{lent}
 
 abbrev UNDER : ℕ
 UNDER = 0x5F
 
-plain-under : (bs : List ℕ) → plain (UNDER ∷ bs) ≡ plain bs
+plain_under : (bs : List ℕ) → plain (UNDER ∷ bs) ≡ plain bs
 unfolding plain
-plain-under bs = refl
+plain_under bs = refl
 
-plain-kept : (b : ℕ) (bs : List ℕ) → (b ≡ UNDER → ⊥) → plain (b ∷ bs) ≡ b ∷ plain bs
+plain_kept : (b : ℕ) (bs : List ℕ) → (b ≡ UNDER → ⊥) → plain (b ∷ bs) ≡ b ∷ plain bs
 unfolding plain
-plain-kept b bs n = ap (λ (t : Bool). cond t (plain bs) (b ∷ plain bs)) (ne_eqb b UNDER n)
+plain_kept b bs n = ap (λ (t : Bool). cond t (plain bs) (b ∷ plain bs)) (ne_eqb b UNDER n)
 
 spelled-plain : (n : ℕ) (t : List ℕ) → spelled n (plain t) ≡ spelled n t
 unfolding spelled plain
@@ -35,7 +35,7 @@ spelled-plain n (b ∷ bs) = by (ℕ_discrete b UNDER) (λ m. spelled-plain m bs
   where
     by : Dec (b ≡ UNDER) → ((m : ℕ) → spelled m (plain bs) ≡ spelled m bs) → spelled n (plain (b ∷ bs)) ≡ spelled n (b ∷ bs)
     by (yes e) h = subst⁻¹ (λ (c : ℕ). spelled n (plain (c ∷ bs)) ≡ spelled n (c ∷ bs)) e (h n)
-    by (no f) h = ap (spelled n) (plain-kept b bs f) ∙ h (pushed n b)
+    by (no f) h = ap (spelled n) (plain_kept b bs f) ∙ h (pushed n b)
 
 digits-plain : (t : List ℕ) → digits (plain t) ≡ digits t
 unfolding digits plain
@@ -44,7 +44,7 @@ digits-plain (b ∷ bs) = by (ℕ_discrete b UNDER) (digits-plain bs)
   where
     by : Dec (b ≡ UNDER) → digits (plain bs) ≡ digits bs → digits (plain (b ∷ bs)) ≡ digits (b ∷ bs)
     by (yes e) h = subst⁻¹ (λ (c : ℕ). digits (plain (c ∷ bs)) ≡ digits (c ∷ bs)) e h
-    by (no f) h = ap digits (plain-kept b bs f) ∙ ap (λ (m : ℕ). cond (isDigit b) (1 + m) m) h
+    by (no f) h = ap digits (plain_kept b bs f) ∙ ap (λ (m : ℕ). cond (is_digit b) (1 + m) m) h
 
 has-plain : (x : ℕ) → (UNDER ≡ x → ⊥) → (t : List ℕ) → has x (plain t) ≡ has x t
 unfolding has plain
@@ -53,7 +53,7 @@ has-plain x n (b ∷ bs) = by (ℕ_discrete b UNDER) (has-plain x n bs)
   where
     by : Dec (b ≡ UNDER) → has x (plain bs) ≡ has x bs → has x (plain (b ∷ bs)) ≡ has x (b ∷ bs)
     by (yes e) h = subst⁻¹ (λ (c : ℕ). has x (plain (c ∷ bs)) ≡ has x (c ∷ bs)) e (h ∙ sym (ap (λ (t : Bool). t || has x bs) (ne_eqb UNDER x n)))
-    by (no f) h = ap (has x) (plain-kept b bs f) ∙ ap (λ (t : Bool). eqb b x || t) h
+    by (no f) h = ap (has x) (plain_kept b bs f) ∙ ap (λ (t : Bool). eqb b x || t) h
 
 module _ (x y : ℕ) (n : UNDER ≡ x → ⊥) (m : UNDER ≡ y → ⊥) where
   one_of : (b : ℕ) → ((b ≡ x) ⊎ (b ≡ y)) ⊎ ((b ≡ x → ⊥) × (b ≡ y → ⊥))
@@ -73,11 +73,11 @@ module _ (x y : ℕ) (n : UNDER ≡ x → ⊥) (m : UNDER ≡ y → ⊥) where
           → before x y (b ∷ plain bs) ≡ plain (before x y (b ∷ bs))
       kept f h (inl e) = before_here x y b (plain bs) e ∙ sym (ap plain (before_here x y b bs e))
       kept f h (inr g) =
-          before-other x y b (plain bs) g.0 g.1 ∙ ap (λ (l : List ℕ). b ∷ l) h ∙ sym (plain-kept b (before x y bs) f) ∙ sym (ap plain (before-other x y b bs g.0 g.1))
+          before_other x y b (plain bs) g.0 g.1 ∙ ap (λ (l : List ℕ). b ∷ l) h ∙ sym (plain_kept b (before x y bs) f) ∙ sym (ap plain (before_other x y b bs g.0 g.1))
 
       by : Dec (b ≡ UNDER) → before x y (plain bs) ≡ plain (before x y bs) → before x y (plain (b ∷ bs)) ≡ plain (before x y (b ∷ bs))
-      by (yes e) h = subst⁻¹ (λ (c : ℕ). before x y (plain (c ∷ bs)) ≡ plain (before x y (c ∷ bs))) e (h ∙ sym (ap plain (before-other x y UNDER bs n m)))
-      by (no f) h = ap (before x y) (plain-kept b bs f) ∙ kept f h (one_of b)
+      by (yes e) h = subst⁻¹ (λ (c : ℕ). before x y (plain (c ∷ bs)) ≡ plain (before x y (c ∷ bs))) e (h ∙ sym (ap plain (before_other x y UNDER bs n m)))
+      by (no f) h = ap (before x y) (plain_kept b bs f) ∙ kept f h (one_of b)
 
   behind-plain : (t : List ℕ) → behind x y (plain t) ≡ plain (behind x y t)
   unfolding behind plain
@@ -87,11 +87,11 @@ module _ (x y : ℕ) (n : UNDER ≡ x → ⊥) (m : UNDER ≡ y → ⊥) where
       kept : behind x y (plain bs) ≡ plain (behind x y bs) → ((b ≡ x) ⊎ (b ≡ y)) ⊎ ((b ≡ x → ⊥) × (b ≡ y → ⊥))
           → behind x y (b ∷ plain bs) ≡ plain (behind x y (b ∷ bs))
       kept h (inl e) = behind-here x y b (plain bs) e ∙ sym (ap plain (behind-here x y b bs e))
-      kept h (inr g) = behind-other x y b (plain bs) g.0 g.1 ∙ h ∙ sym (ap plain (behind-other x y b bs g.0 g.1))
+      kept h (inr g) = behind_other x y b (plain bs) g.0 g.1 ∙ h ∙ sym (ap plain (behind_other x y b bs g.0 g.1))
 
       by : Dec (b ≡ UNDER) → behind x y (plain bs) ≡ plain (behind x y bs) → behind x y (plain (b ∷ bs)) ≡ plain (behind x y (b ∷ bs))
-      by (yes e) h = subst⁻¹ (λ (c : ℕ). behind x y (plain (c ∷ bs)) ≡ plain (behind x y (c ∷ bs))) e (h ∙ sym (ap plain (behind-other x y UNDER bs n m)))
-      by (no f) h = ap (behind x y) (plain-kept b bs f) ∙ kept h (one_of b)
+      by (yes e) h = subst⁻¹ (λ (c : ℕ). behind x y (plain (c ∷ bs)) ≡ plain (behind x y (c ∷ bs))) e (h ∙ sym (ap plain (behind_other x y UNDER bs n m)))
+      by (no f) h = ap (behind x y) (plain_kept b bs f) ∙ kept h (one_of b)
 
 places-plain : (m : List ℕ) → places (plain m) ≡ places m
 places-plain m = ap digits (behind-plain 0x2E 0x2E (λ e. omega (arith, e)) (λ e. omega (arith, e)) m) ∙ digits-plain (behind 0x2E 0x2E m)
@@ -117,33 +117,33 @@ module _ (t : List ℕ) where
   same_digits : spelled 0 (before 0x65 0x45 (plain t)) ≡ spelled 0 m
   same_digits = ap (spelled 0) mantissas ∙ spelled-plain 0 m
 
-  same-places : places (before 0x65 0x45 (plain t)) ≡ places m
-  same-places = ap places mantissas ∙ places-plain m
+  same_places : places (before 0x65 0x45 (plain t)) ≡ places m
+  same_places = ap places mantissas ∙ places-plain m
 
   same_power : spelled 0 (behind 0x65 0x45 (plain t)) ≡ spelled 0 x
   same_power = ap (spelled 0) exponents ∙ spelled-plain 0 x
 
-  same-minus : has 0x2D (behind 0x65 0x45 (plain t)) ≡ has 0x2D x
-  same-minus = ap (has 0x2D) exponents ∙ has-plain 0x2D (λ e. omega (arith, e)) x
+  same_minus : has 0x2D (behind 0x65 0x45 (plain t)) ≡ has 0x2D x
+  same_minus = ap (has 0x2D) exponents ∙ has-plain 0x2D (λ e. omega (arith, e)) x
 
-  pub large-with : TooLarge (plain t) → TooLarge t
-  large-with l = record { value = alike same_digits same-places same_power same-minus l.value }
+  pub large_with : TooLarge (plain t) → TooLarge t
+  large_with l = record { value = alike same_digits same_places same_power same_minus l.value }
 
-  pub large-without : TooLarge t → TooLarge (plain t)
-  large-without l = record { value = alike (sym same_digits) (sym same-places) (sym same_power) (sym same-minus) l.value }
+  pub large_without : TooLarge t → TooLarge (plain t)
+  large_without l = record { value = alike (sym same_digits) (sym same_places) (sym same_power) (sym same_minus) l.value }
 
 -- What the test says of a part of the source.
 module _ (s : List ℕ) (a e : ℕ) {r : Bool} (v : Verdict (take (e - a) (drop a s)) r) where
-  pub judged-large : r ≡ true → TooLarge (plain (slice a e s))
-  judged-large q = by (subst (λ (l : List ℕ). Verdict l r) (lent a e s) v) q
+  pub judged_large : r ≡ true → TooLarge (plain (slice a e s))
+  judged_large q = by (subst (λ (l : List ℕ). Verdict l r) (lent a e s) v) q
     where
       by : {b : Bool} → Verdict (slice a e s) b → b ≡ true → TooLarge (plain (slice a e s))
-      by (too_large l) q = large-without (slice a e s) l
-      by (in-range n) q = absurd (true≢false (sym q))
+      by (too_large l) q = large_without (slice a e s) l
+      by (in_range n) q = absurd (true≢false (sym q))
 
-  pub judged-in-range : r ≡ false → TooLarge (plain (slice a e s)) → ⊥
-  judged-in-range q = by (subst (λ (l : List ℕ). Verdict l r) (lent a e s) v) q
+  pub judged_in_range : r ≡ false → TooLarge (plain (slice a e s)) → ⊥
+  judged_in_range q = by (subst (λ (l : List ℕ). Verdict l r) (lent a e s) v) q
     where
       by : {b : Bool} → Verdict (slice a e s) b → b ≡ false → TooLarge (plain (slice a e s)) → ⊥
       by (too_large l) q = absurd (true≢false q)
-      by (in-range n) q = λ l. n (large-with (slice a e s) l)
+      by (in_range n) q = λ l. n (large_with (slice a e s) l)

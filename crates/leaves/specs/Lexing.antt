@@ -3,9 +3,9 @@
 use Rattle.std.specs.Prelude.{◌≡◌, List, [], ◌∷◌, ℕ, ◌≤◌, length, Bool, true, false}
 use Rattle.lexemes.specs.Lexeme.{lexeme}
 use Rattle.lexemes.specs.Kept.{NextKept}
-use Rattle.lexemes.specs.Kinds.{EOF, IDENT, ASSIGN, COMMA, L-BRACK, R-BRACK, L-PAREN, L-BRACE, COLON, DOT, QUESTION-MARK, STRING-DOUBLE, STRING-SINGLE, STRING-DOUBLE-VERBATIM, STRING-SINGLE-VERBATIM, STRING-BLOCK}
-use Rattle.lexemes.specs.Kinds.{LOCAL-KW, IF-KW, FUNCTION-KW, ASSERT-KW, ERROR-KW, IMPORT-KW, IMPORTSTR-KW, IMPORTBIN-KW}
-use Rattle.grammar.specs.Productions.{exp-object-iteration, exp-null-coaelse}
+use Rattle.lexemes.specs.Kinds.{EOF, IDENT, ASSIGN, COMMA, L_BRACK, R_BRACK, L_PAREN, L_BRACE, COLON, DOT, QUESTION_MARK, STRING_DOUBLE, STRING_SINGLE, STRING_DOUBLE_VERBATIM, STRING_SINGLE_VERBATIM, STRING_BLOCK}
+use Rattle.lexemes.specs.Kinds.{LOCAL_KW, IF_KW, FUNCTION_KW, ASSERT_KW, ERROR_KW, IMPORT_KW, IMPORTSTR_KW, IMPORTBIN_KW}
+use Rattle.grammar.specs.Productions.{exp_object_iteration, exp_null_coaelse}
 use Rattle.grammar.specs.Reading.{has}
 use Rattle.grammar.specs.Lexemes.{Said, Lexeme}
 use Rattle.grammar.specs.Says.{Says}
@@ -38,31 +38,31 @@ pub data Named (s : List ℕ) (c : Cursor) : ℕ → Type 0 where
 
 -- `[`, a name, `]` and `:`, where setting g has object iteration: 1, and they stand at these cursors; else 0.
 pub data Header (g : ℕ) (s : List ℕ) (c : Cursor) : ℕ → Type 0 where
-  header : {c₁ c₂ c₃ : Cursor} → has g exp-object-iteration ≡ true → c.kind ≡ L-BRACK → Moved s c c₁ → c₁.kind ≡ IDENT → Moved s c₁ c₂ → c₂.kind ≡ R-BRACK
+  header : {c₁ c₂ c₃ : Cursor} → has g exp_object_iteration ≡ true → c.kind ≡ L_BRACK → Moved s c c₁ → c₁.kind ≡ IDENT → Moved s c₁ c₂ → c₂.kind ≡ R_BRACK
       → Moved s c₂ c₃ → c₃.kind ≡ COLON → Header g s c 1
-  off : has g exp-object-iteration ≡ false → Header g s c 0
-  no-bracket : (c.kind ≡ L-BRACK → ⊥) → Header g s c 0
+  off : has g exp_object_iteration ≡ false → Header g s c 0
+  no_bracket : (c.kind ≡ L_BRACK → ⊥) → Header g s c 0
   no_key : {c₁ : Cursor} → Moved s c c₁ → (c₁.kind ≡ IDENT → ⊥) → Header g s c 0
-  not-closed : {c₁ c₂ : Cursor} → Moved s c c₁ → Moved s c₁ c₂ → (c₂.kind ≡ R-BRACK → ⊥) → Header g s c 0
-  no-colon : {c₁ c₂ c₃ : Cursor} → Moved s c c₁ → Moved s c₁ c₂ → Moved s c₂ c₃ → (c₃.kind ≡ COLON → ⊥) → Header g s c 0
+  not_closed : {c₁ c₂ : Cursor} → Moved s c c₁ → Moved s c₁ c₂ → (c₂.kind ≡ R_BRACK → ⊥) → Header g s c 0
+  no_colon : {c₁ c₂ c₃ : Cursor} → Moved s c c₁ → Moved s c₁ c₂ → Moved s c₂ c₃ → (c₃.kind ≡ COLON → ⊥) → Header g s c 0
 
 -- A kind that a suffix begins with, under setting g: 1; else 0.
 pub data Suffixed (g k : ℕ) : ℕ → Type 0 where
-  mark : k ≡ QUESTION-MARK → has g exp-null-coaelse ≡ true → Suffixed g k 1
+  mark : k ≡ QUESTION_MARK → has g exp_null_coaelse ≡ true → Suffixed g k 1
   dot : k ≡ DOT → Suffixed g k 1
-  bracket : k ≡ L-BRACK → Suffixed g k 1
-  paren : k ≡ L-PAREN → Suffixed g k 1
-  brace : k ≡ L-BRACE → Suffixed g k 1
-  no-mark : k ≡ QUESTION-MARK → has g exp-null-coaelse ≡ false → Suffixed g k 0
-  none : (k ≡ QUESTION-MARK → ⊥) → (k ≡ DOT → ⊥) → (k ≡ L-BRACK → ⊥) → (k ≡ L-PAREN → ⊥) → (k ≡ L-BRACE → ⊥) → Suffixed g k 0
+  bracket : k ≡ L_BRACK → Suffixed g k 1
+  paren : k ≡ L_PAREN → Suffixed g k 1
+  brace : k ≡ L_BRACE → Suffixed g k 1
+  no_mark : k ≡ QUESTION_MARK → has g exp_null_coaelse ≡ false → Suffixed g k 0
+  none : (k ≡ QUESTION_MARK → ⊥) → (k ≡ DOT → ⊥) → (k ≡ L_BRACK → ⊥) → (k ≡ L_PAREN → ⊥) → (k ≡ L_BRACE → ⊥) → Suffixed g k 0
 
 -- A string's kind.
 pub data Quoting : ℕ → Type 0 where
-  double : Quoting STRING-DOUBLE
-  single : Quoting STRING-SINGLE
-  double-verbatim : Quoting STRING-DOUBLE-VERBATIM
-  single-verbatim : Quoting STRING-SINGLE-VERBATIM
-  block : Quoting STRING-BLOCK
+  double : Quoting STRING_DOUBLE
+  single : Quoting STRING_SINGLE
+  double_verbatim : Quoting STRING_DOUBLE_VERBATIM
+  single_verbatim : Quoting STRING_SINGLE_VERBATIM
+  block : Quoting STRING_BLOCK
 
 pub data Quotes (k : ℕ) : Bool → Type 0 where
   quotes : Quoting k → Quotes k true
@@ -71,20 +71,20 @@ pub data Quotes (k : ℕ) : Bool → Type 0 where
 -- A kind that no phrase of several lexemes begins with, among those of expr_basic.
 abbrev pub Atom : ℕ → Type 0
 Atom k =
-    (k ≡ L-PAREN → ⊥) × (k ≡ L-BRACK → ⊥) × (k ≡ L-BRACE → ⊥) × (k ≡ LOCAL-KW → ⊥) × (k ≡ IF-KW → ⊥) × (k ≡ FUNCTION-KW → ⊥) × (k ≡ ASSERT-KW → ⊥)
-    × (k ≡ ERROR-KW → ⊥) × (k ≡ IMPORTSTR-KW → ⊥) × (k ≡ IMPORTBIN-KW → ⊥) × (k ≡ IMPORT-KW → ⊥)
+    (k ≡ L_PAREN → ⊥) × (k ≡ L_BRACK → ⊥) × (k ≡ L_BRACE → ⊥) × (k ≡ LOCAL_KW → ⊥) × (k ≡ IF_KW → ⊥) × (k ≡ FUNCTION_KW → ⊥) × (k ≡ ASSERT_KW → ⊥)
+    × (k ≡ ERROR_KW → ⊥) × (k ≡ IMPORTSTR_KW → ⊥) × (k ≡ IMPORTBIN_KW → ⊥) × (k ≡ IMPORT_KW → ⊥)
 
 -- The kinds of imports and their bytes.
 pub data Imports : ℕ → ℕ → Type 0 where
-  normal : Imports IMPORT-KW 0
-  string : Imports IMPORTSTR-KW 1
-  binary : Imports IMPORTBIN-KW 2
+  normal : Imports IMPORT_KW 0
+  string : Imports IMPORTSTR_KW 1
+  binary : Imports IMPORTBIN_KW 2
 
 -- After one `:`, so many more, at most two, up to the second cursor.
 pub data Colons (s : List ℕ) (c : Cursor) : ℕ → Cursor → Type 0 where
   none_more : (c.kind ≡ COLON → ⊥) → Colons s c 0 c
   one_more : {c₁ : Cursor} → c.kind ≡ COLON → Moved s c c₁ → (c₁.kind ≡ COLON → ⊥) → Colons s c 1 c₁
-  two-more : {c₁ c₂ : Cursor} → c.kind ≡ COLON → Moved s c c₁ → c₁.kind ≡ COLON → Moved s c₁ c₂ → Colons s c 2 c₂
+  two_more : {c₁ c₂ : Cursor} → c.kind ≡ COLON → Moved s c c₁ → c₁.kind ≡ COLON → Moved s c₁ c₂ → Colons s c 2 c₂
 
 -- Past a comma, if one stands here.
 pub data Past (s : List ℕ) (c c₁ : Cursor) : Type 0 where

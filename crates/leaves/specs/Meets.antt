@@ -2,14 +2,14 @@
 -- Assumes nothing.
 use Rattle.std.specs.Prelude.{◌≡◌, List, [], ◌∷◌, ◌++◌, ℕ, suc, ◌+◌, ◌-◌, ◌*◌, ◌≤◌, ◌<◌, length}
 use Rattle.std.proofs.lemmas.List.Edits.{sets}
-use Rattle.lexemes.specs.Kinds.{R-BRACK, DOT, ASSIGN}
+use Rattle.lexemes.specs.Kinds.{R_BRACK, DOT, ASSIGN}
 use Rattle.grammar.specs.Tags.{SLICE, BIND}
 use Rattle.grammar.specs.Trees.{Field, byte, number, Trees, count as size}
 use Rattle.grammar.specs.Image.{image, entry}
 use Rattle.grammar.specs.Lexemes.{Lexeme}
-use Rattle.grammar.specs.Productions.{Phrase, Body, end, goto, ◌▸◌, Step, eat, sub, deep, close, expression, suffix, field-named, argument, argument-end, null-safe}
+use Rattle.grammar.specs.Productions.{Phrase, Body, end, goto, ◌▸◌, Step, eat, sub, deep, close, expression, suffix, field_named, argument, argument_end, null_safe}
 use Rattle.grammar.specs.Reading.{Outcome, broken, Reading}
-use Rattle.grammar.specs.Answer.{prefix-power}
+use Rattle.grammar.specs.Answer.{prefix_power}
 use Rattle.leaves.specs.Lexing.{Left, Stands}
 use Rattle.leaves.specs.declared.Cursor.{Cursor}
 use Rattle.leaves.specs.declared.Refusal.{Refusal}
@@ -18,7 +18,7 @@ use Rattle.leaves.specs.declared.Answer.TheVariants.{Done, Broken}
 
 -- The prefix power of a setting.
 abbrev pub power : ℕ → ℕ
-power g = prefix-power g
+power g = prefix_power g
 
 -- Where a phrase may start, with w bytes of image written: an image has at most 32 bytes for each byte that is read.
 pub record Ready (s : List ℕ) (c : Cursor) (w : ℕ) : Type 0 where
@@ -75,7 +75,7 @@ abbrev pub suffixes : ℕ → Body
 suffixes f = goto (suffix f)
 
 abbrev pub titled : ℕ → ℕ → Body
-titled a c = goto (field-named c a)
+titled a c = goto (field_named c a)
 
 unfoldable pub Led : ℕ → List ℕ → ℕ → State → ℕ → Body → ℕ → Answer → List ℕ → Type 0
 Led g s d from v b n (Done c w k) o = Seg g s d from 0 v (state b n c w o)
@@ -146,7 +146,7 @@ pub record TellsAny (g : ℕ) (s : List ℕ) (d : ℕ) (b : Body) (c : Cursor) (
 
 -- One argument more, whatever stood before it: m of those are named, and this one is if k is 1.
 pub record Argues (g : ℕ) (s : List ℕ) (d m k : ℕ) (c : Cursor) (w : ℕ) (o : List ℕ) (a : Answer) (o₁ : List ℕ) : Type 0 where
-  pub argues : (from u n : ℕ) → Leads g s d (state (goto (argument from u m)) n c w o) 0 (goto (argument-end from (u + (1 - k)) (m + k))) (n + 1) a o₁
+  pub argues : (from u n : ℕ) → Leads g s d (state (goto (argument from u m)) n c w o) 0 (goto (argument_end from (u + (1 - k)) (m + k))) (n + 1) a o₁
 
 -- What `eat` promises.
 pub record Eats (s : List ℕ) (k : ℕ) (c : Cursor) (w : ℕ) (a : Answer) : Type 0 where
@@ -157,7 +157,7 @@ pub record Eats (s : List ℕ) (k : ℕ) (c : Cursor) (w : ℕ) (a : Answer) : T
 
 -- An array, and one of its clauses, from `]` on.
 abbrev pub bracketed : ℕ → ℕ → Body
-bracketed t n = eat R-BRACK ▸ close t (number n ∷ []) ▸ end
+bracketed t n = eat R_BRACK ▸ close t (number n ∷ []) ▸ end
 
 -- A bind from its `=` on.
 abbrev pub bound : ℕ → ℕ → Body
@@ -165,7 +165,7 @@ bound f n = eat ASSIGN ▸ expression ▸ close BIND (byte f ∷ number n ∷ []
 
 -- A slice from its `]` on; what comes after `?`.
 abbrev pub sliced : ℕ → Field → Field → Field → Body
-sliced b x y z = eat R-BRACK ▸ close SLICE (byte b ∷ x ∷ y ∷ z ∷ []) ▸ goto (suffix 1)
+sliced b x y z = eat R_BRACK ▸ close SLICE (byte b ∷ x ∷ y ∷ z ∷ []) ▸ goto (suffix 1)
 
 abbrev pub safely : ℕ → Body
-safely f = eat DOT ▸ goto (null-safe f)
+safely f = eat DOT ▸ goto (null_safe f)

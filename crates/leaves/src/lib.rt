@@ -5,12 +5,12 @@ ghost use Rattle.std.proofs.Math.Seq.{slice};
 ghost use Rattle.strings.specs.Decoding.{Decoding, Never};
 ghost use Rattle.strings.specs.Literals.{Quoted, BadEscape, Verbatim};
 ghost use Rattle.numerals.specs.Value.{TooLarge};
-ghost use Rattle.lexemes.specs.Kinds.{L-BRACK, L-BRACE, FLOAT};
+ghost use Rattle.lexemes.specs.Kinds.{L_BRACK, L_BRACE, FLOAT};
 ghost use Rattle.lexemes.specs.Texts.{plain as plainText};
 ghost use Rattle.grammar.specs.Tags.{MEMBERS};
 ghost use Rattle.grammar.specs.Trees.{number, span};
 ghost use Rattle.grammar.specs.Says.{Means, Spoils};
-ghost use Rattle.grammar.specs.Productions.{goto, end, ◌▸◌, close, string, basic, pattern, array-pattern-close, object-pattern-close, object-rest, with-field, with-assert, with-member, member-name as memberName, call-close, field};
+ghost use Rattle.grammar.specs.Productions.{goto, end, ◌▸◌, close, string, basic, pattern, array_pattern_close, object_pattern_close, object_rest, with_field, with_assert, with_member, member_name as memberName, call_close, field};
 ghost use Rattle.leaves.specs.Lexing.{Stands, Quoting, Quotes, Atom, Colons, Past};
 ghost use Rattle.leaves.specs.Meets.{Ready, state, Ends, EndsAny, EndsOver, EndsUnder, TellsEver, TellsEverAny, suffixes, titled, bracketed, sliced};
 
@@ -223,7 +223,7 @@ pub fn atom(src: &[u8], out: &mut [u8], c: Cursor, w: usize) -> Answer
 
 // destruct: those of its patterns that are one lexeme, and its refusals.
 pub fn pattern_atom(src: &[u8], out: &mut [u8], c: Cursor, w: usize, set: u64) -> Answer
-    requires { Ready src.now c w × (c.kind ≡ L-BRACK → ⊥) × (c.kind ≡ L-BRACE → ⊥) }
+    requires { Ready src.now c w × (c.kind ≡ L_BRACK → ⊥) × (c.kind ≡ L_BRACE → ⊥) }
     ensures { EndsUnder set src.now (state (goto pattern) 0 c w out.old) 0 end 1 result out.new }
 {
     let start = c.start;
@@ -262,7 +262,7 @@ pub fn array_pattern_close(
     name: Span,
 ) -> Answer
     requires { Ready src.now c w × (n ≤ c.at) × (m ≤ c.at) × (name.start ≤ name.end) × (name.end ≤ length src.now) }
-    ensures { Ends src.now (state (goto (array-pattern-close n rest (slice name.start name.end src.now))) (n + m) c w out.old) (name.end - name.start) end 1 result out.new }
+    ensures { Ends src.now (state (goto (array_pattern_close n rest (slice name.start name.end src.now))) (n + m) c w out.old) (name.end - name.start) end 1 result out.new }
 {
     let a = eat(src, c, w, Kind::R_BRACK);
     let Answer::Done(c1, w1, _) = a else {
@@ -285,7 +285,7 @@ pub fn object_pattern_close(
     name: Span,
 ) -> Answer
     requires { Ready src.now c w × (n ≤ c.at) × (name.start ≤ name.end) × (name.end ≤ length src.now) }
-    ensures { Ends src.now (state (goto (object-pattern-close rest (slice name.start name.end src.now))) n c w out.old) (name.end - name.start) end 1 result out.new }
+    ensures { Ends src.now (state (goto (object_pattern_close rest (slice name.start name.end src.now))) n c w out.old) (name.end - name.start) end 1 result out.new }
 {
     let a = eat(src, c, w, Kind::R_BRACE);
     let Answer::Done(c1, w1, _) = a else {
@@ -311,7 +311,7 @@ pub fn past_comma(src: &[u8], c: Cursor) -> Cursor
 // destruct_object's rest, after its `...`, and the end.
 pub fn object_rest(src: &[u8], out: &mut [u8], c: Cursor, w: usize, n: usize) -> Answer
     requires { Ready src.now c w × (n ≤ c.at) }
-    ensures { Ends src.now (state (goto object-rest) n c w out.old) 0 end 1 result out.new }
+    ensures { Ends src.now (state (goto object_rest) n c w out.old) 0 end 1 result out.new }
 {
     let start = c.start;
     let end = c.end;
@@ -376,7 +376,7 @@ pub fn members_close(out: &mut [u8], c: Cursor, w: usize, n: usize) -> Answer
 // objinside, the loop over a comprehension's members: its fault with one field more, and with one assert more.
 fn with_field(fault: usize) -> usize
     requires { fault ≤ 4 }
-    ensures { (result ≡ with-field fault) × (result ≤ 4) }
+    ensures { (result ≡ with_field fault) × (result ≤ 4) }
 {
     if fault == 4 {
         return 0;
@@ -389,7 +389,7 @@ fn with_field(fault: usize) -> usize
 
 fn with_assert(fault: usize) -> usize
     requires { fault ≤ 4 }
-    ensures { (result ≡ with-assert fault) × (result ≤ 4) }
+    ensures { (result ≡ with_assert fault) × (result ≤ 4) }
 {
     if fault == 2 {
         return 2;
@@ -400,7 +400,7 @@ fn with_assert(fault: usize) -> usize
 // The same with one member more, by the kind that it begins with.
 pub fn with_member(fault: usize, kind: u8) -> usize
     requires { fault ≤ 4 }
-    ensures { (result ≡ with-member fault kind) × (result ≤ 4) }
+    ensures { (result ≡ with_member fault kind) × (result ≤ 4) }
 {
     if kind == Kind::LOCAL_KW {
         return fault;
@@ -468,7 +468,7 @@ pub fn call_close(
     named: usize,
 ) -> WithFirst
     requires { Ready src.now c w × (from < 65536) × (unnamed ≤ c.at) × (named ≤ c.at) }
-    ensures { TellsEverAny src.now (goto (call-close from unnamed named)) c w out.old suffixes 1 result out.new }
+    ensures { TellsEverAny src.now (goto (call_close from unnamed named)) c w out.old suffixes 1 result out.new }
 {
     let a = eat(src, c, w, Kind::R_PAREN);
     let Answer::Done(c1, w1, _) = a else {
@@ -485,7 +485,7 @@ pub fn call_close(
 
 // field_name, but for a computed name.
 pub fn fixed_name(src: &[u8], out: &mut [u8], c: Cursor, w: usize) -> WithComputed
-    requires { Ready src.now c w × (c.kind ≡ L-BRACK → ⊥) }
+    requires { Ready src.now c w × (c.kind ≡ L_BRACK → ⊥) }
     ensures { TellsEver src.now (state (goto field) 0 c w out.old) (titled c.start) 1 result out.new }
 {
     let start = c.start;

@@ -1,13 +1,13 @@
 // Binary operators under a setting: `??` has its switch.
 ghost use Rattle.std.specs.Prelude.{◌≡◌};
-ghost use Rattle.leaves.specs.Operators.{infix-under};
+ghost use Rattle.leaves.specs.Operators.{infix_under};
 
 use grammar::operators::{Infix, binary_op};
 use grammar::settings;
 use lexemes::kinds::Kind;
 
 pub fn infix(set: u64, kind: u8) -> Infix
-    ensures { result ≡ infix-under set kind }
+    ensures { result ≡ infix_under set kind }
 {
     if kind != Kind::NULL_COAELSE {
         return binary_op(kind);

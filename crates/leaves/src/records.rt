@@ -1,6 +1,6 @@
 // Records written from what phrases hold: spans and headers.
 ghost use Rattle.std.specs.Prelude.{[], ◌∷◌, ◌≤◌, ◌<◌, ◌^◌};
-ghost use Rattle.grammar.specs.Tags.{INDEX-PART, FIELD};
+ghost use Rattle.grammar.specs.Tags.{INDEX_PART, FIELD};
 ghost use Rattle.grammar.specs.Trees.{byte, number, span};
 ghost use Rattle.grammar.specs.Image.{entry};
 ghost use Rattle.grammar.specs.Writing.{Wrote};
@@ -29,7 +29,7 @@ pub struct Header {
 // An index part. Its flag is a number that a phrase told.
 pub fn put_index(out: &mut [u8], w: usize, a: u16, e: u16, first: usize, safe: u8) -> usize
     requires { (w < 2 ^ 40) × (a < 65536) × (e < 65536) × (first ≤ 4) }
-    ensures { Wrote out.old w (entry INDEX-PART (span a e ∷ byte first ∷ byte safe ∷ [])) result out.new }
+    ensures { Wrote out.old w (entry INDEX_PART (span a e ∷ byte first ∷ byte safe ∷ [])) result out.new }
 {
     writers::put_index(out, w, a, e, first as u8, safe)
 }

@@ -10,28 +10,28 @@ use borrow.Author.Tests.{le-ltb}
 use lib.Dec.{T, eqb, eqb→eq, leb, le→leb, leb→le}
 use lib.ListN.{length, get_or, get_or-eq_default}
 use Rattle.regex.specs.Regex.{END, Rule}
-use Rattle.regex.proofs.Bools.{and, refutes, refuted, and_left, and_right, every, Each, each, all, all-at, implies, implied}
+use Rattle.regex.proofs.Bools.{and, refutes, refuted, and_left, and_right, every, Each, each, all, all_at, implies, implied}
 use Rattle.regex.proofs.Tables.{steps, gives}
 use Rattle.lexemes.specs.Letters.{WHITE, OTHER, letter, next}
-use Rattle.lexemes.specs.Scan.{class_of, asciiClass, classTable, Ran, InWord, single, Best}
+use Rattle.lexemes.specs.Scan.{class_of, ascii_class, class_table, Ran, InWord, single, Best}
 use Rattle.lexemes.proofs.Letters.{letter-ascii, next-ascii, by_byte, inside}
-use Rattle.lexemes.proofs.Moves.{Sees, notIn, Rest, at_rest, go, stop}
+use Rattle.lexemes.proofs.Moves.{Sees, not_in, Rest, at_rest, go, stop}
 
 right : ℕ → Bool
-right b = eqb (get_or classTable b 0) (48 + class_of b)
+right b = eqb (get_or class_table b 0) (48 + class_of b)
 
-pub table-right : (b : ℕ) → b < 256 → get_or classTable b 0 ≡ 48 + class_of b
-unfolding right classTable all class_of asciiClass
-table-right b h = eqb→eq (get_or classTable b 0) (48 + class_of b) (all-at right 256 tt b h)
+pub table_right : (b : ℕ) → b < 256 → get_or class_table b 0 ≡ 48 + class_of b
+unfolding right class_table all class_of ascii_class
+table_right b h = eqb→eq (get_or class_table b 0) (48 + class_of b) (all_at right 256 tt b h)
 
 -- A byte that has a class is one of ASCII, and not 0.
-pub class-zero : class_of 0 ≡ 0
-unfolding class_of asciiClass
-class-zero = refl
+pub class_zero : class_of 0 ≡ 0
+unfolding class_of ascii_class
+class_zero = refl
 
-pub class-small : (b : ℕ) → 1 ≤ class_of b → b < 128
+pub class_small : (b : ℕ) → 1 ≤ class_of b → b < 128
 unfolding class_of
-class-small b h = by (dec_lt b 128)
+class_small b h = by (dec_lt b 128)
   where
     by : Dec (b < 128) → b < 128
     by (yes l) = l
@@ -40,11 +40,11 @@ class-small b h = by (dec_lt b 128)
 abbrev pub between : ℕ → ℕ → ℕ → Bool
 between lo hi b = leb lo (class_of b) && leb (class_of b) hi
 
-pub is-between : (lo hi b : ℕ) → lo ≤ class_of b → class_of b ≤ hi → T (between lo hi b)
-is-between lo hi b p q = and (leb lo (class_of b)) (leb (class_of b) hi) (le→leb lo (class_of b) p) (le→leb (class_of b) hi q)
+pub is_between : (lo hi b : ℕ) → lo ≤ class_of b → class_of b ≤ hi → T (between lo hi b)
+is_between lo hi b p q = and (leb lo (class_of b)) (leb (class_of b) hi) (le→leb lo (class_of b) p) (le→leb (class_of b) hi q)
 
-pub not-between : (lo hi b : ℕ) → (lo ≤ class_of b → class_of b ≤ hi → ⊥) → T (not (between lo hi b))
-not-between lo hi b n =
+pub not_between : (lo hi b : ℕ) → (lo ≤ class_of b → class_of b ≤ hi → ⊥) → T (not (between lo hi b))
+not_between lo hi b n =
     refutes (between lo hi b)
     (λ t. n (leb→le lo (class_of b) (and_left (leb lo (class_of b)) (leb (class_of b) hi) t))
     (leb→le (class_of b) hi (and_right (leb lo (class_of b)) (leb (class_of b) hi) t)))
@@ -55,7 +55,7 @@ covering lo hi f =
     implies 128 (between lo hi) f ∷ implies 128 (λ b. not (between lo hi b)) (λ b. not (f b)) ∷ not (f WHITE) ∷ not (f OTHER) ∷ not (f END) ∷ []
 
 unfoldable pub covers : ℕ → ℕ → (ℕ → Bool) → Bool
-unfolding implies class_of asciiClass
+unfolding implies class_of ascii_class
 covers lo hi f = every (covering lo hi f)
 
 module _ (s : List ℕ) (lo hi : ℕ) (f : ℕ → Bool) (some : 1 ≤ lo) (c : T (covers lo hi f)) where
@@ -66,15 +66,15 @@ module _ (s : List ℕ) (lo hi : ℕ) (f : ℕ → Bool) (some : 1 ≤ lo) (c : 
   -- A byte of these classes, and a place where none stands.
   pub classed : (i : ℕ) → lo ≤ class_of (get_or s i 0) → class_of (get_or s i 0) ≤ hi → Sees s i f (i + 1)
   classed i p q =
-      let small : get_or s i 0 < 128 = class-small (get_or s i 0) (omega arith) in
+      let small : get_or s i 0 < 128 = class_small (get_or s i 0) (omega arith) in
       let here : i < length s = inside s i (positive (get_or s i 0) p) in
       record {
-        passes = subst (λ (x : ℕ). T (f x)) (sym (letter-ascii s i here small)) (implied 128 (between lo hi) f parts.0 (get_or s i 0) small (is-between lo hi (get_or s i 0) p q));
+        passes = subst (λ (x : ℕ). T (f x)) (sym (letter-ascii s i here small)) (implied 128 (between lo hi) f parts.0 (get_or s i 0) small (is_between lo hi (get_or s i 0) p q));
         after = sym (next-ascii s i here small);
       }
     where
       positive : (b : ℕ) → lo ≤ class_of b → 0 < b
-      positive zero p = absurd (omega (arith, class-zero))
+      positive zero p = absurd (omega (arith, class_zero))
       positive (suc b) p = omega arith
 
   pub unclassed : (i : ℕ) → (lo ≤ class_of (get_or s i 0) → class_of (get_or s i 0) ≤ hi → ⊥) → Sees s i (λ l. not (f l)) (next s i)
@@ -82,7 +82,7 @@ module _ (s : List ℕ) (lo hi : ℕ) (f : ℕ → Bool) (some : 1 ≤ lo) (c : 
       record {
         passes =
             by_byte s i (λ l. not (f l)) parts.1.1.0 parts.1.1.1.0 parts.1.1.1.1.0
-            (λ small. implied 128 (λ b. not (between lo hi b)) (λ b. not (f b)) parts.1.0 (get_or s i 0) small (not-between lo hi (get_or s i 0) n));
+            (λ small. implied 128 (λ b. not (between lo hi b)) (λ b. not (f b)) parts.1.0 (get_or s i 0) small (not_between lo hi (get_or s i 0) n));
         after = refl;
       }
 
@@ -94,8 +94,8 @@ module _ (s : List ℕ) (lo hi : ℕ) (f : ℕ → Bool) (some : 1 ≤ lo) (c : 
         let c = ran.each i a (omega arith) in
         go (classed i c.0 c.1) (run_on k e n (i + 1) (omega arith) (omega arith) l) t
 
-    pub run-stop : (k : ℕ) → T (steps S (λ l. not (f l)) []) → T (gives S k) → Best s S from k r
-    run-stop k u a = run_on k r (r - from) from (omega arith) (omega (arith, ran.start)) (stop (unclassed r ran.over) u a)
+    pub run_stop : (k : ℕ) → T (steps S (λ l. not (f l)) []) → T (gives S k) → Best s S from k r
+    run_stop k u a = run_on k r (r - from) from (omega arith) (omega (arith, ran.start)) (stop (unclassed r ran.over) u a)
 
 -- What holds of each number from f below i, and of i, holds below i + 1.
 pub up_to : (P : ℕ → Type 0) (f i : ℕ) → ((k : ℕ) → f ≤ k → k < i → P k) → P i → (k : ℕ) → f ≤ k → k < i + 1 → P k
@@ -126,107 +126,107 @@ passed_on {s} {f} {lo} {hi} {i} p h c =
 pub passed_over : {s : List ℕ} {f lo hi i : ℕ} → Passed s f lo hi i → ((lo ≤ class_of (get_or s i 0)) × (class_of (get_or s i 0) ≤ hi) → ⊥) → Ran s f lo hi i
 passed_over p n = record { start = p.start; end = p.end; each = p.each; over = λ h g. n (h, g) }
 
-pub passed-end : {s : List ℕ} {f lo hi i : ℕ} → Passed s f lo hi i → 1 ≤ lo → length s ≤ i → Ran s f lo hi i
-passed-end {s} {i = i} p some h =
+pub passed_end : {s : List ℕ} {f lo hi i : ℕ} → Passed s f lo hi i → 1 ≤ lo → length s ≤ i → Ran s f lo hi i
+passed_end {s} {i = i} p some h =
     let z : get_or s i 0 ≡ 0 = get_or-eq_default s 0 h in
-    passed_over p (λ c. omega (arith, ap class_of z ∙ class-zero))
+    passed_over p (λ c. omega (arith, ap class_of z ∙ class_zero))
 
 -- All bytes from one to another pass a test.
-abbrev from-to : ℕ → ℕ → ℕ → Bool
-from-to lo hi b = leb lo b && leb b hi
+abbrev from_to : ℕ → ℕ → ℕ → Bool
+from_to lo hi b = leb lo b && leb b hi
 
-ranged : (f : ℕ → Bool) (lo hi : ℕ) → T (implies 256 (from-to lo hi) f) → (b : ℕ) → b < 256 → lo ≤ b → b ≤ hi → T (f b)
-ranged f lo hi t b h g l = implied 256 (from-to lo hi) f t b h (and (leb lo b) (leb b hi) (le→leb lo b g) (le→leb b hi l))
+ranged : (f : ℕ → Bool) (lo hi : ℕ) → T (implies 256 (from_to lo hi) f) → (b : ℕ) → b < 256 → lo ≤ b → b ≤ hi → T (f b)
+ranged f lo hi t b h g l = implied 256 (from_to lo hi) f t b h (and (leb lo b) (leb b hi) (le→leb lo b g) (le→leb b hi l))
 
 -- All bytes from one to another begin a word, and none does; a word goes on with each, and with none.
 module _ (lo hi : ℕ) where
-  unfoldable pub begins-all : Bool
-  unfolding implies class_of asciiClass
-  begins-all = implies 256 (from-to lo hi) (λ b. eqb (class_of b) 1)
+  unfoldable pub begins_all : Bool
+  unfolding implies class_of ascii_class
+  begins_all = implies 256 (from_to lo hi) (λ b. eqb (class_of b) 1)
 
-  unfoldable pub begins-none : Bool
-  unfolding implies class_of asciiClass
-  begins-none = implies 256 (from-to lo hi) (λ b. not (eqb (class_of b) 1))
+  unfoldable pub begins_none : Bool
+  unfolding implies class_of ascii_class
+  begins_none = implies 256 (from_to lo hi) (λ b. not (eqb (class_of b) 1))
 
-  unfoldable pub goes-on-all : Bool
-  unfolding implies class_of asciiClass
-  goes-on-all = implies 256 (from-to lo hi) (between 1 3)
+  unfoldable pub goes_on_all : Bool
+  unfolding implies class_of ascii_class
+  goes_on_all = implies 256 (from_to lo hi) (between 1 3)
 
-  unfoldable pub goes-on-none : Bool
-  unfolding implies class_of asciiClass
-  goes-on-none = implies 256 (from-to lo hi) (λ b. not (between 1 3 b))
+  unfoldable pub goes_on_none : Bool
+  unfolding implies class_of ascii_class
+  goes_on_none = implies 256 (from_to lo hi) (λ b. not (between 1 3 b))
 
   module _ (b : ℕ) (h : b < 256) (g : lo ≤ b) (l : b ≤ hi) where
-    pub begins-word : T begins-all → class_of b ≡ 1
-    unfolding begins-all
+    pub begins-word : T begins_all → class_of b ≡ 1
+    unfolding begins_all
     begins-word t = eqb→eq (class_of b) 1 (ranged (λ b. eqb (class_of b) 1) lo hi t b h g l)
 
-    pub begins-no-word : T begins-none → class_of b ≡ 1 → ⊥
-    unfolding begins-none
-    begins-no-word t e = refuted (eqb (class_of b) 1) (ranged (λ b. not (eqb (class_of b) 1)) lo hi t b h g l) (subst (λ (x : ℕ). T (eqb x 1)) (sym e) tt)
+    pub begins_no_word : T begins_none → class_of b ≡ 1 → ⊥
+    unfolding begins_none
+    begins_no_word t e = refuted (eqb (class_of b) 1) (ranged (λ b. not (eqb (class_of b) 1)) lo hi t b h g l) (subst (λ (x : ℕ). T (eqb x 1)) (sym e) tt)
 
-    pub in-word : T goes-on-all → InWord b
-    unfolding goes-on-all
-    in-word t =
+    pub in_word : T goes_on_all → InWord b
+    unfolding goes_on_all
+    in_word t =
         let u = ranged (between 1 3) lo hi t b h g l in
         (leb→le 1 (class_of b) (and_left (leb 1 (class_of b)) (leb (class_of b) 3) u), leb→le (class_of b) 3 (and_right (leb 1 (class_of b)) (leb (class_of b) 3) u))
 
-    pub in-no-word : T goes-on-none → InWord b → ⊥
-    unfolding goes-on-none
-    in-no-word t w = refuted (between 1 3 b) (ranged (λ b. not (between 1 3 b)) lo hi t b h g l) (is-between 1 3 b w.0 w.1)
+    pub in_no_word : T goes_on_none → InWord b → ⊥
+    unfolding goes_on_none
+    in_no_word t w = refuted (between 1 3 b) (ranged (λ b. not (between 1 3 b)) lo hi t b h g l) (is_between 1 3 b w.0 w.1)
 
 -- A digit, by its byte.
 digits_are : T (implies 256 (λ b. leb 48 b && leb b 57) (between 2 3))
-unfolding implies class_of asciiClass
+unfolding implies class_of ascii_class
 digits_are = tt
 
-digits-only : T (implies 128 (between 2 3) (λ b. leb 48 b && leb b 57))
-unfolding implies class_of asciiClass
-digits-only = tt
+digits_only : T (implies 128 (between 2 3) (λ b. leb 48 b && leb b 57))
+unfolding implies class_of ascii_class
+digits_only = tt
 
-pub digit-class : (b : ℕ) → 48 ≤ b → b ≤ 57 → (2 ≤ class_of b) × (class_of b ≤ 3)
-digit-class b h g =
+pub digit_class : (b : ℕ) → 48 ≤ b → b ≤ 57 → (2 ≤ class_of b) × (class_of b ≤ 3)
+digit_class b h g =
     let t = implied 256 (λ b. leb 48 b && leb b 57) (between 2 3) digits_are b (omega arith) (and (leb 48 b) (leb b 57) (le→leb 48 b h) (le→leb b 57 g)) in
     (leb→le 2 (class_of b) (and_left (leb 2 (class_of b)) (leb (class_of b) 3) t), leb→le (class_of b) 3 (and_right (leb 2 (class_of b)) (leb (class_of b) 3) t))
 
-pub class-digit : (b : ℕ) → 2 ≤ class_of b → class_of b ≤ 3 → (48 ≤ b) × (b ≤ 57)
-class-digit b h g =
-    let t = implied 128 (between 2 3) (λ b. leb 48 b && leb b 57) digits-only b (class-small b (omega arith)) (is-between 2 3 b h g) in
+pub class_digit : (b : ℕ) → 2 ≤ class_of b → class_of b ≤ 3 → (48 ≤ b) × (b ≤ 57)
+class_digit b h g =
+    let t = implied 128 (between 2 3) (λ b. leb 48 b && leb b 57) digits_only b (class_small b (omega arith)) (is_between 2 3 b h g) in
     (leb→le 48 b (and_left (leb 48 b) (leb b 57) t), leb→le b 57 (and_right (leb 48 b) (leb b 57) t))
 
 -- A blank, by its byte.
-blanks-only : T (implies 256 (notIn (13 ∷ 10 ∷ 9 ∷ 32 ∷ [])) (λ b. not (eqb (class_of b) 4)))
-unfolding implies class_of asciiClass
-blanks-only = tt
+blanks_only : T (implies 256 (not_in (13 ∷ 10 ∷ 9 ∷ 32 ∷ [])) (λ b. not (eqb (class_of b) 4)))
+unfolding implies class_of ascii_class
+blanks_only = tt
 
-pub no-blank : (b : ℕ) → b < 256 → Rest (13 ∷ 10 ∷ 9 ∷ 32 ∷ []) b → class_of b ≡ 4 → ⊥
-no-blank b h r e =
-    refuted (eqb (class_of b) 4) (implied 256 (notIn (13 ∷ 10 ∷ 9 ∷ 32 ∷ [])) (λ b. not (eqb (class_of b) 4)) blanks-only b h (at_rest (13 ∷ 10 ∷ 9 ∷ 32 ∷ []) b r))
+pub no_blank : (b : ℕ) → b < 256 → Rest (13 ∷ 10 ∷ 9 ∷ 32 ∷ []) b → class_of b ≡ 4 → ⊥
+no_blank b h r e =
+    refuted (eqb (class_of b) 4) (implied 256 (not_in (13 ∷ 10 ∷ 9 ∷ 32 ∷ [])) (λ b. not (eqb (class_of b) 4)) blanks_only b h (at_rest (13 ∷ 10 ∷ 9 ∷ 32 ∷ []) b r))
     (subst (λ (x : ℕ). T (eqb x 4)) (sym e) tt)
 
 -- An operator, by its byte; and what has no class: none of these bytes, no letter, no operator.
 abbrev told : List ℕ
 told = 47 ∷ 35 ∷ 64 ∷ 39 ∷ 34 ∷ 57 ∷ 56 ∷ 55 ∷ 54 ∷ 53 ∷ 52 ∷ 51 ∷ 50 ∷ 49 ∷ 48 ∷ 13 ∷ 10 ∷ 9 ∷ 32 ∷ []
 
-operators-only : T (implies 256 (λ b. not (eqb (single b) 0)) (λ b. eqb (class_of b) 10))
-unfolding implies class_of asciiClass single
-operators-only = tt
+operators_only : T (implies 256 (λ b. not (eqb (single b) 0)) (λ b. eqb (class_of b) 10))
+unfolding implies class_of ascii_class single
+operators_only = tt
 
-pub operator-class : (b : ℕ) → b < 256 → (single b ≡ 0 → ⊥) → class_of b ≡ 10
-operator-class b h n =
+pub operator_class : (b : ℕ) → b < 256 → (single b ≡ 0 → ⊥) → class_of b ≡ 10
+operator_class b h n =
     eqb→eq (class_of b) 10
-    (implied 256 (λ b. not (eqb (single b) 0)) (λ b. eqb (class_of b) 10) operators-only b h (refutes (eqb (single b) 0) (λ t. n (eqb→eq (single b) 0 t))))
+    (implied 256 (λ b. not (eqb (single b) 0)) (λ b. eqb (class_of b) 10) operators_only b h (refutes (eqb (single b) 0) (λ t. n (eqb→eq (single b) 0 t))))
 
-abbrev else-none : ℕ → Bool
-else-none b = notIn told b && (not (eqb (class_of b) 1) && eqb (single b) 0)
+abbrev else_none : ℕ → Bool
+else_none b = not_in told b && (not (eqb (class_of b) 1) && eqb (single b) 0)
 
-none-else : T (implies 256 else-none (λ b. eqb (class_of b) 0))
-unfolding implies class_of asciiClass single
-none-else = tt
+none_else : T (implies 256 else_none (λ b. eqb (class_of b) 0))
+unfolding implies class_of ascii_class single
+none_else = tt
 
-pub none-begun : (b : ℕ) → b < 256 → Rest (47 ∷ 35 ∷ 64 ∷ 39 ∷ 34 ∷ 57 ∷ 56 ∷ 55 ∷ 54 ∷ 53 ∷ 52 ∷ 51 ∷ 50 ∷ 49 ∷ 48 ∷ 13 ∷ 10 ∷ 9 ∷ 32 ∷ []) b → (class_of b ≡ 1 → ⊥) → single b ≡ 0 → class_of b ≡ 0
-none-begun b h r n z =
+pub none_begun : (b : ℕ) → b < 256 → Rest (47 ∷ 35 ∷ 64 ∷ 39 ∷ 34 ∷ 57 ∷ 56 ∷ 55 ∷ 54 ∷ 53 ∷ 52 ∷ 51 ∷ 50 ∷ 49 ∷ 48 ∷ 13 ∷ 10 ∷ 9 ∷ 32 ∷ []) b → (class_of b ≡ 1 → ⊥) → single b ≡ 0 → class_of b ≡ 0
+none_begun b h r n z =
     eqb→eq (class_of b) 0
-    (implied 256 else-none (λ b. eqb (class_of b) 0) none-else b h
-    (and (notIn told b) (not (eqb (class_of b) 1) && eqb (single b) 0) (at_rest told b r)
+    (implied 256 else_none (λ b. eqb (class_of b) 0) none_else b h
+    (and (not_in told b) (not (eqb (class_of b) 1) && eqb (single b) 0) (at_rest told b r)
     (and (not (eqb (class_of b) 1)) (eqb (single b) 0) (refutes (eqb (class_of b) 1) (λ t. n (eqb→eq (class_of b) 1 t))) (subst (λ (x : ℕ). T (eqb x 0)) (sym z) tt))))

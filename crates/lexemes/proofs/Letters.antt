@@ -11,7 +11,7 @@ use lib.ListN.{length, get_or, get_or-eq_default}
 use borrow.Author.Tests.{lt-ltb, le-ltb}
 use Rattle.regex.specs.Regex.{END, within}
 use Rattle.regex.proofs.Longest.{Sound}
-use Rattle.lexemes.specs.Letters.{WHITE, OTHER, text, letter, next, beyond, width, whiteSpace, codePoint}
+use Rattle.lexemes.specs.Letters.{WHITE, OTHER, text, letter, next, beyond, width, white_space, code_point}
 
 either : (t : Bool) (a b : ℕ) (P : ℕ → Type 0) → P a → P b → P (cond t a b)
 either true a b P p q = p
@@ -30,9 +30,9 @@ module _ (s : List ℕ) (i : ℕ) where
   unfolding letter
   letter-ascii h g = simp (lt-ltb i (length s) h, lt-ltb (get_or s i 0) 128 g)
 
-  pub letter-high : i < length s → 128 ≤ get_or s i 0 → letter s i ≡ beyond s i
+  pub letter_high : i < length s → 128 ≤ get_or s i 0 → letter s i ≡ beyond s i
   unfolding letter
-  letter-high h g = simp (lt-ltb i (length s) h, le-ltb (get_or s i 0) 128 g)
+  letter_high h g = simp (lt-ltb i (length s) h, le-ltb (get_or s i 0) 128 g)
 
   pub letter-past : length s ≤ i → letter s i ≡ END
   unfolding letter
@@ -42,31 +42,31 @@ module _ (s : List ℕ) (i : ℕ) where
   unfolding next
   next_past h = simp (le-ltb i (length s) h)
 
-  next-wide : (w : ℕ) → i < length s → width (get_or s i 0) ≡ w → next s i ≡ min (i + w) (length s)
+  next_wide : (w : ℕ) → i < length s → width (get_or s i 0) ≡ w → next s i ≡ min (i + w) (length s)
   unfolding next
-  next-wide w h e = simp (lt-ltb i (length s) h, e)
+  next_wide w h e = simp (lt-ltb i (length s) h, e)
 
   pub next-ascii : i < length s → get_or s i 0 < 128 → next s i ≡ i + 1
-  next-ascii h g = next-wide 1 h (simp (lt-ltb (get_or s i 0) 128 g)) ∙ omega arith
+  next-ascii h g = next_wide 1 h (simp (lt-ltb (get_or s i 0) 128 g)) ∙ omega arith
 
   pub next-two : i < length s → 128 ≤ get_or s i 0 → get_or s i 0 < 224 → next s i ≡ min (i + 2) (length s)
-  next-two h a b = next-wide 2 h (simp (le-ltb (get_or s i 0) 128 a, lt-ltb (get_or s i 0) 224 b))
+  next-two h a b = next_wide 2 h (simp (le-ltb (get_or s i 0) 128 a, lt-ltb (get_or s i 0) 224 b))
 
   pub next-three : i < length s → 224 ≤ get_or s i 0 → get_or s i 0 < 240 → next s i ≡ min (i + 3) (length s)
-  next-three h a b = next-wide 3 h (simp (le-ltb (get_or s i 0) 128 (omega arith), le-ltb (get_or s i 0) 224 a, lt-ltb (get_or s i 0) 240 b))
+  next-three h a b = next_wide 3 h (simp (le-ltb (get_or s i 0) 128 (omega arith), le-ltb (get_or s i 0) 224 a, lt-ltb (get_or s i 0) 240 b))
 
-  pub next-four : i < length s → 240 ≤ get_or s i 0 → next s i ≡ min (i + 4) (length s)
-  next-four h a = next-wide 4 h (simp (le-ltb (get_or s i 0) 128 (omega arith), le-ltb (get_or s i 0) 224 (omega arith), le-ltb (get_or s i 0) 240 a))
+  pub next_four : i < length s → 240 ≤ get_or s i 0 → next s i ≡ min (i + 4) (length s)
+  next_four h a = next_wide 4 h (simp (le-ltb (get_or s i 0) 128 (omega arith), le-ltb (get_or s i 0) 224 (omega arith), le-ltb (get_or s i 0) 240 a))
 
-  beyond-range : (WHITE ≤ beyond s i) × (beyond s i ≤ OTHER)
+  beyond_range : (WHITE ≤ beyond s i) × (beyond s i ≤ OTHER)
   unfolding beyond
-  beyond-range =
-      either (within whiteSpace (codePoint (get_or s i 0) (get_or s (i + 1) 0) (get_or s (i + 2) 0) (get_or s (i + 3) 0))) WHITE OTHER
+  beyond_range =
+      either (within white_space (code_point (get_or s i 0) (get_or s (i + 1) 0) (get_or s (i + 2) 0) (get_or s (i + 3) 0))) WHITE OTHER
       (λ x. (WHITE ≤ x) × (x ≤ OTHER)) (omega arith) (omega arith)
 
   -- The letter of a byte beyond ASCII is WHITE or OTHER.
   pub high : i < length s → 128 ≤ get_or s i 0 → (WHITE ≤ letter s i) × (letter s i ≤ OTHER)
-  high h g = subst (λ (x : ℕ). (WHITE ≤ x) × (x ≤ OTHER)) (sym (letter-high h g)) beyond-range
+  high h g = subst (λ (x : ℕ). (WHITE ≤ x) × (x ≤ OTHER)) (sym (letter_high h g)) beyond_range
 
   -- A test of the letter, by the byte.
   pub by_byte : (f : ℕ → Bool) → T (f WHITE) → T (f OTHER) → T (f END) → (get_or s i 0 < 128 → T (f (get_or s i 0))) → T (f (letter s i))
@@ -84,26 +84,26 @@ module _ (s : List ℕ) (i : ℕ) where
       by (yes l) (no n) = two (letter s i) (high l (omega arith)).0 (high l (omega arith)).1
       by (no n) d = subst (λ (x : ℕ). T (f x)) (sym (letter-past (omega arith))) p
 
-  pub inside-letter : i < length s → letter s i < END
-  inside-letter h = by (dec_lt (get_or s i 0) 128)
+  pub inside_letter : i < length s → letter s i < END
+  inside_letter h = by (dec_lt (get_or s i 0) 128)
     where
       by : Dec (get_or s i 0 < 128) → letter s i < END
       by (yes l) = omega (arith, letter-ascii h l)
       by (no n) = omega (arith, (high h (omega arith)).1)
 
-  pub letter-inside : letter s i < END → i < length s
-  letter-inside h = by (dec_lt i (length s))
+  pub letter_inside : letter s i < END → i < length s
+  letter_inside h = by (dec_lt i (length s))
     where
       by : Dec (i < length s) → i < length s
       by (yes l) = l
       by (no n) = absurd (omega (arith, letter-past (omega arith)))
 
   -- A letter below 128 is a byte.
-  pub of-letter : (b : ℕ) → b < 128 → letter s i ≡ b → (get_or s i 0 ≡ b) × (next s i ≡ i + 1)
-  of-letter b g e = by (dec_lt (get_or s i 0) 128)
+  pub of_letter : (b : ℕ) → b < 128 → letter s i ≡ b → (get_or s i 0 ≡ b) × (next s i ≡ i + 1)
+  of_letter b g e = by (dec_lt (get_or s i 0) 128)
     where
       here : i < length s
-      here = letter-inside (omega arith)
+      here = letter_inside (omega arith)
 
       by : Dec (get_or s i 0 < 128) → (get_or s i 0 ≡ b) × (next s i ≡ i + 1)
       by (yes h) = (sym (letter-ascii here h) ∙ e, next-ascii here h)
@@ -131,7 +131,7 @@ module _ (s : List ℕ) (i : ℕ) where
   low = by (dec_lt i (length s))
     where
       by : Dec (i < length s) → letter s i ≤ END
-      by (yes l) = omega (arith, inside-letter l)
+      by (yes l) = omega (arith, inside_letter l)
       by (no n) = omega (arith, letter-past (omega arith))
 
 pub sound : (s : List ℕ) → Sound (text s)

@@ -14,7 +14,7 @@ use Rattle.regex.proofs.Bools.{and_left, and_right}
 use Rattle.regex.proofs.Tables.{left, accepts, Among}
 use Rattle.regex.proofs.Longest.{Sound, empty, fail, on, halt}
 use Rattle.lexemes.specs.declared.Lexeme.{Lexeme}
-use Rattle.lexemes.specs.Kinds.{IDENT, STRING-BLOCK, TAILSTRICT-KW, ASSERT-KW, LEXING-ERROR}
+use Rattle.lexemes.specs.Kinds.{IDENT, STRING_BLOCK, TAILSTRICT_KW, ASSERT_KW, LEXING_ERROR}
 use Rattle.lexemes.specs.Letters.{text, letter, next}
 use Rattle.lexemes.specs.Rules.{rules}
 use Rattle.lexemes.specs.Lexeme.{Beats, Ruled, longest, error, LexemeAt, end, rule, lexeme}
@@ -27,7 +27,7 @@ pub data Munched : Type 0 where
   nothing stuck : Munched
 
 beats : ℕ → ℕ → Bool
-beats k k' = leb TAILSTRICT-KW k && leb k ASSERT-KW && eqb k' IDENT
+beats k k' = leb TAILSTRICT_KW k && leb k ASSERT_KW && eqb k' IDENT
 
 -- Where the table's rules can end, and what is left takes something or not.
 unfoldable pub finish : List ℕ → ℕ → Munched → Munched
@@ -56,10 +56,10 @@ Gives t S p stuck = Unit {0}
 beaten : (k k' : ℕ) → T (beats k k') → Beats k k'
 unfolding beats
 beaten k k' h =
-    let A = leb TAILSTRICT-KW k in
-    let B = leb k ASSERT-KW in
+    let A = leb TAILSTRICT_KW k in
+    let B = leb k ASSERT_KW in
     let C = eqb k' IDENT in
-    ((leb→le TAILSTRICT-KW k (and_left A B (and_left (A && B) C h)), leb→le k ASSERT-KW (and_right A B (and_left (A && B) C h))), eqb→eq k' IDENT (and_right (A && B) C h))
+    ((leb→le TAILSTRICT_KW k (and_left A B (and_left (A && B) C h)), leb→le k ASSERT_KW (and_right A B (and_left (A && B) C h))), eqb→eq k' IDENT (and_right (A && B) C h))
 
 module _ (t : Text) (fine : Sound t) where
   finished : (S : List Rule) (p : ℕ) (ks : List ℕ) → accepts S ≡ ks → (m : Munched) → Gives t (left (t.letter p) S) (t.next p) m → Gives t S p (finish ks p m)
@@ -106,7 +106,7 @@ before k a e (all ls) = all (lexeme k a e ∷ ls)
 before k a e not_so = not_so
 
 unfoldable pub step : ℕ → (ℕ → Lexed) → Munched → Lexed
-step p later (took k e) = elim (eqb k STRING-BLOCK) [ true ↦ not_so | false ↦ before k p e (later e) ]
+step p later (took k e) = elim (eqb k STRING_BLOCK) [ true ↦ not_so | false ↦ before k p e (later e) ]
 step p later nothing = not_so
 step p later stuck = not_so
 
@@ -123,7 +123,7 @@ same e = cc
 
 module _ (s : List ℕ) where
   before-some : {k p e : ℕ} {ls : List Lexeme} (later : Lexed) → ((ms : List Lexeme) → later ≡ all ms → Lexemes s e ms) → p < length s → Longest Beats (text s) rules p k e
-      → (k ≡ STRING-BLOCK → ⊥) → before k p e later ≡ all ls → Lexemes s p ls
+      → (k ≡ STRING_BLOCK → ⊥) → before k p e later ≡ all ls → Lexemes s p ls
   unfolding before
   before-some {k} {p} {e} (all ms) rec h l n q = subst (λ (ls : List Lexeme). Lexemes s p ls) (same q) (some h (rule h (longest l) n refl) (rec ms refl))
   before-some not_so rec h l n q = absurd (never q)
@@ -131,11 +131,11 @@ module _ (s : List ℕ) where
   stepped : {p : ℕ} {ls : List Lexeme} (later : ℕ → Lexed) → ((e : ℕ) (ms : List Lexeme) → later e ≡ all ms → Lexemes s e ms) → p < length s → (m : Munched) → Gives (text s) rules p m
       → step p later m ≡ all ls → Lexemes s p ls
   unfolding step Gives
-  stepped {p} {ls} later rec h (took k e) g q = by (eqb k STRING-BLOCK) refl q
+  stepped {p} {ls} later rec h (took k e) g q = by (eqb k STRING_BLOCK) refl q
     where
-      by : (b : Bool) → eqb k STRING-BLOCK ≡ b → elim b [ true ↦ not_so | false ↦ before k p e (later e) ] ≡ all ls → Lexemes s p ls
+      by : (b : Bool) → eqb k STRING_BLOCK ≡ b → elim b [ true ↦ not_so | false ↦ before k p e (later e) ] ≡ all ls → Lexemes s p ls
       by true c q = absurd (never q)
-      by false c q = before-some (later e) (rec e) h g (eqb-false k STRING-BLOCK c) q
+      by false c q = before-some (later e) (rec e) h g (eqb-false k STRING_BLOCK c) q
   stepped later rec h nothing g q = absurd (never q)
   stepped later rec h stuck g q = absurd (never q)
 
@@ -150,12 +150,12 @@ module _ (s : List ℕ) where
       by false c rec q = subst (λ (ls : List Lexeme). Lexemes s p ls) (same q) (none (ltb-false p (length s) c))
 
   -- One match by itself, as the rules make it.
-  pub munched-ruled : (p k e : ℕ) → munch 100 (text s) rules p ≡ took k e → Ruled s p k e
+  pub munched_ruled : (p k e : ℕ) → munch 100 (text s) rules p ≡ took k e → Ruled s p k e
   unfolding Gives
-  munched-ruled p k e q = by (munch 100 (text s) rules p) (munched (text s) (sound s) 100 rules p) q
+  munched_ruled p k e q = by (munch 100 (text s) rules p) (munched (text s) (sound s) 100 rules p) q
     where
       by : (m : Munched) → Gives (text s) rules p m → m ≡ took k e → Ruled s p k e
-      by m g q = longest (is-took (subst (λ (x : Munched). Gives (text s) rules p x) q g))
+      by m g q = longest (is_took (subst (λ (x : Munched). Gives (text s) rules p x) q g))
         where
-          is-took : Gives (text s) rules p (took k e) → Longest Beats (text s) rules p k e
-          is-took x = x
+          is_took : Gives (text s) rules p (took k e) → Longest Beats (text s) rules p k e
+          is_took x = x

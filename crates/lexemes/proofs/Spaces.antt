@@ -9,25 +9,25 @@ use native.Mathlib.Omega.{arith}
 use lib.Dec.{T, leb, le→leb, leb→le}
 use types.Run.{OneOf}
 use Rattle.regex.specs.Regex.{Range, ◌to◌, within}
-use Rattle.regex.proofs.Bools.{true-is, false-is, refutes, and, and_left, and_right, or_left, or_right, or_cases}
-use Rattle.lexemes.specs.Letters.{WHITE, OTHER, whiteSpace}
+use Rattle.regex.proofs.Bools.{true_is, false_is, refutes, and, and_left, and_right, or_left, or_right_lem, or_cases}
+use Rattle.lexemes.specs.Letters.{WHITE, OTHER, white_space}
 
 -- In one of the ranges.
 abbrev pub In : List Range → ℕ → Type 0
 In [] p = ⊥
 In (a to b ∷ rs) p = ((a ≤ p) × (p ≤ b)) ⊎ In rs p
 
-pub within-from : (rs : List Range) (p : ℕ) → In rs p → T (within rs p)
-within-from [] p h = absurd h
-within-from (a to b ∷ rs) p (inl h) = or_left (leb a p && leb p b) (within rs p) (and (leb a p) (leb p b) (le→leb a p h.0) (le→leb p b h.1))
-within-from (a to b ∷ rs) p (inr h) = or_right (leb a p && leb p b) (within rs p) (within-from rs p h)
+pub within_from : (rs : List Range) (p : ℕ) → In rs p → T (within rs p)
+within_from [] p h = absurd h
+within_from (a to b ∷ rs) p (inl h) = or_left (leb a p && leb p b) (within rs p) (and (leb a p) (leb p b) (le→leb a p h.0) (le→leb p b h.1))
+within_from (a to b ∷ rs) p (inr h) = or_right_lem (leb a p && leb p b) (within rs p) (within_from rs p h)
 
-pub within-to : (rs : List Range) (p : ℕ) → T (within rs p) → In rs p
-within-to [] p t = absurd t
-within-to (a to b ∷ rs) p t =
+pub within_to : (rs : List Range) (p : ℕ) → T (within rs p) → In rs p
+within_to [] p t = absurd t
+within_to (a to b ∷ rs) p t =
     ⊎_elim
     (λ x. inl (leb→le a p (and_left (leb a p) (leb p b) x), leb→le p b (and_right (leb a p) (leb p b) x)))
-    (λ x. inr (within-to rs p x))
+    (λ x. inr (within_to rs p x))
     (or_cases (leb a p && leb p b) (within rs p) t)
 
 -- The code points that stand alone.
@@ -43,11 +43,11 @@ before h = inl h
 pub behind : {a b p : ℕ} → b < p → Outside a b p
 behind h = inr h
 
-pub is_white : (p : ℕ) → OneOf alone p ⊎ (((0x2000 ≤ p) × (p ≤ 0x200A)) ⊎ ((0x2028 ≤ p) × (p ≤ 0x2029))) → WHITE ≡ cond (within whiteSpace p) WHITE OTHER
-unfolding whiteSpace
-is_white p h = ap (λ (b : Bool). cond b WHITE OTHER) (true-is (within whiteSpace p) (within-from whiteSpace p (place h)))
+pub is_white : (p : ℕ) → OneOf alone p ⊎ (((0x2000 ≤ p) × (p ≤ 0x200A)) ⊎ ((0x2028 ≤ p) × (p ≤ 0x2029))) → WHITE ≡ cond (within white_space p) WHITE OTHER
+unfolding white_space
+is_white p h = ap (λ (b : Bool). cond b WHITE OTHER) (true_is (within white_space p) (within_from white_space p (place h)))
   where
-    place : OneOf alone p ⊎ (((0x2000 ≤ p) × (p ≤ 0x200A)) ⊎ ((0x2028 ≤ p) × (p ≤ 0x2029))) → In whiteSpace p
+    place : OneOf alone p ⊎ (((0x2000 ≤ p) × (p ≤ 0x200A)) ⊎ ((0x2028 ≤ p) × (p ≤ 0x2029))) → In white_space p
     place (inl (inl e)) = inl (omega arith)
     place (inl (inr (inl e))) = inr (inl (omega arith))
     place (inl (inr (inr (inl e)))) = inr (inr (inl (omega arith)))
@@ -57,15 +57,15 @@ is_white p h = ap (λ (b : Bool). cond b WHITE OTHER) (true-is (within whiteSpac
     place (inl (inr (inr (inr (inr (inl e)))))) = inr (inr (inr (inr (inr (inr (inl (omega arith)))))))
     place (inl (inr (inr (inr (inr (inr e)))))) = inr (inr (inr (inr (inr (inr (inr (inl (omega arith))))))))
 
-pub is-other : (p : ℕ) → (OneOf alone p → ⊥) → Outside 0x2000 0x200A p → Outside 0x2028 0x2029 p → OTHER ≡ cond (within whiteSpace p) WHITE OTHER
-unfolding whiteSpace
-is-other p n a b = ap (λ (t : Bool). cond t WHITE OTHER) (false-is (within whiteSpace p) (refutes (within whiteSpace p) (λ t. out (within-to whiteSpace p t))))
+pub is_other : (p : ℕ) → (OneOf alone p → ⊥) → Outside 0x2000 0x200A p → Outside 0x2028 0x2029 p → OTHER ≡ cond (within white_space p) WHITE OTHER
+unfolding white_space
+is_other p n a b = ap (λ (t : Bool). cond t WHITE OTHER) (false_is (within white_space p) (refutes (within white_space p) (λ t. out (within_to white_space p t))))
   where
     apart : {lo hi : ℕ} → Outside lo hi p → lo ≤ p → p ≤ hi → ⊥
     apart (inl x) h g = omega arith
     apart (inr x) h g = omega arith
 
-    out : In whiteSpace p → ⊥
+    out : In white_space p → ⊥
     out (inl e) = n (inl (omega arith))
     out (inr (inl e)) = n (inr (inl (omega arith)))
     out (inr (inr (inl e))) = n (inr (inr (inl (omega arith))))

@@ -13,8 +13,8 @@ abbrev pub OTHER : ℕ
 OTHER = 129
 
 -- R11. "Unicode White_Space (25 code points)": the 19 beyond ASCII.
-unfoldable pub whiteSpace : List Range
-whiteSpace =
+unfoldable pub white_space : List Range
+white_space =
     0x85 to 0x85 ∷ 0xA0 to 0xA0 ∷ 0x1680 to 0x1680 ∷ 0x2000 to 0x200A ∷ 0x2028 to 0x2029 ∷ 0x202F to 0x202F ∷ 0x205F to 0x205F ∷ 0x3000 to 0x3000 ∷ []
 
 -- R11. A character has as many bytes as its first byte says: Unicode's table 3-7, first column.
@@ -22,14 +22,14 @@ abbrev pub width : ℕ → ℕ
 width b = cond (ltb b 0x80) 1 (cond (ltb b 0xE0) 2 (cond (ltb b 0xF0) 3 4))
 
 -- R11. The code point whose bytes are a, b, c, d, as many of them as a says: table 3-6.
-unfoldable pub codePoint : ℕ → ℕ → ℕ → ℕ → ℕ
-codePoint a b c d =
+unfoldable pub code_point : ℕ → ℕ → ℕ → ℕ → ℕ
+code_point a b c d =
     cond (ltb a 0x80) a
     (cond (ltb a 0xE0) (a % 0x20 * 0x40 + b % 0x40)
     (cond (ltb a 0xF0) (a % 0x10 * 0x1000 + b % 0x40 * 0x40 + c % 0x40) (a % 8 * 0x40000 + b % 0x40 * 0x1000 + c % 0x40 * 0x40 + d % 0x40)))
 
 unfoldable pub beyond : List ℕ → ℕ → ℕ
-beyond s i = cond (within whiteSpace (codePoint (get_or s i 0) (get_or s (i + 1) 0) (get_or s (i + 2) 0) (get_or s (i + 3) 0))) WHITE OTHER
+beyond s i = cond (within white_space (code_point (get_or s i 0) (get_or s (i + 1) 0) (get_or s (i + 2) 0) (get_or s (i + 3) 0))) WHITE OTHER
 
 -- R6, R11. The letter at a place, and the place after it.
 unfoldable pub letter : List ℕ → ℕ → ℕ

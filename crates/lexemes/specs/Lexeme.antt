@@ -6,13 +6,13 @@ use Rattle.blocks.specs.Blocks.{BlockAt}
 use Rattle.blocks.specs.declared.Block.{Block}
 use Rattle.blocks.specs.declared.Block.TheVariants.{Good, UnexpectedEnd, MissingNewLine, MissingTermination, MissingIndent}
 use Rattle.lexemes.specs.declared.Lexeme.{Lexeme}
-use Rattle.lexemes.specs.Kinds.{EOF, IDENT, STRING-BLOCK, ERROR-STRING-BLOCK-UNEXPECTED-END, ERROR-STRING-BLOCK-MISSING-NEW-LINE, ERROR-STRING-BLOCK-MISSING-TERMINATION, ERROR-STRING-BLOCK-MISSING-INDENT, TAILSTRICT-KW, ASSERT-KW, LEXING-ERROR}
+use Rattle.lexemes.specs.Kinds.{EOF, IDENT, STRING_BLOCK, ERROR_STRING_BLOCK_UNEXPECTED_END, ERROR_STRING_BLOCK_MISSING_NEW_LINE, ERROR_STRING_BLOCK_MISSING_TERMINATION, ERROR_STRING_BLOCK_MISSING_INDENT, TAILSTRICT_KW, ASSERT_KW, LEXING_ERROR}
 use Rattle.lexemes.specs.Letters.{text, next}
 use Rattle.lexemes.specs.Rules.{rules}
 
 -- R6. The keywords stand together in `SyntaxKind`.
 abbrev pub Keyword : ℕ → Type 0
-Keyword k = (TAILSTRICT-KW ≤ k) × (k ≤ ASSERT-KW)
+Keyword k = (TAILSTRICT_KW ≤ k) × (k ≤ ASSERT_KW)
 
 -- R6. "a keyword beats `IDENT`"
 abbrev pub Beats : ℕ → ℕ → Type 0
@@ -21,22 +21,22 @@ Beats k k' = Keyword k × (k' ≡ IDENT)
 -- R6, R8. What the rules make of the place: the longest match, or, "a character no rule takes is one `LEXING_ERROR`".
 pub data Ruled (s : List ℕ) (at k e : ℕ) : Type 0 where
   longest : Longest Beats (text s) rules at k e → Ruled s at k e
-  error : Nothing (text s) rules at → k ≡ LEXING-ERROR → e ≡ next s at → Ruled s at k e
+  error : Nothing (text s) rules at → k ≡ LEXING_ERROR → e ≡ next s at → Ruled s at k e
 
 -- R15. lex.rs: the kind of a block by its fault, and its end.
-abbrev pub blockKind : Block → ℕ
-blockKind (Good e) = STRING-BLOCK
-blockKind (UnexpectedEnd e) = ERROR-STRING-BLOCK-UNEXPECTED-END
-blockKind (MissingNewLine e) = ERROR-STRING-BLOCK-MISSING-NEW-LINE
-blockKind (MissingTermination e) = ERROR-STRING-BLOCK-MISSING-TERMINATION
-blockKind (MissingIndent e) = ERROR-STRING-BLOCK-MISSING-INDENT
+abbrev pub block_kind : Block → ℕ
+block_kind (Good e) = STRING_BLOCK
+block_kind (UnexpectedEnd e) = ERROR_STRING_BLOCK_UNEXPECTED_END
+block_kind (MissingNewLine e) = ERROR_STRING_BLOCK_MISSING_NEW_LINE
+block_kind (MissingTermination e) = ERROR_STRING_BLOCK_MISSING_TERMINATION
+block_kind (MissingIndent e) = ERROR_STRING_BLOCK_MISSING_INDENT
 
-abbrev pub blockEnd : Block → ℕ
-blockEnd (Good e) = e
-blockEnd (UnexpectedEnd e) = e
-blockEnd (MissingNewLine e) = e
-blockEnd (MissingTermination e) = e
-blockEnd (MissingIndent e) = e
+abbrev pub block_end : Block → ℕ
+block_end (Good e) = e
+block_end (UnexpectedEnd e) = e
+block_end (MissingNewLine e) = e
+block_end (MissingTermination e) = e
+block_end (MissingIndent e) = e
 
 abbrev pub lexeme : ℕ → ℕ → ℕ → Lexeme
 lexeme k a e = record { kind = k; start = a; end = e }
@@ -44,5 +44,5 @@ lexeme k a e = record { kind = k; start = a; end = e }
 -- R6, R14. The lexeme at a place. Past the end of the source that is EOF; a `|||` goes on as a block.
 pub data LexemeAt (s : List ℕ) (at : ℕ) (l : Lexeme) : Type 0 where
   end : length s ≤ at → l ≡ lexeme EOF at at → LexemeAt s at l
-  rule : {k e : ℕ} → at < length s → Ruled s at k e → (k ≡ STRING-BLOCK → ⊥) → l ≡ lexeme k at e → LexemeAt s at l
-  block : {p : ℕ} {b : Block} → at < length s → Ruled s at STRING-BLOCK p → BlockAt s p b → l ≡ lexeme (blockKind b) at (blockEnd b) → LexemeAt s at l
+  rule : {k e : ℕ} → at < length s → Ruled s at k e → (k ≡ STRING_BLOCK → ⊥) → l ≡ lexeme k at e → LexemeAt s at l
+  block : {p : ℕ} {b : Block} → at < length s → Ruled s at STRING_BLOCK p → BlockAt s p b → l ≡ lexeme (block_kind b) at (block_end b) → LexemeAt s at l

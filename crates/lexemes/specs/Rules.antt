@@ -6,7 +6,7 @@ use Prim.Native.Char.{Char, code}
 use Prim.Native.String.{String, [] as nil, ◌∷◌ as ◌then◌}
 use Rattle.regex.specs.Regex.{Range, ◌to◌, Class, only, but, Re, eps, one, ◌·◌, ◌∣◌, star, Rule, ◌⇒◌}
 use Rattle.lexemes.specs.Letters.{WHITE}
-use Rattle.lexemes.specs.Kinds.{OR, NULL-COAELSE, AND, BIT-OR, BIT-XOR, BIT-AND, EQ, NE, LT, GT, LE, GE, LHS, RHS, PLUS, MINUS, MUL, DIV, MODULO, NOT, BIT-NOT, L-BRACK, R-BRACK, L-PAREN, R-PAREN, L-BRACE, R-BRACE, COLON, SEMI, DOT, DOTDOTDOT, COMMA, DOLLAR, ASSIGN, QUESTION-MARK, FLOAT, ERROR-FLOAT-JUNK-AFTER-POINT, ERROR-FLOAT-JUNK-AFTER-EXPONENT, ERROR-FLOAT-JUNK-AFTER-EXPONENT-SIGN, STRING-DOUBLE, ERROR-STRING-DOUBLE-UNTERMINATED, STRING-SINGLE, ERROR-STRING-SINGLE-UNTERMINATED, STRING-DOUBLE-VERBATIM, ERROR-STRING-DOUBLE-VERBATIM-UNTERMINATED, STRING-SINGLE-VERBATIM, ERROR-STRING-SINGLE-VERBATIM-UNTERMINATED, ERROR-STRING-VERBATIM-MISSING-QUOTES, STRING-BLOCK, IDENT, WHITESPACE, SINGLE-LINE-SLASH-COMMENT, SINGLE-LINE-HASH-COMMENT, MULTI-LINE-COMMENT, ERROR-COMMENT-TOO-SHORT, ERROR-COMMENT-UNTERMINATED, TAILSTRICT-KW, LOCAL-KW, IMPORTSTR-KW, IMPORTBIN-KW, IMPORT-KW, IF-KW, THEN-KW, ELSE-KW, FUNCTION-KW, ERROR-KW, IN-KW, NULL-KW, TRUE-KW, FALSE-KW, SELF-KW, SUPER-KW, FOR-KW, ASSERT-KW}
+use Rattle.lexemes.specs.Kinds.{OR, NULL_COAELSE, AND, BIT_OR, BIT_XOR, BIT_AND, EQ, NE, LT, GT, LE, GE, LHS, RHS, PLUS, MINUS, MUL, DIV, MODULO, NOT, BIT_NOT, L_BRACK, R_BRACK, L_PAREN, R_PAREN, L_BRACE, R_BRACE, COLON, SEMI, DOT, DOTDOTDOT, COMMA, DOLLAR, ASSIGN, QUESTION_MARK, FLOAT, ERROR_FLOAT_JUNK_AFTER_POINT, ERROR_FLOAT_JUNK_AFTER_EXPONENT, ERROR_FLOAT_JUNK_AFTER_EXPONENT_SIGN, STRING_DOUBLE, ERROR_STRING_DOUBLE_UNTERMINATED, STRING_SINGLE, ERROR_STRING_SINGLE_UNTERMINATED, STRING_DOUBLE_VERBATIM, ERROR_STRING_DOUBLE_VERBATIM_UNTERMINATED, STRING_SINGLE_VERBATIM, ERROR_STRING_SINGLE_VERBATIM_UNTERMINATED, ERROR_STRING_VERBATIM_MISSING_QUOTES, STRING_BLOCK, IDENT, WHITESPACE, SINGLE_LINE_SLASH_COMMENT, SINGLE_LINE_HASH_COMMENT, MULTI_LINE_COMMENT, ERROR_COMMENT_TOO_SHORT, ERROR_COMMENT_UNTERMINATED, TAILSTRICT_KW, LOCAL_KW, IMPORTSTR_KW, IMPORTBIN_KW, IMPORT_KW, IF_KW, THEN_KW, ELSE_KW, FUNCTION_KW, ERROR_KW, IN_KW, NULL_KW, TRUE_KW, FALSE_KW, SELF_KW, SUPER_KW, FOR_KW, ASSERT_KW}
 
 infix 90 ◌–◌
 -- a-b in a class
@@ -38,8 +38,8 @@ abbrev pub digit : Re
 digit = one (only ("0" – "9" ∷ []))
 
 -- [^0-9]
-abbrev pub noDigit : Re
-noDigit = one (but ("0" – "9" ∷ []))
+abbrev pub no_digit : Re
+no_digit = one (but ("0" – "9" ∷ []))
 
 -- (?:_[0-9]+)*
 abbrev pub groups : Re
@@ -90,27 +90,27 @@ abbrev pub line : Re
 line = star (one (but ("\r" – "\r" ∷ "\n" – "\n" ∷ [])))
 
 -- (\r\n|\n)?
-abbrev pub newLine : Re
-newLine = opt (token "\r\n" ∣ chr "\n")
+abbrev pub new_line : Re
+new_line = opt (token "\r\n" ∣ chr "\n")
 
 -- [^*], [^*/], [^/]
-abbrev pub noStar : Re
-noStar = one (but ("*" – "*" ∷ []))
+abbrev pub no_star : Re
+no_star = one (but ("*" – "*" ∷ []))
 
-abbrev pub noStarSlash : Re
-noStarSlash = one (but ("*" – "*" ∷ "/" – "/" ∷ []))
+abbrev pub no_star_slash : Re
+no_star_slash = one (but ("*" – "*" ∷ "/" – "/" ∷ []))
 
-abbrev pub noSlash : Re
-noSlash = one (but ("/" – "/" ∷ []))
+abbrev pub no_slash : Re
+no_slash = one (but ("/" – "/" ∷ []))
 
 unfoldable pub rules : List Rule
 rules =
     (OR ⇒ token "||") ∷
-    (NULL-COAELSE ⇒ token "??") ∷
+    (NULL_COAELSE ⇒ token "??") ∷
     (AND ⇒ token "&&") ∷
-    (BIT-OR ⇒ token "|") ∷
-    (BIT-XOR ⇒ token "^") ∷
-    (BIT-AND ⇒ token "&") ∷
+    (BIT_OR ⇒ token "|") ∷
+    (BIT_XOR ⇒ token "^") ∷
+    (BIT_AND ⇒ token "&") ∷
     (EQ ⇒ token "==") ∷
     (NE ⇒ token "!=") ∷
     (LT ⇒ token "<") ∷
@@ -125,13 +125,13 @@ rules =
     (DIV ⇒ token "/") ∷
     (MODULO ⇒ token "%") ∷
     (NOT ⇒ token "!") ∷
-    (BIT-NOT ⇒ token "~") ∷
-    (L-BRACK ⇒ token "[") ∷
-    (R-BRACK ⇒ token "]") ∷
-    (L-PAREN ⇒ token "(") ∷
-    (R-PAREN ⇒ token ")") ∷
-    (L-BRACE ⇒ token "{") ∷
-    (R-BRACE ⇒ token "}") ∷
+    (BIT_NOT ⇒ token "~") ∷
+    (L_BRACK ⇒ token "[") ∷
+    (R_BRACK ⇒ token "]") ∷
+    (L_PAREN ⇒ token "(") ∷
+    (R_PAREN ⇒ token ")") ∷
+    (L_BRACE ⇒ token "{") ∷
+    (R_BRACE ⇒ token "}") ∷
     (COLON ⇒ token ":") ∷
     (SEMI ⇒ token ";") ∷
     (DOT ⇒ token ".") ∷
@@ -139,65 +139,65 @@ rules =
     (COMMA ⇒ token ",") ∷
     (DOLLAR ⇒ token "$") ∷
     (ASSIGN ⇒ token "=") ∷
-    (QUESTION-MARK ⇒ token "?") ∷
+    (QUESTION_MARK ⇒ token "?") ∷
     -- #[regex("(?:0|[1-9][0-9]*(?:_[0-9]+)*)(?:\\.[0-9]+(?:_[0-9]+)*)?(?:[eE][+-]?[0-9]+(?:_[0-9]+)*)?")]
     (FLOAT ⇒ whole · fraction · exponent) ∷
     -- #[regex("(?:0|[1-9][0-9]*(?:_[0-9]+)*)\\.[^0-9]")]
-    (ERROR-FLOAT-JUNK-AFTER-POINT ⇒ whole · chr "." · noDigit) ∷
+    (ERROR_FLOAT_JUNK_AFTER_POINT ⇒ whole · chr "." · no_digit) ∷
     -- #[regex("(?:0|[1-9][0-9]*(?:_[0-9]+)*)(?:\\.[0-9]+(?:_[0-9]+)*)?[eE][^+\\-0-9]")]
-    (ERROR-FLOAT-JUNK-AFTER-EXPONENT ⇒ whole · fraction · ee · one (but ("+" – "+" ∷ "-" – "-" ∷ "0" – "9" ∷ []))) ∷
+    (ERROR_FLOAT_JUNK_AFTER_EXPONENT ⇒ whole · fraction · ee · one (but ("+" – "+" ∷ "-" – "-" ∷ "0" – "9" ∷ []))) ∷
     -- #[regex("(?:0|[1-9][0-9]*(?:_[0-9]+)*)(?:\\.[0-9]+(?:_[0-9]+)*)?[eE][+-][^0-9]")]
-    (ERROR-FLOAT-JUNK-AFTER-EXPONENT-SIGN ⇒ whole · fraction · ee · sign · noDigit) ∷
+    (ERROR_FLOAT_JUNK_AFTER_EXPONENT_SIGN ⇒ whole · fraction · ee · sign · no_digit) ∷
     -- #[regex("\"(?s:[^\"\\\\]|\\\\.)*\"")]
-    (STRING-DOUBLE ⇒ chr "\"" · quoted "\"" · chr "\"") ∷
+    (STRING_DOUBLE ⇒ chr "\"" · quoted "\"" · chr "\"") ∷
     -- #[regex("\"(?s:[^\"\\\\]|\\\\.)*")]
-    (ERROR-STRING-DOUBLE-UNTERMINATED ⇒ chr "\"" · quoted "\"") ∷
+    (ERROR_STRING_DOUBLE_UNTERMINATED ⇒ chr "\"" · quoted "\"") ∷
     -- #[regex("'(?s:[^'\\\\]|\\\\.)*'")]
-    (STRING-SINGLE ⇒ chr "'" · quoted "'" · chr "'") ∷
+    (STRING_SINGLE ⇒ chr "'" · quoted "'" · chr "'") ∷
     -- #[regex("'(?s:[^'\\\\]|\\\\.)*")]
-    (ERROR-STRING-SINGLE-UNTERMINATED ⇒ chr "'" · quoted "'") ∷
+    (ERROR_STRING_SINGLE_UNTERMINATED ⇒ chr "'" · quoted "'") ∷
     -- #[regex("@\"(?:[^\"]|\"\")*\"")]
-    (STRING-DOUBLE-VERBATIM ⇒ chr "@" · chr "\"" · verbatim "\"" · chr "\"") ∷
+    (STRING_DOUBLE_VERBATIM ⇒ chr "@" · chr "\"" · verbatim "\"" · chr "\"") ∷
     -- #[regex("@\"(?:[^\"]|\"\")*")]
-    (ERROR-STRING-DOUBLE-VERBATIM-UNTERMINATED ⇒ chr "@" · chr "\"" · verbatim "\"") ∷
+    (ERROR_STRING_DOUBLE_VERBATIM_UNTERMINATED ⇒ chr "@" · chr "\"" · verbatim "\"") ∷
     -- #[regex("@'(?:[^']|'')*'")]
-    (STRING-SINGLE-VERBATIM ⇒ chr "@" · chr "'" · verbatim "'" · chr "'") ∷
+    (STRING_SINGLE_VERBATIM ⇒ chr "@" · chr "'" · verbatim "'" · chr "'") ∷
     -- #[regex("@'(?:[^']|'')*")]
-    (ERROR-STRING-SINGLE-VERBATIM-UNTERMINATED ⇒ chr "@" · chr "'" · verbatim "'") ∷
+    (ERROR_STRING_SINGLE_VERBATIM_UNTERMINATED ⇒ chr "@" · chr "'" · verbatim "'") ∷
     -- #[regex("@[^\"'\\s]\\S+")]
-    (ERROR-STRING-VERBATIM-MISSING-QUOTES ⇒ chr "@" · one (but ("\"" – "\"" ∷ "'" – "'" ∷ space)) · some (one (but space))) ∷
+    (ERROR_STRING_VERBATIM_MISSING_QUOTES ⇒ chr "@" · one (but ("\"" – "\"" ∷ "'" – "'" ∷ space)) · some (one (but space))) ∷
     -- #[regex("\\|\\|\\|")]
-    (STRING-BLOCK ⇒ token "|||") ∷
+    (STRING_BLOCK ⇒ token "|||") ∷
     -- #[regex("[_a-zA-Z][_a-zA-Z0-9]*")]
     (IDENT ⇒ one alpha · star (one alnum)) ∷
     -- #[regex("[ \\t\\n\\r]+")]
     (WHITESPACE ⇒ some (one (only (" " – " " ∷ "\t" – "\t" ∷ "\n" – "\n" ∷ "\r" – "\r" ∷ [])))) ∷
     -- #[regex("//[^\\r\\n]*?(\\r\\n|\\n)?")]
-    (SINGLE-LINE-SLASH-COMMENT ⇒ token "//" · line · newLine) ∷
+    (SINGLE_LINE_SLASH_COMMENT ⇒ token "//" · line · new_line) ∷
     -- #[regex("#[^\\r\\n]*?(\\r\\n|\\n)?")]
-    (SINGLE-LINE-HASH-COMMENT ⇒ token "#" · line · newLine) ∷
+    (SINGLE_LINE_HASH_COMMENT ⇒ token "#" · line · new_line) ∷
     -- #[regex("/\\*([^*]|\\*+[^*/])*\\*+/")]
-    (MULTI-LINE-COMMENT ⇒ token "/*" · star (noStar ∣ some (chr "*") · noStarSlash) · some (chr "*") · chr "/") ∷
+    (MULTI_LINE_COMMENT ⇒ token "/*" · star (no_star ∣ some (chr "*") · no_star_slash) · some (chr "*") · chr "/") ∷
     -- #[regex("/\\*/")]
-    (ERROR-COMMENT-TOO-SHORT ⇒ token "/*/") ∷
+    (ERROR_COMMENT_TOO_SHORT ⇒ token "/*/") ∷
     -- #[regex("/\\*([^*/]|\\*[^/])+")]
-    (ERROR-COMMENT-UNTERMINATED ⇒ token "/*" · some (noStarSlash ∣ chr "*" · noSlash)) ∷
-    (TAILSTRICT-KW ⇒ token "tailstrict") ∷
-    (LOCAL-KW ⇒ token "local") ∷
-    (IMPORTSTR-KW ⇒ token "importstr") ∷
-    (IMPORTBIN-KW ⇒ token "importbin") ∷
-    (IMPORT-KW ⇒ token "import") ∷
-    (IF-KW ⇒ token "if") ∷
-    (THEN-KW ⇒ token "then") ∷
-    (ELSE-KW ⇒ token "else") ∷
-    (FUNCTION-KW ⇒ token "function") ∷
-    (ERROR-KW ⇒ token "error") ∷
-    (IN-KW ⇒ token "in") ∷
-    (NULL-KW ⇒ token "null") ∷
-    (TRUE-KW ⇒ token "true") ∷
-    (FALSE-KW ⇒ token "false") ∷
-    (SELF-KW ⇒ token "self") ∷
-    (SUPER-KW ⇒ token "super") ∷
-    (FOR-KW ⇒ token "for") ∷
-    (ASSERT-KW ⇒ token "assert") ∷
+    (ERROR_COMMENT_UNTERMINATED ⇒ token "/*" · some (no_star_slash ∣ chr "*" · no_slash)) ∷
+    (TAILSTRICT_KW ⇒ token "tailstrict") ∷
+    (LOCAL_KW ⇒ token "local") ∷
+    (IMPORTSTR_KW ⇒ token "importstr") ∷
+    (IMPORTBIN_KW ⇒ token "importbin") ∷
+    (IMPORT_KW ⇒ token "import") ∷
+    (IF_KW ⇒ token "if") ∷
+    (THEN_KW ⇒ token "then") ∷
+    (ELSE_KW ⇒ token "else") ∷
+    (FUNCTION_KW ⇒ token "function") ∷
+    (ERROR_KW ⇒ token "error") ∷
+    (IN_KW ⇒ token "in") ∷
+    (NULL_KW ⇒ token "null") ∷
+    (TRUE_KW ⇒ token "true") ∷
+    (FALSE_KW ⇒ token "false") ∷
+    (SELF_KW ⇒ token "self") ∷
+    (SUPER_KW ⇒ token "super") ∷
+    (FOR_KW ⇒ token "for") ∷
+    (ASSERT_KW ⇒ token "assert") ∷
     []

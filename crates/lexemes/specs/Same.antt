@@ -21,13 +21,13 @@ module _ (s t : List ℕ) where
   pub record SameLexemes : Type 0 where
     pub left : List Lexeme
     pub right : List Lexeme
-    pub kept-left : Kept s 0 left
-    pub kept-right : Kept t 0 right
+    pub kept_left : Kept s 0 left
+    pub kept_right : Kept t 0 right
     pub same : SameList left right
 
 -- R31, R46. The places of a source by its kept lexemes, numbered from 0, where the last lexeme before them ended at p: each one's range, and behind them all
 -- the end, which is the last one's end twice ("0, 0 if none").
 pub data Place : ℕ → List Lexeme → ℕ → ℕ → ℕ → Type 0 where
   here : {p : ℕ} {l : Lexeme} {ls : List Lexeme} → Place p (l ∷ ls) 0 l.start l.end
-  at-end : {p : ℕ} → Place p [] 0 p p
+  at_end : {p : ℕ} → Place p [] 0 p p
   later : {p i a e : ℕ} {l : Lexeme} {ls : List Lexeme} → Place l.end ls i a e → Place p (l ∷ ls) (suc i) a e

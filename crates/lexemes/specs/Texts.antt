@@ -2,7 +2,7 @@
 -- Assumes nothing.
 use Rattle.std.specs.Prelude.{◌≡◌, Bool, true, false, cond, List, [], ◌∷◌, ◌++◌, ◌⊎◌, ℕ, ◌-◌, T, eqb, take, drop}
 use Prim.Native.Char.{code}
-use Rattle.regex.specs.Regex.{only, inClass, within}
+use Rattle.regex.specs.Regex.{only, in_class, within}
 use Rattle.lexemes.specs.declared.Lexeme.{Lexeme}
 use Rattle.lexemes.specs.Letters.{ascii}
 use Rattle.lexemes.specs.Rules.{◌–◌, alpha, alnum}
@@ -22,7 +22,7 @@ All f (b ∷ bs) = T (f b) × All f bs
 -- An identifier, `[_a-zA-Z][_a-zA-Z0-9]*`, that is no keyword.
 abbrev pub Identifier : List ℕ → Type 0
 Identifier [] = ⊥
-Identifier (b ∷ bs) = T (inClass alpha b) × All (inClass alnum) bs
+Identifier (b ∷ bs) = T (in_class alpha b) × All (in_class alnum) bs
 
 unfoldable pub keywords : List (List ℕ)
 keywords =
@@ -43,27 +43,27 @@ unfoldable pub plain : List ℕ → List ℕ
 plain [] = []
 plain (b ∷ bs) = cond (eqb b (code "_")) (plain bs) (b ∷ plain bs)
 
-abbrev pub isDigit : ℕ → Bool
-isDigit b = within ("0" – "9" ∷ []) b
+abbrev pub is_digit : ℕ → Bool
+is_digit b = within ("0" – "9" ∷ []) b
 
 pub data Whole : List ℕ → Type 0 where
   zero : Whole (code "0" ∷ [])
-  digits : {b : ℕ} {bs : List ℕ} → T (within ("1" – "9" ∷ []) b) → All isDigit bs → Whole (b ∷ bs)
+  digits : {b : ℕ} {bs : List ℕ} → T (within ("1" – "9" ∷ []) b) → All is_digit bs → Whole (b ∷ bs)
 
 pub data Fraction : List ℕ → Type 0 where
   none : Fraction []
-  point : {b : ℕ} {bs : List ℕ} → T (isDigit b) → All isDigit bs → Fraction (code "." ∷ b ∷ bs)
+  point : {b : ℕ} {bs : List ℕ} → T (is_digit b) → All is_digit bs → Fraction (code "." ∷ b ∷ bs)
 
-abbrev pub isE : ℕ → Bool
-isE b = within ("e" – "e" ∷ "E" – "E" ∷ []) b
+abbrev pub is_e : ℕ → Bool
+is_e b = within ("e" – "e" ∷ "E" – "E" ∷ []) b
 
-abbrev pub isSign : ℕ → Bool
-isSign b = within ("+" – "+" ∷ "-" – "-" ∷ []) b
+abbrev pub is_sign : ℕ → Bool
+is_sign b = within ("+" – "+" ∷ "-" – "-" ∷ []) b
 
 pub data Exponent : List ℕ → Type 0 where
   none : Exponent []
-  unsigned : {e b : ℕ} {bs : List ℕ} → T (isE e) → T (isDigit b) → All isDigit bs → Exponent (e ∷ b ∷ bs)
-  signed : {e s b : ℕ} {bs : List ℕ} → T (isE e) → T (isSign s) → T (isDigit b) → All isDigit bs → Exponent (e ∷ s ∷ b ∷ bs)
+  unsigned : {e b : ℕ} {bs : List ℕ} → T (is_e e) → T (is_digit b) → All is_digit bs → Exponent (e ∷ b ∷ bs)
+  signed : {e s b : ℕ} {bs : List ℕ} → T (is_e e) → T (is_sign s) → T (is_digit b) → All is_digit bs → Exponent (e ∷ s ∷ b ∷ bs)
 
 pub data Numeral : List ℕ → Type 0 where
   numeral : {w f e : List ℕ} → Whole w → Fraction f → Exponent e → Numeral (w ++ (f ++ e))

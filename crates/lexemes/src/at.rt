@@ -1,6 +1,6 @@
 // What begins with `@`: verbatim strings, and the junk rule for `@` with no quote.
 ghost use Rattle.std.specs.Prelude.{◌≡◌, ℕ, ◌+◌, ◌≤◌, ◌<◌, length, get_or};
-ghost use Rattle.regex.specs.Regex.{inClass};
+ghost use Rattle.regex.specs.Regex.{in_class};
 ghost use Rattle.lexemes.specs.Lexeme.{Ruled};
 ghost use Rattle.lexemes.specs.Scan.{RawQuote, black, BlackEnd};
 
@@ -36,7 +36,7 @@ fn verbatim_at(src: &[u8], at: usize, q: u8, good: u8) -> Matched
 // Whether a letter is a character that is no white space, `\S`.
 fn is_black(l: u8) -> bool
     requires { l < 131 }
-    ensures { result ≡ inClass black l }
+    ensures { result ≡ in_class black l }
 {
     if l < 9 {
         return true;

@@ -1,8 +1,8 @@
 // Bytes and characters of a source: the class of a byte, runs of bytes of some classes, the character at a place.
 ghost use Rattle.std.specs.Prelude.{◌≡◌, cond, ℕ, ◌+◌, ◌≤◌, ◌<◌, min, length, get_or};
 ghost use Rattle.regex.specs.Regex.{within};
-ghost use Rattle.lexemes.specs.Letters.{WHITE, OTHER, letter, next, codePoint, whiteSpace};
-ghost use Rattle.lexemes.specs.Scan.{class_of, classTable, Ran, InWord, Says};
+ghost use Rattle.lexemes.specs.Letters.{WHITE, OTHER, letter, next, code_point, white_space};
+ghost use Rattle.lexemes.specs.Scan.{class_of, class_table, Ran, InWord, Says};
 
 // What a byte begins, or goes on with: the classes by name.
 #[derive(Drop)]
@@ -55,7 +55,7 @@ pub const CLASS: [u8; 256] = *b"\
 
 // The table is handed down, since a constant is set up anew wherever it is named.
 pub fn class_of(classes: &[u8; 256], b: u8) -> u8
-    requires { classes.now ≡ classTable }
+    requires { classes.now ≡ class_table }
     ensures { result ≡ class_of b }
 {
     classes[b as usize] - b'0'
@@ -70,7 +70,7 @@ pub fn peek(src: &[u8], i: usize) -> u8
 
 // The end of the run of bytes from `from` on whose classes are lo to hi.
 pub fn run(src: &[u8], from: usize, lo: u8, hi: u8, classes: &[u8; 256]) -> usize
-    requires { (from ≤ length src.now) × (1 ≤ lo) × (classes.now ≡ classTable) }
+    requires { (from ≤ length src.now) × (1 ≤ lo) × (classes.now ≡ class_table) }
     ensures { Ran src.now from lo hi result }
 {
     let mut i = from;
@@ -217,7 +217,7 @@ pub fn after(src: &[u8], i: usize) -> usize
 
 // The code point whose bytes are a, b, c, d, as many as a says.
 fn code_point(a: u8, b: u8, c: u8, d: u8) -> u32
-    ensures { result ≡ codePoint a b c d }
+    ensures { result ≡ code_point a b c d }
 {
     if a < 0x80 {
         return a as u32;
@@ -235,7 +235,7 @@ fn code_point(a: u8, b: u8, c: u8, d: u8) -> u32
 
 // The letter of a code point beyond ASCII: white space or not.
 fn letter_of(p: u32) -> u8
-    ensures { result ≡ cond (within whiteSpace p) WHITE OTHER }
+    ensures { result ≡ cond (within white_space p) WHITE OTHER }
 {
     match p {
         0x85..=0x85

@@ -1,7 +1,7 @@
 // Numbers, and the three junk rules that take one more character.
 ghost use Rattle.std.specs.Prelude.{◌≡◌, ◌⊎◌, ℕ, ◌+◌, ◌≤◌, ◌<◌, length, get_or};
 ghost use Rattle.lexemes.specs.Lexeme.{Ruled};
-ghost use Rattle.lexemes.specs.Scan.{Says, Ran, IsDigit, Digits, Tried, Ended, ExponentAt, FractionAt, afterSign, afterE};
+ghost use Rattle.lexemes.specs.Scan.{Says, Ran, IsDigit, Digits, Tried, Ended, ExponentAt, FractionAt, after_sign, after_e};
 
 use super::kinds::Kind;
 use super::{Matched, bytes};
@@ -56,7 +56,7 @@ fn digits_from(src: &[u8], from: usize) -> usize
 // A number from past its exponent's sign on; kind 0 where nothing goes on there.
 fn after_sign(src: &[u8], f: usize) -> Matched
     requires { f ≤ length src.now }
-    ensures { Tried src.now afterSign f result.kind result.end }
+    ensures { Tried src.now after_sign f result.kind result.end }
 {
     if is_digit(src, f) {
         return Matched {
@@ -76,7 +76,7 @@ fn after_sign(src: &[u8], f: usize) -> Matched
 // A number from past its `e` on; kind 0 where nothing goes on there.
 fn after_e(src: &[u8], f: usize) -> Matched
     requires { f ≤ length src.now }
-    ensures { Tried src.now afterE f result.kind result.end }
+    ensures { Tried src.now after_e f result.kind result.end }
 {
     if is_digit(src, f) {
         return Matched {

@@ -1,7 +1,7 @@
 // The lexeme at a place of the source: the scanner for the class of its first byte, and blocks.
 ghost use Rattle.std.specs.Prelude.{◌≡◌, ℕ, ◌<◌, length, get_or};
-ghost use Rattle.lexemes.specs.Lexeme.{Ruled, LexemeAt, lexeme, blockKind, blockEnd};
-ghost use Rattle.lexemes.specs.Scan.{class_of, classTable};
+ghost use Rattle.lexemes.specs.Lexeme.{Ruled, LexemeAt, lexeme, block_kind, block_end};
+ghost use Rattle.lexemes.specs.Scan.{class_of, class_table};
 
 use super::bytes::Class;
 use super::kinds::Kind;
@@ -87,7 +87,7 @@ pub fn matched_at(src: &[u8], at: usize, class: u8) -> Matched
 
 // A block's lexeme, which began at `at`: its kind by its fault.
 fn of_block(at: usize, b: Block) -> Lexeme
-    ensures { result ≡ lexeme (blockKind b) at (blockEnd b) }
+    ensures { result ≡ lexeme (block_kind b) at (block_end b) }
 {
     match b {
         Block::Good(end) => Lexeme {
@@ -137,7 +137,7 @@ pub fn lexeme_of(src: &[u8], at: usize, m: Matched) -> Lexeme
 
 // The lexeme at a place of the source, by the table of classes; past its end, EOF.
 pub fn lexeme_by(src: &[u8], at: usize, classes: &[u8; 256]) -> Lexeme
-    requires { classes.now ≡ classTable }
+    requires { classes.now ≡ class_table }
     ensures { LexemeAt src.now at result }
 {
     if src.len() <= at {

@@ -15,29 +15,29 @@ use Rattle.mass.specs.declared.Answer.TheVariants.{Listed, ListShort, Short}
 use Rattle.mass.specs.Mass.{Listing, numbers, Kept, Answers, MassDepth}
 use Rattle.mass.specs.Inner.{Given, SomeGiven, Fills}
 
-pub zeros-length : {list : List ℕ} (n : ℕ) → list ≡ replicate n 0 → length list ≡ n
-zeros-length n e = ap length e ∙ length-replicate {A = ℕ} n 0
+pub zeros_length : {list : List ℕ} (n : ℕ) → list ≡ replicate n 0 → length list ≡ n
+zeros_length n e = ap length e ∙ length-replicate {A = ℕ} n 0
 
-pub zeros-again : {list : List ℕ} (n : ℕ) → list ≡ replicate n 0 → list ≡ replicate (length list) 0
-zeros-again n e = e ∙ ap (λ (i : ℕ). replicate {A = ℕ} i 0) (sym (zeros-length n e))
+pub zeros_again : {list : List ℕ} (n : ℕ) → list ≡ replicate n 0 → list ≡ replicate (length list) 0
+zeros_again n e = e ∙ ap (λ (i : ℕ). replicate {A = ℕ} i 0) (sym (zeros_length n e))
 
-pub lengths-as : {bytes array list : List ℕ} {room m size k : ℕ} {a : Answer} → m ≡ room → k ≡ size → MassDepth bytes m k a array list → MassDepth bytes room size a array list
-lengths-as {bytes} {array} {list} {room} {m} {size} {k} {a} e f x =
+pub lengths_as : {bytes array list : List ℕ} {room m size k : ℕ} {a : Answer} → m ≡ room → k ≡ size → MassDepth bytes m k a array list → MassDepth bytes room size a array list
+lengths_as {bytes} {array} {list} {room} {m} {size} {k} {a} e f x =
     subst (λ (i : ℕ). MassDepth bytes i size a array list) e (subst (λ (i : ℕ). MassDepth bytes m i a array list) f x)
 
 -- ── A tree ────────────────────────────────────────────────────────────────────────────────────────
 
 module _ {bytes array : List ℕ} {n size count : ℕ} {list : List ℕ} (room : ℕ) (h : needed bytes ≤ room) (o : SomeGiven bytes array n) (f : Fills bytes array n size count list) where
-  pub answers-short : {after : List ℕ} → length list / 4 < count → after ≡ replicate (length list) 0 → Answers bytes room size (ListShort count) after
-  answers-short {after} l e =
+  pub answers_short : {after : List ℕ} → length list / 4 < count → after ≡ replicate (length list) 0 → Answers bytes room size (ListShort count) after
+  answers_short {after} l e =
       let x = f.each o.t o.given in
       let s : size < 4 * length x.ls = omega (arith, x.counted, x.long) in
       subst (λ (k : ℕ). Answers bytes room size (ListShort k) after) (sym x.counted)
       (subst (λ (w : List ℕ). Answers bytes room size (ListShort (length x.ls)) w) (sym (e ∙ ap (λ (i : ℕ). replicate {A = ℕ} i 0) x.long))
-      (Answers.list-short h o.given.accepted x.planned s))
+      (Answers.list_short h o.given.accepted x.planned s))
 
-  pub answers-listed : count ≤ length list / 4 → Answers bytes room size (Listed count) list
-  answers-listed l =
+  pub answers_listed : count ≤ length list / 4 → Answers bytes room size (Listed count) list
+  answers_listed l =
       let x = f.each o.t o.given in
       let s : 4 * length x.ls ≤ size = omega (arith, x.counted, x.long) in
       subst (λ (k : ℕ). Answers bytes room size (Listed k) list) (sym x.counted)
@@ -45,30 +45,30 @@ module _ {bytes array : List ℕ} {n size count : ℕ} {list : List ℕ} (room :
 
 -- ── What `back` says ──────────────────────────────────────────────────────────────────────────────
 
-refused-number : {bytes : List ℕ} {a : images.Answer} → Refused bytes a → (12 < (in-numbers.numbers a).number) × ((in-numbers.numbers a).number < 17)
+refused_number : {bytes : List ℕ} {a : images.Answer} → Refused bytes a → (12 < (in-numbers.numbers a).number) × ((in-numbers.numbers a).number < 17)
 unfolding in-numbers.numbers
-refused-number (Refused.unknown b e) = (omega arith, omega arith)
-refused-number (Refused.malformed b k n) = (omega arith, omega arith)
-refused-number (Refused.missing b x l) = (omega arith, omega arith)
-refused-number (Refused.underived b x l n) = (omega arith, omega arith)
-refused-number (Refused.left_over b n) = (omega arith, omega arith)
-refused-number (Refused.lone-root b n) = (omega arith, omega arith)
+refused_number (Refused.unknown b e) = (omega arith, omega arith)
+refused_number (Refused.malformed b k n) = (omega arith, omega arith)
+refused_number (Refused.missing b x l) = (omega arith, omega arith)
+refused_number (Refused.underived b x l n) = (omega arith, omega arith)
+refused_number (Refused.left_over b n) = (omega arith, omega arith)
+refused_number (Refused.lone_root b n) = (omega arith, omega arith)
 
 pub reads_as : {bytes array : List ℕ} {room : ℕ} {a b : images.Answer} → a ≡ b → ReadsBack bytes room a array → ReadsBack bytes room b array
 reads_as {bytes} {array} {room} e x = subst (λ (c : images.Answer). ReadsBack bytes room c array) e x
 
-pub tree-given : {bytes array : List ℕ} {room n : ℕ} → ReadsBack bytes room (Tree n) array → (needed bytes ≤ room) × SomeGiven bytes array n
+pub tree_given : {bytes array : List ℕ} {room n : ℕ} → ReadsBack bytes room (Tree n) array → (needed bytes ≤ room) × SomeGiven bytes array n
 unfolding in-numbers.numbers
-tree-given (ReadsBack.accepted {t} h a) = (h, record { t = t; given = record { accepted = a; rest = _; linked = refl; many = refl } })
-tree-given (ReadsBack.refused h r) = absurd (omega (arith, refused-number r))
+tree_given (ReadsBack.accepted {t} h a) = (h, record { t = t; given = record { accepted = a; rest = _; linked = refl; many = refl } })
+tree_given (ReadsBack.refused h r) = absurd (omega (arith, refused_number r))
 
 -- A refusal of Item 1, as it is.
 pub kept : {bytes array list : List ℕ} {room size : ℕ} {b : images.Answer} {a : Answer} → ReadsBack bytes room b array → Kept b a → list ≡ replicate size 0 → MassDepth bytes room size a array list
 kept {bytes} {room = room} {size} {a = a} (ReadsBack.refused h r) k e =
     record { answers = subst (λ (l : List ℕ). Answers bytes room size a l) (sym e) (Answers.refused h r k); zeros = refl }
 
-pub kept-short : {bytes array list : List ℕ} {room size n : ℕ} → ReadsBack bytes room (back.Short n) array → list ≡ replicate size 0 → MassDepth bytes room size (Short n) array list
+pub kept_short : {bytes array list : List ℕ} {room size n : ℕ} → ReadsBack bytes room (back.Short n) array → list ≡ replicate size 0 → MassDepth bytes room size (Short n) array list
 unfolding in-numbers.numbers
-kept-short {bytes} {room = room} {size} (ReadsBack.short h) e =
+kept_short {bytes} {room = room} {size} (ReadsBack.short h) e =
     record { answers = subst (λ (l : List ℕ). Answers bytes room size (Short (needed bytes)) l) (sym e) (Answers.short h); zeros = refl }
-kept-short (ReadsBack.refused h r) e = absurd (omega (arith, refused-number r))
+kept_short (ReadsBack.refused h r) e = absurd (omega (arith, refused_number r))

@@ -17,9 +17,9 @@ use Rattle.mass.specs.declared.Answer.{Answer}
 use Rattle.mass.specs.declared.Answer.TheVariants.{Listed, Unknown, Malformed, Children, Underived, ListShort, Short}
 use Rattle.mass.specs.Numbers as in-numbers
 use Rattle.mass.specs.Mass.{Listing, offset, numbers, row, Due, In, Planned, Answers, MassDepth}
-use Rattle.images.proofs.Sole.{one-tree, accepted-not-refused}
-use Rattle.mass.proofs.Sole.{answers-once}
-use Rattle.mass.proofs.RowLaws.{row_in, in_row, rows-ascend}
+use Rattle.images.proofs.Sole.{one_tree, accepted_not_refused}
+use Rattle.mass.proofs.Sole.{answers_once}
+use Rattle.mass.proofs.RowLaws.{row_in, in_row, rows_ascend}
 use contract.Lifetimes.{Lfts}
 use borrow.Fn.Kinds.{Dens}
 use Rattle.mass.proofs.list.Kinds.{ps}
@@ -40,7 +40,7 @@ asks_nothing κs a = tt
 -- No second answer, array or list meets the contract.
 pub no_second : {bytes : List ℕ} {room size : ℕ} {a b : Answer} {array array' list list' : List ℕ} → MassDepth bytes room size a array list → MassDepth bytes room size b array' list'
     → (a ≡ b) × (array ≡ array') × (list ≡ list')
-no_second x y = let e = answers-once x.answers y.answers in (e.0, x.zeros ∙ sym y.zeros, e.1)
+no_second x y = let e = answers_once x.answers y.answers in (e.0, x.zeros ∙ sym y.zeros, e.1)
 
 -- ── The list ──────────────────────────────────────────────────────────────────────────────────────
 
@@ -51,36 +51,36 @@ pub record Holding (size n : ℕ) (t : Trees) (list : List ℕ) : Type 0 where
   pub counted : n ≡ length ls
   pub held : list ≡ numbers ls ++ replicate (size - 4 * n) 0
 
-holding-of : {bytes list : List ℕ} {room size n : ℕ} {t : Trees} → Answers bytes room size (Listed n) list → Accepted bytes t → Holding size n t list
-holding-of (Answers.refused h r k) a = absurd (accepted-not-refused a r)
-holding-of (Answers.listed {ls = ls} h y p s) a = record { ls = ls; planned = subst (λ (u : Trees). Planned u ls) (one-tree y a) p; counted = refl; held = refl }
+holding_of : {bytes list : List ℕ} {room size n : ℕ} {t : Trees} → Answers bytes room size (Listed n) list → Accepted bytes t → Holding size n t list
+holding_of (Answers.refused h r k) a = absurd (accepted_not_refused a r)
+holding_of (Answers.listed {ls = ls} h y p s) a = record { ls = ls; planned = subst (λ (u : Trees). Planned u ls) (one_tree y a) p; counted = refl; held = refl }
 
 module _ {bytes : List ℕ} {room size n : ℕ} {array list : List ℕ} {t : Trees} (x : MassDepth bytes room size (Listed n) array list) (accepted : Accepted bytes t) where
   pub holding : Holding size n t list
-  holding = holding-of x.answers accepted
+  holding = holding_of x.answers accepted
 
-  row-held : (i : ℕ) → row (numbers holding.ls ++ replicate (size - 4 * n) 0) i ≡ row list i
-  row-held i = ap (λ (l : List ℕ). row l i) (sym holding.held)
+  row_held : (i : ℕ) → row (numbers holding.ls ++ replicate (size - 4 * n) 0) i ≡ row list i
+  row_held i = ap (λ (l : List ℕ). row l i) (sym holding.held)
 
   -- COMPLETE: every object that is to be listed has a row.
   pub complete : (l : Listing) → Due t l → (i : ℕ) × (i < n) × (row list i ≡ l)
   complete l d =
       let h = holding in
       let r = in_row (replicate (size - 4 * n) 0) h.ls (h.planned.complete l d) in
-      (r.0, omega (arith, r.1, h.counted), sym (row-held r.0) ∙ r.2)
+      (r.0, omega (arith, r.1, h.counted), sym (row_held r.0) ∙ r.2)
 
   -- SOUND: no other has one.
   pub sound : (i : ℕ) → i < n → Due t (row list i)
   sound i g =
       let h = holding in
-      h.planned.sound (row list i) (subst (λ (l : Listing). In l h.ls) (row-held i) (row_in (replicate (size - 4 * n) 0) h.ls i (omega (arith, h.counted))))
+      h.planned.sound (row list i) (subst (λ (l : Listing). In l h.ls) (row_held i) (row_in (replicate (size - 4 * n) 0) h.ls i (omega (arith, h.counted))))
 
   -- IN ORDER: rows stand in the order of the image.
   pub in_order : (i j : ℕ) → i < j → j < n → offset (row list i) < offset (row list j)
   in_order i j f g =
       let h = holding in
-      let o = rows-ascend (replicate (size - 4 * n) 0) h.ls h.planned.in_order i j f (omega (arith, h.counted)) in
-      subst (λ (l : Listing). offset l < offset (row list j)) (row-held i) (subst (λ (l : Listing). offset (row (numbers h.ls ++ replicate (size - 4 * n) 0) i) < offset l) (row-held j) o)
+      let o = rows_ascend (replicate (size - 4 * n) 0) h.ls h.planned.in_order i j f (omega (arith, h.counted)) in
+      subst (λ (l : Listing). offset l < offset (row list j)) (row_held i) (subst (λ (l : Listing). offset (row (numbers h.ls ++ replicate (size - 4 * n) 0) i) < offset l) (row_held j) o)
 
   -- ONCE: no object has two rows.
   pub once : (i j : ℕ) → i < n → j < n → offset (row list i) ≡ offset (row list j) → i ≡ j
@@ -90,20 +90,20 @@ module _ {bytes : List ℕ} {room size n : ℕ} {array list : List ℕ} {t : Tre
       omega (arith, a, b)
 
 -- After every other answer the list is all zero.
-pub zero-after-refusal : {bytes array list : List ℕ} {room size : ℕ} {a : Answer} → MassDepth bytes room size a array list → ((n : ℕ) → a ≡ Listed n → ⊥) → list ≡ replicate size 0
-zero-after-refusal x n = by x.answers n
+pub zero_after_refusal : {bytes array list : List ℕ} {room size : ℕ} {a : Answer} → MassDepth bytes room size a array list → ((n : ℕ) → a ≡ Listed n → ⊥) → list ≡ replicate size 0
+zero_after_refusal x n = by x.answers n
   where
     by : {bytes list : List ℕ} {room size : ℕ} {a : Answer} → Answers bytes room size a list → ((n : ℕ) → a ≡ Listed n → ⊥) → list ≡ replicate size 0
     by (Answers.short h) n = refl
     by (Answers.refused h r k) n = refl
-    by (Answers.list-short h y p s) n = refl
+    by (Answers.list_short h y p s) n = refl
     by (Answers.listed {ls = ls} h y p s) n = absurd (n (length ls) refl)
 
 -- ── An answer in 02's numbers ─────────────────────────────────────────────────────────────────────
 
 -- The case that has these numbers.
-case-of : Numbers → Answer
-case-of n = by (eqb n.number)
+case_of : Numbers → Answer
+case_of n = by (eqb n.number)
   where
     by : (ℕ → Bool) → Answer
     by is =
@@ -115,16 +115,16 @@ case-of n = by (eqb n.number)
         (cond (is 21) (ListShort n.count)
         (Short n.count))))))
 
-case-back : (a : Answer) → case-of (in-numbers.numbers a) ≡ a
-unfolding in-numbers.numbers case-of
-case-back (Listed n) = refl
-case-back (Unknown at) = refl
-case-back (Malformed at) = refl
-case-back (Children at) = refl
-case-back (Underived at) = refl
-case-back (ListShort n) = refl
-case-back (Short n) = refl
+case_back : (a : Answer) → case_of (in-numbers.numbers a) ≡ a
+unfolding in-numbers.numbers case_of
+case_back (Listed n) = refl
+case_back (Unknown at) = refl
+case_back (Malformed at) = refl
+case_back (Children at) = refl
+case_back (Underived at) = refl
+case_back (ListShort n) = refl
+case_back (Short n) = refl
 
 -- No two answers have the same numbers.
 pub same_case : (a b : Answer) → in-numbers.numbers a ≡ in-numbers.numbers b → a ≡ b
-same_case a b e = sym (case-back a) ∙ ap case-of e ∙ case-back b
+same_case a b e = sym (case_back a) ∙ ap case_of e ∙ case_back b

@@ -7,16 +7,16 @@ use native.Mathlib.Omega.{arith}
 use lib.ListN.{length, get_or, replicate, length-append, length-replicate}
 use Rattle.grammar.specs.Trees.{Field, Trees, tree}
 use Rattle.grammar.specs.Image.{image}
-use Rattle.grammar.specs.Answer.{prefix-power}
-use Rattle.grammar.proofs.Derived.{whole-exactly}
-use Rattle.images.specs.Images.{dated-trees, records, links}
+use Rattle.grammar.specs.Answer.{prefix_power}
+use Rattle.grammar.proofs.Derived.{whole_exactly}
+use Rattle.images.specs.Images.{dated_trees, records, links}
 use Rattle.mass.specs.Mass.{Lists, Braces, Listing, listing, numbers, Planned}
 use Rattle.mass.specs.declared.members.Found.{Found}
 use Rattle.mass.specs.declared.members.Found.TheVariants.{Nothing, Listed}
 use Rattle.mass.specs.Inner.{Standing, Root, SomeRoot, Shows, ShownOf, Stores, Given, SomeGiven, Filled, Fills}
 use Rattle.mass.proofs.StandLaws.{seen}
 use Rattle.mass.proofs.ListLaws.{filled_next}
-use Rattle.mass.proofs.PlaceLaws.{Place, place, places, places-length, Walk, walk, Ahead, ahead, next-record, Listings, listings-append, planned}
+use Rattle.mass.proofs.PlaceLaws.{Place, place, places, places-length, Walk, walk, Ahead, ahead, next_record, Listings, listings_append, planned}
 
 -- Of the tree t: the records before i are done, and `todo` are the others.
 pub record Doing (bytes array : List ℕ) (t : Trees) (size count i : ℕ) (list : List ℕ) : Type 0 where
@@ -40,13 +40,13 @@ pub record Fillings (bytes array : List ℕ) (n size count i : ℕ) (list : List
 stands : {bytes array : List ℕ} {n : ℕ} {t : Trees} → Given bytes array n t → Standing bytes array 0 0 t
 stands {t = t} g =
     let a = g.accepted in
-    let x = (whole-exactly (prefix-power 7) (dated-trees a.age t)).1 (a.derived, a.spanned) in
+    let x = (whole_exactly (prefix_power 7) (dated_trees a.age t)).1 (a.derived, a.spanned) in
     record {
       age = a.age;
       row = record { sorts = x.0 ∷ []; obeys = x.2 };
       after = [];
       split = a.written ∙ sym (append-nil (image t));
-      links-after = g.rest;
+      links_after = g.rest;
       linked = g.linked;
     }
 
@@ -76,10 +76,10 @@ module _ {bytes array : List ℕ} {n size count i : ℕ} {list : List ℕ} where
   left_over {t} g d h = omega (arith, g.many, places-length 0 0 t, ap length d.split, length-append d.done d.todo, d.reached)
 
   pub next : (o : SomeGiven bytes array n) → Fillings bytes array n size count i list → i < n → SomeRoot bytes array i
-  next o f h = let d = f.each o.t o.given in root-of (next-record bytes array d.ahead_of (left_over o.given d h))
+  next o f h = let d = f.each o.t o.given in root_of (next_record bytes array d.ahead_of (left_over o.given d h))
     where
-      root-of : {ps : List Place} → Ahead bytes array i ps → SomeRoot bytes array i
-      root-of (ahead {at} {first} {tag} {fields} {cs} s q w) = record { tag = tag; fields = fields; children = cs; root = record { at = at; first = first; standing = s; number = q } }
+      root_of : {ps : List Place} → Ahead bytes array i ps → SomeRoot bytes array i
+      root_of (ahead {at} {first} {tag} {fields} {cs} s q w) = record { tag = tag; fields = fields; children = cs; root = record { at = at; first = first; standing = s; number = q } }
 
 -- One record more is done.
 record Step (bytes array : List ℕ) (i : ℕ) (todo : List Place) (ms : List Listing) : Type 0 where
@@ -90,15 +90,15 @@ record Step (bytes array : List ℕ) (i : ℕ) (todo : List Place) (ms : List Li
   pub shows : Listings (p ∷ []) ms
 
 module _ {bytes array : List ℕ} {i : ℕ} where
-  step-nothing : {todo : List Place} → Ahead bytes array i todo → ShownOf bytes array i Nothing → Step bytes array i todo []
-  step-nothing (ahead {at} {first} {tag} {fields} {cs} s q w) x =
+  step_nothing : {todo : List Place} → Ahead bytes array i todo → ShownOf bytes array i Nothing → Step bytes array i todo []
+  step_nothing (ahead {at} {first} {tag} {fields} {cs} s q w) x =
       record { p = _; ps = _; split = refl; ahead_of = w; shows = Listings.passed (nothing (x.each tag fields cs (record { at = at; first = first; standing = s; number = q }))) Listings.none }
     where
       nothing : {tag : ℕ} {cs : Trees} → Shows tag cs Nothing → (k a e : ℕ) → Braces tag → Lists cs k a e → ⊥
       nothing (Shows.nothing n) = n
 
-  step-listed : {todo : List Place} {k a e : ℕ} → Ahead bytes array i todo → ShownOf bytes array i (Listed k a e) → Step bytes array i todo (listing (get_or array (i * 2) 0) k a e ∷ [])
-  step-listed {todo} {k} {a} {e} (ahead {at} {first} {tag} {fields} {cs} s q w) x =
+  step_listed : {todo : List Place} {k a e : ℕ} → Ahead bytes array i todo → ShownOf bytes array i (Listed k a e) → Step bytes array i todo (listing (get_or array (i * 2) 0) k a e ∷ [])
+  step_listed {todo} {k} {a} {e} (ahead {at} {first} {tag} {fields} {cs} s q w) x =
       let r : Root bytes array i tag fields cs = record { at = at; first = first; standing = s; number = q } in
       record {
         p = place at first tag fields cs;
@@ -122,49 +122,49 @@ module _ {bytes array : List ℕ} {i : ℕ} where
         ahead_of = subst (λ (j : ℕ). Walk bytes array j s.ps) (sym e) s.ahead_of;
         reached = omega (arith, length-append d.done (s.p ∷ []), d.reached, e);
         ls = d.ls ++ ms;
-        listings = listings-append d.listings s.shows;
+        listings = listings_append d.listings s.shows;
         counted = c;
         filled = f;
       }
 
 module _ {bytes array : List ℕ} {n size count i : ℕ} {list : List ℕ} (f : Fillings bytes array n size count i list) (h : i < n) where
-  pub turn-nothing : ShownOf bytes array i Nothing → Fillings bytes array n size count (i + 1) list
-  turn-nothing x =
+  pub turn_nothing : ShownOf bytes array i Nothing → Fillings bytes array n size count (i + 1) list
+  turn_nothing x =
       record {
         long = f.long;
         below = omega (arith, f.below);
         each = λ t g.
             let d = f.each t g in
             let z = append-nil d.ls in
-            steps d (step-nothing (next-record bytes array d.ahead_of (left_over g d h)) x) refl (d.counted ∙ ap length (sym z))
+            steps d (step_nothing (next_record bytes array d.ahead_of (left_over g d h)) x) refl (d.counted ∙ ap length (sym z))
             (subst (λ (ls : List Listing). 4 * length ls ≤ size → list ≡ numbers ls ++ replicate (size - 4 * length ls) 0) (sym z) d.filled);
       }
 
-  pub turn-listed : (k a e : ℕ) (after : List ℕ) → ShownOf bytes array i (Listed k a e) → Stores list count (get_or array (i * 2) 0) k a e after
+  pub turn_listed : (k a e : ℕ) (after : List ℕ) → ShownOf bytes array i (Listed k a e) → Stores list count (get_or array (i * 2) 0) k a e after
       → Fillings bytes array n size (count + 1) (i + 1) after
-  turn-listed k a e after x s =
+  turn_listed k a e after x s =
       record {
         long = s.long ∙ f.long;
         below = omega (arith, f.below);
         each = λ t g.
             let d = f.each t g in
-            steps d (step-listed (next-record bytes array d.ahead_of (left_over g d h)) x) refl
+            steps d (step_listed (next_record bytes array d.ahead_of (left_over g d h)) x) refl
             (omega (arith, d.counted, length-append d.ls (listing (get_or array (i * 2) 0) k a e ∷ [])))
             (filled_next size count (get_or array (i * 2) 0) k a e d.ls list after d.counted f.long d.filled s);
       }
 
 -- ── The end ───────────────────────────────────────────────────────────────────────────────────────
 
-no-places : (ps : List Place) → length ps ≡ 0 → ps ≡ []
-no-places [] e = refl
-no-places (p ∷ ps) e = absurd (omega arith)
+no_places : (ps : List Place) → length ps ≡ 0 → ps ≡ []
+no_places [] e = refl
+no_places (p ∷ ps) e = absurd (omega arith)
 
 pub ends : {bytes array : List ℕ} {n size count i : ℕ} {list : List ℕ} → Fillings bytes array n size count i list → n ≤ i → Fills bytes array n size count list
 ends f h =
     record {
       each = λ t g.
           let d = f.each t g in
-          let z = no-places d.todo (omega (arith, g.many, places-length 0 0 t, ap length d.split, length-append d.done d.todo, d.reached)) in
+          let z = no_places d.todo (omega (arith, g.many, places-length 0 0 t, ap length d.split, length-append d.done d.todo, d.reached)) in
           let w = d.split ∙ ap (λ (l : List Place). d.done ++ l) z ∙ append-nil d.done in
           record {
             ls = d.ls;

@@ -26,10 +26,10 @@ stores l count o k a e =
       stored = λ h. four l i o k a e ∙ sets-eq (o ∷ k ∷ a ∷ e ∷ []) l i h ∙ append_assoc (take i l) (o ∷ k ∷ a ∷ e ∷ []) (drop (i + 4) l);
     }
 
-pub numbers-append : (ls ms : List Listing) → numbers (ls ++ ms) ≡ numbers ls ++ numbers ms
+pub numbers_append : (ls ms : List Listing) → numbers (ls ++ ms) ≡ numbers ls ++ numbers ms
 unfolding numbers
-numbers-append [] ms = refl
-numbers-append (listing o k a e ∷ ls) ms = ap (λ (l : List ℕ). o ∷ k ∷ a ∷ e ∷ l) (numbers-append ls ms)
+numbers_append [] ms = refl
+numbers_append (listing o k a e ∷ ls) ms = ap (λ (l : List ℕ). o ∷ k ∷ a ∷ e ∷ l) (numbers_append ls ms)
 
 pub numbers-length : (ls : List Listing) → length (numbers ls) ≡ length ls * 4
 unfolding numbers
@@ -37,8 +37,8 @@ numbers-length [] = refl
 numbers-length (listing o k a e ∷ ls) = omega (arith, numbers-length ls)
 
 -- Zeros, without the first of them.
-drop-zeros : (k n : ℕ) → k ≤ n → drop {A = ℕ} k (replicate n 0) ≡ replicate (n - k) 0
-drop-zeros k n h =
+drop_zeros : (k n : ℕ) → k ≤ n → drop {A = ℕ} k (replicate n 0) ≡ replicate (n - k) 0
+drop_zeros k n h =
     let q : k + (n - k) ≡ n = omega arith in
     ap (λ (i : ℕ). drop {A = ℕ} k (replicate i 0)) (sym q) ∙ ap (drop k) (sym (replicate-append-replicate k (n - k) 0)) ∙ drop_at (replicate k 0) (replicate (n - k) 0) k (length-replicate k 0)
 
@@ -57,9 +57,9 @@ filled_next size count o k a e ls list after c l f s h =
     let d : drop (count * 4) list ≡ z = ap (drop (count * 4)) x ∙ drop_at (numbers ls) z (count * 4) w in
     let q : size - 4 * length ls - 4 ≡ size - 4 * length (ls ++ listing o k a e ∷ []) = omega (arith, n) in
     let r : drop (count * 4 + 4) list ≡ replicate (size - 4 * length (ls ++ listing o k a e ∷ [])) 0 =
-    sym (drop-drop 4 (count * 4) list) ∙ ap (drop 4) d ∙ drop-zeros 4 (size - 4 * length ls) (omega (arith, n)) ∙ ap (λ (i : ℕ). replicate {A = ℕ} i 0) q in
+    sym (drop-drop 4 (count * 4) list) ∙ ap (drop 4) d ∙ drop_zeros 4 (size - 4 * length ls) (omega (arith, n)) ∙ ap (λ (i : ℕ). replicate {A = ℕ} i 0) q in
     s.stored (omega (arith, n))
     ∙ ap (λ (u : List ℕ). u ++ (o ∷ k ∷ a ∷ e ∷ drop (count * 4 + 4) list)) t
     ∙ ap (λ (u : List ℕ). numbers ls ++ (o ∷ k ∷ a ∷ e ∷ u)) r
     ∙ sym (append_assoc (numbers ls) (o ∷ k ∷ a ∷ e ∷ []) (replicate (size - 4 * length (ls ++ listing o k a e ∷ [])) 0))
-    ∙ ap (λ (u : List ℕ). u ++ replicate (size - 4 * length (ls ++ listing o k a e ∷ [])) 0) (sym (numbers-append ls (listing o k a e ∷ [])))
+    ∙ ap (λ (u : List ℕ). u ++ replicate (size - 4 * length (ls ++ listing o k a e ∷ [])) 0) (sym (numbers_append ls (listing o k a e ∷ [])))

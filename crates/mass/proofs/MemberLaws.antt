@@ -10,14 +10,14 @@ use Rattle.grammar.specs.Tags.{STRING, FIELD}
 use Rattle.grammar.specs.Trees.{Field, byte, number, span, text, Trees, tree, node, ◌⊕◌, count}
 use Rattle.grammar.specs.Trees as trees
 use Rattle.grammar.specs.Image.{image}
-use Rattle.grammar.proofs.ImageLaws.{row-assoc, row-end, image-length}
+use Rattle.grammar.proofs.ImageLaws.{row_assoc, row_end, image-length}
 use Rattle.images.specs.Images.{records}
 use Rattle.images.proofs.RootLaws.{no_true}
 use Rattle.images.proofs.RowLaws.{records-row}
-use Rattle.mass.specs.Mass.{MASS, DEPTH, FixedPlus, fixed-plus, ComputedPlus, computed-plus, Raises, Leaves, Undecided}
+use Rattle.mass.specs.Mass.{MASS, DEPTH, FixedPlus, fixed_plus, ComputedPlus, computed_plus, Raises, Leaves, Undecided}
 use Rattle.mass.specs.Inner.{two_at, Standing, Some, Root, SomeRoot, Adds, AddsAs, Spot, SumsUp}
 use Rattle.mass.proofs.StandLaws.{left, right, seen}
-use Rattle.mass.proofs.FieldLaws.{Face, face, field-face, as-field, fixed-tag, fixed-name, computed-flag, root-within, tag_read}
+use Rattle.mass.proofs.FieldLaws.{Face, face, field_face, as_field, fixed_tag, fixed_name, computed_flag, root_within, tag_read}
 
 -- ── The last of a row ─────────────────────────────────────────────────────────────────────────────
 
@@ -52,28 +52,28 @@ pub record Gone (bytes : List ℕ) (first : ℕ) (ts : Trees) (undecided : Bool)
 pub record Going (bytes array : List ℕ) (first n : ℕ) (undecided : Bool) (mass depth m : ℕ) : Type 0 where
   pub each : (at : ℕ) (ts : Trees) → Standing bytes array at first ts → n ≡ first + records ts → Gone bytes first ts undecided mass depth m
 
-pub raises-some : {name : List ℕ} {ts : Trees} {a e : ℕ} → Raises name ts a e → 0 < count ts
+pub raises_some : {name : List ℕ} {ts : Trees} {a e : ℕ} → Raises name ts a e → 0 < count ts
 unfolding count
-raises-some (Raises.first x) = omega arith
-raises-some (Raises.later n x) = omega arith
+raises_some (Raises.first x) = omega arith
+raises_some (Raises.later n x) = omega arith
 
-pub undecided-some : {ts : Trees} → Undecided ts → 0 < count ts
+pub undecided_some : {ts : Trees} → Undecided ts → 0 < count ts
 unfolding count
-undecided-some (Undecided.here x) = omega arith
-undecided-some (Undecided.later x) = omega arith
+undecided_some (Undecided.here x) = omega arith
+undecided_some (Undecided.later x) = omega arith
 
 says_none : (bytes : List ℕ) → SumsUp bytes trees.none false 0 0
 unfolding count
 says_none bytes =
     record {
-      if-so = λ e. absurd (no_true e refl);
-      so = λ u. absurd (omega (arith, undecided-some u));
-      on-mass = Spot.nowhere (λ a e x. omega (arith, raises-some x));
-      on-depth = Spot.nowhere (λ a e x. omega (arith, raises-some x));
+      if_so = λ e. absurd (no_true e refl);
+      so = λ u. absurd (omega (arith, undecided_some u));
+      on_mass = Spot.nowhere (λ a e x. omega (arith, raises_some x));
+      on_depth = Spot.nowhere (λ a e x. omega (arith, raises_some x));
     }
 
 pub starts : (bytes array : List ℕ) (first n : ℕ) → Going bytes array first n false 0 0 n
-starts bytes array first n = record { each = λ at ts s e. record { us = ts; ws = trees.none; whole = sym (row-end ts); many = e; says = says_none bytes } }
+starts bytes array first n = record { each = λ at ts s e. record { us = ts; ws = trees.none; whole = sym (row_end ts); many = e; says = says_none bytes } }
 
 -- The next tree to the left, by its root, record m - 1.
 pub record Next (bytes array : List ℕ) (first m : ℕ) (us : Trees) : Type 0 where
@@ -83,7 +83,7 @@ pub record Next (bytes array : List ℕ) (first m : ℕ) (us : Trees) : Type 0 w
   pub children : Trees
   pub split : us ≡ vs ⊕ tree tag fields children
   pub root : Root bytes array (m - 1) tag fields children
-  pub left-of : get_or array ((m - 1) * 2 + 1) 0 ≡ first + records vs
+  pub left_of : get_or array ((m - 1) * 2 + 1) 0 ≡ first + records vs
   pub less : get_or array ((m - 1) * 2 + 1) 0 < m
 
 next_of : {bytes array : List ℕ} {at first m : ℕ} {us : Trees} → Ended us → Standing bytes array at first us → m ≡ first + records us → Next bytes array first m us
@@ -91,7 +91,7 @@ unfolding records
 next_of {bytes} {array} {at} {first} {m} (ended vs tag fields children) s e =
     let r : Root bytes array (m - 1) tag fields children =
     record { at = at + length (image vs); first = first + records vs; standing = right vs (tree tag fields children) s; number = omega (arith, records-row vs (tree tag fields children)) } in
-    record { vs = vs; tag = tag; fields = fields; children = children; split = refl; root = r; left-of = (seen r).first-is; less = omega (arith, (seen r).first-is, records-row vs (tree tag fields children)) }
+    record { vs = vs; tag = tag; fields = fields; children = children; split = refl; root = r; left_of = (seen r).first_is; less = omega (arith, (seen r).first_is, records-row vs (tree tag fields children)) }
 
 module _ {bytes array : List ℕ} {at first : ℕ} {ts : Trees} (s : Standing bytes array at first ts) where
   pub next : {undecided : Bool} {mass depth m : ℕ} (g : Gone bytes first ts undecided mass depth m) → first < m → Next bytes array first m g.us
@@ -109,89 +109,89 @@ module _ {bytes array : List ℕ} {at first : ℕ} {ts : Trees} (s : Standing by
       record {
         us = k.vs;
         ws = node k.tag k.fields k.children g.ws;
-        whole = g.whole ∙ ap (λ (t : Trees). t ⊕ g.ws) k.split ∙ row-assoc k.vs (tree k.tag k.fields k.children) g.ws;
-        many = k.left-of;
+        whole = g.whole ∙ ap (λ (t : Trees). t ⊕ g.ws) k.split ∙ row_assoc k.vs (tree k.tag k.fields k.children) g.ws;
+        many = k.left_of;
         says = x;
       }
 
 -- ── One member more ───────────────────────────────────────────────────────────────────────────────
 
-pub leaves-more : {name : List ℕ} {tag : ℕ} {fields : List Field} {children ts : Trees} → ((a e : ℕ) → FixedPlus name a e tag fields children → ⊥) → Leaves name ts → Leaves name (node tag fields children ts)
-leaves-more n l a e (Raises.first x) = n a e x
-leaves-more n l a e (Raises.later m x) = l a e x
+pub leaves_more : {name : List ℕ} {tag : ℕ} {fields : List Field} {children ts : Trees} → ((a e : ℕ) → FixedPlus name a e tag fields children → ⊥) → Leaves name ts → Leaves name (node tag fields children ts)
+leaves_more n l a e (Raises.first x) = n a e x
+leaves_more n l a e (Raises.later m x) = l a e x
 
-spot-kept : {bytes name : List ℕ} {o tag : ℕ} {fields : List Field} {children ts : Trees} → ((a e : ℕ) → FixedPlus name a e tag fields children → ⊥) → Spot bytes name ts o
+spot_kept : {bytes name : List ℕ} {o tag : ℕ} {fields : List Field} {children ts : Trees} → ((a e : ℕ) → FixedPlus name a e tag fields children → ⊥) → Spot bytes name ts o
     → Spot bytes name (node tag fields children ts) o
-spot-kept n (Spot.nowhere l) = Spot.nowhere (leaves-more n l)
-spot-kept n (Spot.at h i x) = Spot.at h i (Raises.later n x)
+spot_kept n (Spot.nowhere l) = Spot.nowhere (leaves_more n l)
+spot_kept n (Spot.at h i x) = Spot.at h i (Raises.later n x)
 
-pub undecided-less : {tag : ℕ} {fields : List Field} {children ts : Trees} → (ComputedPlus tag fields → ⊥) → Undecided (node tag fields children ts) → Undecided ts
-undecided-less n (Undecided.here x) = absurd (n x)
-undecided-less n (Undecided.later x) = x
+pub undecided_less : {tag : ℕ} {fields : List Field} {children ts : Trees} → (ComputedPlus tag fields → ⊥) → Undecided (node tag fields children ts) → Undecided ts
+undecided_less n (Undecided.here x) = absurd (n x)
+undecided_less n (Undecided.later x) = x
 
 -- A fixed field is not computed, and has one name.
-pub not-computed : {name : List ℕ} {a e tag : ℕ} {fields : List Field} {children : Trees} → FixedPlus name a e tag fields children → ComputedPlus tag fields → ⊥
-not-computed fixed-plus x = omega (arith, computed-flag x)
+pub not_computed : {name : List ℕ} {a e tag : ℕ} {fields : List Field} {children : Trees} → FixedPlus name a e tag fields children → ComputedPlus tag fields → ⊥
+not_computed fixed_plus x = omega (arith, computed_flag x)
 
-pub not-other : {a e b f tag : ℕ} {fields : List Field} {children : Trees} → FixedPlus MASS a e tag fields children → FixedPlus DEPTH b f tag fields children → ⊥
-not-other fixed-plus x = omega (arith, ap length (fixed-name x))
+pub not_other : {a e b f tag : ℕ} {fields : List Field} {children : Trees} → FixedPlus MASS a e tag fields children → FixedPlus DEPTH b f tag fields children → ⊥
+not_other fixed_plus x = omega (arith, ap length (fixed_name x))
 
 -- A field that raises, by its offset: its name span is read there.
-read-span : {bytes name : List ℕ} {at a e : ℕ} {fields : List Field} {children : Trees} → FixedPlus name a e FIELD fields children → Face bytes at fields children
+read_span : {bytes name : List ℕ} {at a e : ℕ} {fields : List Field} {children : Trees} → FixedPlus name a e FIELD fields children → Face bytes at fields children
     → (at + 13 ≤ length bytes) × (two_at bytes (at + 3) ≡ a) × (two_at bytes (at + 5) ≡ e)
-read-span fixed-plus (face i x y c p s) = (i, x, y)
+read_span fixed_plus (face i x y c p s) = (i, x, y)
 
-face-raises : {bytes name : List ℕ} {at a e : ℕ} {fields : List Field} {children : Trees} (ts : Trees) → 0 < at → FixedPlus name a e FIELD fields children → Face bytes at fields children
+face_raises : {bytes name : List ℕ} {at a e : ℕ} {fields : List Field} {children : Trees} (ts : Trees) → 0 < at → FixedPlus name a e FIELD fields children → Face bytes at fields children
     → Spot bytes name (node FIELD fields children ts) at
-face-raises {bytes} {name} {at} {a} {fields = fields} {children} ts z x f =
-    let r = read-span x f in
+face_raises {bytes} {name} {at} {a} {fields = fields} {children} ts z x f =
+    let r = read_span x f in
     Spot.at z (omega (arith, r.0))
     (subst (λ (b : ℕ). Raises name (node FIELD fields children ts) b (two_at bytes (at + 5))) (sym r.1)
     (subst (λ (g : ℕ). Raises name (node FIELD fields children ts) a g) (sym r.2) (Raises.first x)))
 
 -- No field stands at 0.
-past-name : {name : List ℕ} {a e tag : ℕ} {fields : List Field} {children : Trees} → FixedPlus name a e tag fields children → 0 < length (image children)
-past-name {name} (fixed-plus {value = value}) = omega (arith, image-length STRING (text name ∷ []) trees.none value)
+past_name : {name : List ℕ} {a e tag : ℕ} {fields : List Field} {children : Trees} → FixedPlus name a e tag fields children → 0 < length (image children)
+past_name {name} (fixed_plus {value = value}) = omega (arith, image-length STRING (text name ∷ []) trees.none value)
 
-spot-here : {bytes array name : List ℕ} {n a e tag : ℕ} {fields : List Field} {children ts : Trees} → Root bytes array n tag fields children → FixedPlus name a e tag fields children
+spot_here : {bytes array name : List ℕ} {n a e tag : ℕ} {fields : List Field} {children ts : Trees} → Root bytes array n tag fields children → FixedPlus name a e tag fields children
     → Spot bytes name (node tag fields children ts) (get_or array (n * 2) 0)
-spot-here {bytes} {array} {name} {n} {a} {e} {tag} {fields} {children} {ts} r x =
+spot_here {bytes} {array} {name} {n} {a} {e} {tag} {fields} {children} {ts} r x =
     let at = get_or array (n * 2) 0 in
-    let q : FIELD ≡ tag = sym (fixed-tag x) in
+    let q : FIELD ≡ tag = sym (fixed_tag x) in
     subst (λ (t : ℕ). Spot bytes name (node t fields children ts) at) q
-    (face-raises ts (omega (arith, (seen r).offset, past-name x)) (subst (λ (t : ℕ). FixedPlus name a e t fields children) (sym q) x) (field-face (as-field r (tag_read r ∙ fixed-tag x))))
+    (face_raises ts (omega (arith, (seen r).offset, past_name x)) (subst (λ (t : ℕ). FixedPlus name a e t fields children) (sym q) x) (field_face (as_field r (tag_read r ∙ fixed_tag x))))
 
 module _ {bytes array : List ℕ} {n tag : ℕ} {fields : List Field} {children ts : Trees} (r : Root bytes array n tag fields children) {undecided : Bool} {mass depth : ℕ}
     (s : SumsUp bytes ts undecided mass depth) where
   pub says_nothing : Adds tag fields children 0 → SumsUp bytes (node tag fields children ts) undecided mass depth
   says_nothing (Adds.nothing m d c) =
-      record { if-so = λ e. Undecided.later (s.if-so e); so = λ u. s.so (undecided-less c u); on-mass = spot-kept m s.on-mass; on-depth = spot-kept d s.on-depth }
+      record { if_so = λ e. Undecided.later (s.if_so e); so = λ u. s.so (undecided_less c u); on_mass = spot_kept m s.on_mass; on_depth = spot_kept d s.on_depth }
 
-  pub says-computed : Adds tag fields children 3 → SumsUp bytes (node tag fields children ts) true mass depth
-  says-computed (Adds.computed c) =
+  pub says_computed : Adds tag fields children 3 → SumsUp bytes (node tag fields children ts) true mass depth
+  says_computed (Adds.computed c) =
       record {
-        if-so = λ e. Undecided.here c;
+        if_so = λ e. Undecided.here c;
         so = λ u. refl;
-        on-mass = spot-kept (λ a e x. not-computed x c) s.on-mass;
-        on-depth = spot-kept (λ a e x. not-computed x c) s.on-depth;
+        on_mass = spot_kept (λ a e x. not_computed x c) s.on_mass;
+        on_depth = spot_kept (λ a e x. not_computed x c) s.on_depth;
       }
 
-  pub says-mass : Adds tag fields children 1 → SumsUp bytes (node tag fields children ts) undecided (get_or array (n * 2) 0) depth
-  says-mass (Adds.mass x) =
+  pub says_mass : Adds tag fields children 1 → SumsUp bytes (node tag fields children ts) undecided (get_or array (n * 2) 0) depth
+  says_mass (Adds.mass x) =
       record {
-        if-so = λ e. Undecided.later (s.if-so e);
-        so = λ u. s.so (undecided-less (not-computed x) u);
-        on-mass = spot-here r x;
-        on-depth = spot-kept (λ b f y. not-other x y) s.on-depth;
+        if_so = λ e. Undecided.later (s.if_so e);
+        so = λ u. s.so (undecided_less (not_computed x) u);
+        on_mass = spot_here r x;
+        on_depth = spot_kept (λ b f y. not_other x y) s.on_depth;
       }
 
-  pub says-depth : Adds tag fields children 2 → SumsUp bytes (node tag fields children ts) undecided mass (get_or array (n * 2) 0)
-  says-depth (Adds.depth x) =
+  pub says_depth : Adds tag fields children 2 → SumsUp bytes (node tag fields children ts) undecided mass (get_or array (n * 2) 0)
+  says_depth (Adds.depth x) =
       record {
-        if-so = λ e. Undecided.later (s.if-so e);
-        so = λ u. s.so (undecided-less (not-computed x) u);
-        on-mass = spot-kept (λ b f y. not-other y x) s.on-mass;
-        on-depth = spot-here r x;
+        if_so = λ e. Undecided.later (s.if_so e);
+        so = λ u. s.so (undecided_less (not_computed x) u);
+        on_mass = spot_kept (λ b f y. not_other y x) s.on_mass;
+        on_depth = spot_here r x;
       }
 
 adds_none : {tag k : ℕ} {fields : List Field} {children : Trees} → Adds tag fields children k → (k ≡ 3 → ⊥) → (k ≡ 1 → ⊥) → (k ≡ 2 → ⊥) → Adds tag fields children 0
@@ -211,28 +211,28 @@ module _ {bytes array : List ℕ} {first n : ℕ} {undecided : Bool} {mass depth
   as_code : {tag i : ℕ} {fields : List Field} {children : Trees} → k ≡ i → Root bytes array (m - 1) tag fields children → Adds tag fields children i
   as_code {tag} {i} {fields} {children} e r = subst (λ (j : ℕ). Adds tag fields children j) e (a.each tag fields children r)
 
-  pub turn-computed : k ≡ 3 → Going bytes array first n true mass depth (get_or array ((m - 1) * 2 + 1) 0)
-  turn-computed e = record { each = λ at ts s q. let x = g.each at ts s q in let y = next s x h in goes s x h (says-computed y.root x.says (as_code e y.root)) }
+  pub turn_computed : k ≡ 3 → Going bytes array first n true mass depth (get_or array ((m - 1) * 2 + 1) 0)
+  turn_computed e = record { each = λ at ts s q. let x = g.each at ts s q in let y = next s x h in goes s x h (says_computed y.root x.says (as_code e y.root)) }
 
-  pub turn-mass : k ≡ 1 → Going bytes array first n undecided (get_or array ((m - 1) * 2) 0) depth (get_or array ((m - 1) * 2 + 1) 0)
-  turn-mass e = record { each = λ at ts s q. let x = g.each at ts s q in let y = next s x h in goes s x h (says-mass y.root x.says (as_code e y.root)) }
+  pub turn_mass : k ≡ 1 → Going bytes array first n undecided (get_or array ((m - 1) * 2) 0) depth (get_or array ((m - 1) * 2 + 1) 0)
+  turn_mass e = record { each = λ at ts s q. let x = g.each at ts s q in let y = next s x h in goes s x h (says_mass y.root x.says (as_code e y.root)) }
 
-  pub turn-depth : k ≡ 2 → Going bytes array first n undecided mass (get_or array ((m - 1) * 2) 0) (get_or array ((m - 1) * 2 + 1) 0)
-  turn-depth e = record { each = λ at ts s q. let x = g.each at ts s q in let y = next s x h in goes s x h (says-depth y.root x.says (as_code e y.root)) }
+  pub turn_depth : k ≡ 2 → Going bytes array first n undecided mass (get_or array ((m - 1) * 2) 0) (get_or array ((m - 1) * 2 + 1) 0)
+  turn_depth e = record { each = λ at ts s q. let x = g.each at ts s q in let y = next s x h in goes s x h (says_depth y.root x.says (as_code e y.root)) }
 
-  pub turn-nothing : (k ≡ 3 → ⊥) → (k ≡ 1 → ⊥) → (k ≡ 2 → ⊥) → Going bytes array first n undecided mass depth (get_or array ((m - 1) * 2 + 1) 0)
-  turn-nothing i j l = record { each = λ at ts s q. let x = g.each at ts s q in let y = next s x h in goes s x h (says_nothing y.root x.says (adds_none (as_code refl y.root) i j l)) }
+  pub turn_nothing : (k ≡ 3 → ⊥) → (k ≡ 1 → ⊥) → (k ≡ 2 → ⊥) → Going bytes array first n undecided mass depth (get_or array ((m - 1) * 2 + 1) 0)
+  turn_nothing i j l = record { each = λ at ts s q. let x = g.each at ts s q in let y = next s x h in goes s x h (says_nothing y.root x.says (adds_none (as_code refl y.root) i j l)) }
 
 -- All are gone through.
-no-records : (us : Trees) → records us ≡ 0 → trees.none ≡ us
+no_records : (us : Trees) → records us ≡ 0 → trees.none ≡ us
 unfolding records
-no-records trees.none e = refl
-no-records (trees.node tag fields children ts) e = absurd (omega arith)
+no_records trees.none e = refl
+no_records (trees.node tag fields children ts) e = absurd (omega arith)
 
 pub ends : {bytes array : List ℕ} {first n : ℕ} {undecided : Bool} {mass depth m : ℕ} → Going bytes array first n undecided mass depth m → m ≤ first
     → (at : ℕ) (ts : Trees) → Standing bytes array at first ts → n ≡ first + records ts → SumsUp bytes ts undecided mass depth
 unfolding ◌⊕◌
 ends {bytes} {undecided = undecided} {mass} {depth} g h at ts s e =
     let x = g.each at ts s e in
-    let z = no-records x.us (omega (arith, x.many)) in
+    let z = no_records x.us (omega (arith, x.many)) in
     subst (λ (t : Trees). SumsUp bytes t undecided mass depth) (sym (x.whole ∙ ap (λ (t : Trees). t ⊕ x.ws) (sym z))) x.says

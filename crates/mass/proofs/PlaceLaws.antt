@@ -8,9 +8,9 @@ use lib.ListN.{length, get_or, length-append}
 use Rattle.grammar.specs.Trees.{Field, Trees, tree, node, ◌⊕◌}
 use Rattle.grammar.specs.Trees as trees
 use Rattle.grammar.specs.Image.{entry, image}
-use Rattle.grammar.proofs.ImageLaws.{image-length, entry_length, close-length}
+use Rattle.grammar.proofs.ImageLaws.{image-length, entry_length, close_length}
 use Rattle.images.specs.Images.{records}
-use Rattle.mass.specs.Mass.{MASS, DEPTH, FixedPlus, fixed-plus, Raises, Lists, Braces, Subtree, Object, Listing, listing, offset, Due, due, In, Ascends, Planned}
+use Rattle.mass.specs.Mass.{MASS, DEPTH, FixedPlus, fixed_plus, Raises, Lists, Braces, Subtree, Object, Listing, listing, offset, Due, due, In, Ascends, Planned}
 use Rattle.mass.specs.Inner.{Standing, Root}
 use Rattle.mass.proofs.StandLaws.{left, right, children}
 
@@ -40,9 +40,9 @@ module _ (bytes array : List ℕ) where
     more : {n at first tag : ℕ} {fields : List Field} {cs : Trees} {ps : List Place} → Standing bytes array at first (tree tag fields cs) → n ≡ first + records cs → Walk (n + 1) ps
         → Walk n (place at first tag fields cs ∷ ps)
 
-  walk-append : {n m : ℕ} {ps qs : List Place} → Walk n ps → n + length ps ≡ m → Walk m qs → Walk n (ps ++ qs)
-  walk-append {n} {m} {qs = qs} none e w = subst (λ (i : ℕ). Walk i qs) (sym e ∙ omega arith) w
-  walk-append (more s q v) e w = more s q (walk-append v (omega arith) w)
+  walk_append : {n m : ℕ} {ps qs : List Place} → Walk n ps → n + length ps ≡ m → Walk m qs → Walk n (ps ++ qs)
+  walk_append {n} {m} {qs = qs} none e w = subst (λ (i : ℕ). Walk i qs) (sym e ∙ omega arith) w
+  walk_append (more s q v) e w = more s q (walk_append v (omega arith) w)
 
   pub walk : (at first : ℕ) (ts : Trees) → Standing bytes array at first ts → Walk first (places at first ts)
   unfolding places records ◌⊕◌
@@ -50,10 +50,10 @@ module _ (bytes array : List ℕ) where
   walk at first (trees.node tag fields cs ts) s =
       let t = tree tag fields cs in
       let l : Standing bytes array at first t = left t ts s in
-      let a : at + length (image t) ≡ at + length (image cs) + length (entry tag fields) = omega (arith, close-length tag fields cs, entry_length tag fields) in
+      let a : at + length (image t) ≡ at + length (image cs) + length (entry tag fields) = omega (arith, close_length tag fields cs, entry_length tag fields) in
       let f : first + records t ≡ first + records cs + 1 = omega arith in
       let r = subst (λ (i : ℕ). Standing bytes array i (first + records cs + 1) ts) a (subst (λ (i : ℕ). Standing bytes array (at + length (image t)) i ts) f (right t ts s)) in
-      walk-append (walk at first cs (children l)) (ap (λ (i : ℕ). first + i) (places-length at first cs))
+      walk_append (walk at first cs (children l)) (ap (λ (i : ℕ). first + i) (places-length at first cs))
       (more l refl (walk (at + length (image cs) + length (entry tag fields)) (first + records cs + 1) ts r))
 
   -- The next record.
@@ -61,9 +61,9 @@ module _ (bytes array : List ℕ) where
     ahead : {at first tag : ℕ} {fields : List Field} {cs : Trees} {ps : List Place} → Standing bytes array at first (tree tag fields cs) → n ≡ first + records cs → Walk (n + 1) ps
         → Ahead n (place at first tag fields cs ∷ ps)
 
-  pub next-record : {n : ℕ} {ps : List Place} → Walk n ps → 0 < length ps → Ahead n ps
-  next-record none h = absurd (omega arith)
-  next-record (more s q w) h = ahead s q w
+  pub next_record : {n : ℕ} {ps : List Place} → Walk n ps → 0 < length ps → Ahead n ps
+  next_record none h = absurd (omega arith)
+  next_record (more s q w) h = ahead s q w
 
 -- ── What is listed of them ────────────────────────────────────────────────────────────────────────
 
@@ -74,34 +74,34 @@ pub data Listings : List Place → List Listing → Type 0 where
   passed : {at first tag : ℕ} {fields : List Field} {cs : Trees} {ps : List Place} {ls : List Listing} → ((k a e : ℕ) → Braces tag → Lists cs k a e → ⊥) → Listings ps ls
       → Listings (place at first tag fields cs ∷ ps) ls
 
-pub listings-append : {ps qs : List Place} {ls ms : List Listing} → Listings ps ls → Listings qs ms → Listings (ps ++ qs) (ls ++ ms)
-listings-append Listings.none y = y
-listings-append (Listings.shown b l x) y = Listings.shown b l (listings-append x y)
-listings-append (Listings.passed n x) y = Listings.passed n (listings-append x y)
+pub listings_append : {ps qs : List Place} {ls ms : List Listing} → Listings ps ls → Listings qs ms → Listings (ps ++ qs) (ls ++ ms)
+listings_append Listings.none y = y
+listings_append (Listings.shown b l x) y = Listings.shown b l (listings_append x y)
+listings_append (Listings.passed n x) y = Listings.passed n (listings_append x y)
 
 -- ── One listing for each object ───────────────────────────────────────────────────────────────────
 
-fixed-once : {name : List ℕ} {a e b f tag : ℕ} {fields : List Field} {cs : Trees} → FixedPlus name a e tag fields cs → FixedPlus name b f tag fields cs → (a ≡ b) × (e ≡ f)
-fixed-once fixed-plus fixed-plus = (refl, refl)
+fixed_once : {name : List ℕ} {a e b f tag : ℕ} {fields : List Field} {cs : Trees} → FixedPlus name a e tag fields cs → FixedPlus name b f tag fields cs → (a ≡ b) × (e ≡ f)
+fixed_once fixed_plus fixed_plus = (refl, refl)
 
-pub raises-once : {name : List ℕ} {a e b f : ℕ} {ts : Trees} → Raises name ts a e → Raises name ts b f → (a ≡ b) × (e ≡ f)
-raises-once (Raises.first x) (Raises.first y) = fixed-once x y
-raises-once (Raises.first x) (Raises.later n y) = absurd (n _ _ x)
-raises-once (Raises.later n x) (Raises.first y) = absurd (n _ _ y)
-raises-once (Raises.later n x) (Raises.later m y) = raises-once x y
+pub raises_once : {name : List ℕ} {a e b f : ℕ} {ts : Trees} → Raises name ts a e → Raises name ts b f → (a ≡ b) × (e ≡ f)
+raises_once (Raises.first x) (Raises.first y) = fixed_once x y
+raises_once (Raises.first x) (Raises.later n y) = absurd (n _ _ x)
+raises_once (Raises.later n x) (Raises.first y) = absurd (n _ _ y)
+raises_once (Raises.later n x) (Raises.later m y) = raises_once x y
 
-pub lists-once : (o : ℕ) {k a e l b f : ℕ} {ts : Trees} → Lists ts k a e → Lists ts l b f → listing o k a e ≡ listing o l b f
-lists-once o (Lists.undecided u) (Lists.undecided v) = refl
-lists-once o (Lists.undecided u) (Lists.mass-alone n x y) = absurd (n u)
-lists-once o (Lists.undecided u) (Lists.depth-alone n x y) = absurd (n u)
-lists-once o (Lists.mass-alone n x y) (Lists.undecided u) = absurd (n u)
-lists-once o (Lists.depth-alone n x y) (Lists.undecided u) = absurd (n u)
-lists-once o (Lists.mass-alone n x y) (Lists.depth-alone m z w) = absurd (w _ _ x)
-lists-once o (Lists.depth-alone n x y) (Lists.mass-alone m z w) = absurd (w _ _ x)
-lists-once o (Lists.mass-alone {e = e} n x y) (Lists.mass-alone {a = b} m z w) =
-    let q = raises-once x z in ap (λ (i : ℕ). listing o 1 i e) q.0 ∙ ap (λ (i : ℕ). listing o 1 b i) q.1
-lists-once o (Lists.depth-alone {e = e} n x y) (Lists.depth-alone {a = b} m z w) =
-    let q = raises-once x z in ap (λ (i : ℕ). listing o 2 i e) q.0 ∙ ap (λ (i : ℕ). listing o 2 b i) q.1
+pub lists_once : (o : ℕ) {k a e l b f : ℕ} {ts : Trees} → Lists ts k a e → Lists ts l b f → listing o k a e ≡ listing o l b f
+lists_once o (Lists.undecided u) (Lists.undecided v) = refl
+lists_once o (Lists.undecided u) (Lists.mass_alone n x y) = absurd (n u)
+lists_once o (Lists.undecided u) (Lists.depth_alone n x y) = absurd (n u)
+lists_once o (Lists.mass_alone n x y) (Lists.undecided u) = absurd (n u)
+lists_once o (Lists.depth_alone n x y) (Lists.undecided u) = absurd (n u)
+lists_once o (Lists.mass_alone n x y) (Lists.depth_alone m z w) = absurd (w _ _ x)
+lists_once o (Lists.depth_alone n x y) (Lists.mass_alone m z w) = absurd (w _ _ x)
+lists_once o (Lists.mass_alone {e = e} n x y) (Lists.mass_alone {a = b} m z w) =
+    let q = raises_once x z in ap (λ (i : ℕ). listing o 1 i e) q.0 ∙ ap (λ (i : ℕ). listing o 1 b i) q.1
+lists_once o (Lists.depth_alone {e = e} n x y) (Lists.depth_alone {a = b} m z w) =
+    let q = raises_once x z in ap (λ (i : ℕ). listing o 2 i e) q.0 ∙ ap (λ (i : ℕ). listing o 2 b i) q.1
 
 -- ── The planner's list ────────────────────────────────────────────────────────────────────────────
 
@@ -136,23 +136,23 @@ data Placed (o tag : ℕ) (fields : List Field) (cs : Trees) : List Place → Ty
   found : {at f : ℕ} {ps : List Place} → at + length (image cs) ≡ o → Placed o tag fields cs (place at f tag fields cs ∷ ps)
   behind : {p : Place} {ps : List Place} → Placed o tag fields cs ps → Placed o tag fields cs (p ∷ ps)
 
-placed-left : {o tag : ℕ} {fields : List Field} {cs : Trees} {ps : List Place} (qs : List Place) → Placed o tag fields cs ps → Placed o tag fields cs (ps ++ qs)
-placed-left qs (Placed.found e) = Placed.found e
-placed-left qs (Placed.behind x) = Placed.behind (placed-left qs x)
+placed_left : {o tag : ℕ} {fields : List Field} {cs : Trees} {ps : List Place} (qs : List Place) → Placed o tag fields cs ps → Placed o tag fields cs (ps ++ qs)
+placed_left qs (Placed.found e) = Placed.found e
+placed_left qs (Placed.behind x) = Placed.behind (placed_left qs x)
 
-placed-right : {o tag : ℕ} {fields : List Field} {cs : Trees} (ps : List Place) {qs : List Place} → Placed o tag fields cs qs → Placed o tag fields cs (ps ++ qs)
-placed-right [] x = x
-placed-right (p ∷ ps) x = Placed.behind (placed-right ps x)
+placed_right : {o tag : ℕ} {fields : List Field} {cs : Trees} (ps : List Place) {qs : List Place} → Placed o tag fields cs qs → Placed o tag fields cs (ps ++ qs)
+placed_right [] x = x
+placed_right (p ∷ ps) x = Placed.behind (placed_right ps x)
 
 placed : (first : ℕ) {at o tag : ℕ} {fields : List Field} {cs ts : Trees} → Subtree at ts o tag fields cs → Placed o tag fields cs (places at first ts)
 unfolding places
-placed first (Subtree.here {at} {children = cs}) = placed-right (places at first cs) (Placed.found refl)
-placed first (Subtree.inside x) = placed-left _ (placed first x)
-placed first (Subtree.beside {at} {children = cs} x) = placed-right (places at first cs) (Placed.behind (placed (first + records cs + 1) x))
+placed first (Subtree.here {at} {children = cs}) = placed_right (places at first cs) (Placed.found refl)
+placed first (Subtree.inside x) = placed_left _ (placed first x)
+placed first (Subtree.beside {at} {children = cs} x) = placed_right (places at first cs) (Placed.behind (placed (first + records cs + 1) x))
 
 complete : {o tag k a e : ℕ} {fields : List Field} {cs : Trees} {ps : List Place} {ls : List Listing} → Listings ps ls → Placed o tag fields cs ps → Braces tag → Lists cs k a e → In (listing o k a e) ls
 complete {o} {k = k} {a} {e} (Listings.shown {k = l} {a = b} {e = f} {ls = ls} d x y) (Placed.found q) c z =
-    subst (λ (m : Listing). In (listing o k a e) (m ∷ ls)) (lists-once o z x ∙ ap (λ (i : ℕ). listing i l b f) (sym q)) In.first
+    subst (λ (m : Listing). In (listing o k a e) (m ∷ ls)) (lists_once o z x ∙ ap (λ (i : ℕ). listing i l b f) (sym q)) In.first
 complete (Listings.passed n y) (Placed.found q) c z = absurd (n _ _ _ c z)
 complete (Listings.shown b x y) (Placed.behind p) c z = In.later (complete y p c z)
 complete (Listings.passed n y) (Placed.behind p) c z = complete y p c z
@@ -163,13 +163,13 @@ data Rising (hi : ℕ) : ℕ → List Place → Type 0 where
   more : {lo at first tag : ℕ} {fields : List Field} {cs : Trees} {ps : List Place} → lo ≤ at + length (image cs) → Rising hi (suc (at + length (image cs))) ps
       → Rising hi lo (place at first tag fields cs ∷ ps)
 
-rising-from : {hi lo low : ℕ} {ps : List Place} → low ≤ lo → Rising hi lo ps → Rising hi low ps
-rising-from {hi} {lo} {low} h (Rising.none i) = Rising.none (let j : low ≤ hi = omega arith in j)
-rising-from {low = low} h (Rising.more {at = at} {cs = cs} i x) = Rising.more (let j : low ≤ at + length (image cs) = omega arith in j) x
+rising_from : {hi lo low : ℕ} {ps : List Place} → low ≤ lo → Rising hi lo ps → Rising hi low ps
+rising_from {hi} {lo} {low} h (Rising.none i) = Rising.none (let j : low ≤ hi = omega arith in j)
+rising_from {low = low} h (Rising.more {at = at} {cs = cs} i x) = Rising.more (let j : low ≤ at + length (image cs) = omega arith in j) x
 
-rising-append : {lo mid hi : ℕ} {ps qs : List Place} → Rising mid lo ps → Rising hi mid qs → Rising hi lo (ps ++ qs)
-rising-append (Rising.none h) y = rising-from h y
-rising-append (Rising.more h x) y = Rising.more h (rising-append x y)
+rising_append : {lo mid hi : ℕ} {ps qs : List Place} → Rising mid lo ps → Rising hi mid qs → Rising hi lo (ps ++ qs)
+rising_append (Rising.none h) y = rising_from h y
+rising_append (Rising.more h x) y = Rising.more h (rising_append x y)
 
 rising : (at first : ℕ) (ts : Trees) → Rising (at + length (image ts)) at (places at first ts)
 unfolding places image
@@ -177,18 +177,18 @@ rising at first trees.none = Rising.none (let h : at ≤ at + 0 = omega arith in
 rising at first (trees.node tag fields cs ts) =
     let a = at + length (image cs) + length (entry tag fields) in
     let q : a + length (image ts) ≡ at + length (image (node tag fields cs ts)) = omega (arith, image-length tag fields cs ts, entry_length tag fields) in
-    rising-append (rising at first cs)
-    (Rising.more (let h : at + length (image cs) ≤ at + length (image cs) = omega arith in h) (rising-from (let h : suc (at + length (image cs)) ≤ a = omega (arith, entry_length tag fields) in h)
+    rising_append (rising at first cs)
+    (Rising.more (let h : at + length (image cs) ≤ at + length (image cs) = omega arith in h) (rising_from (let h : suc (at + length (image cs)) ≤ a = omega (arith, entry_length tag fields) in h)
     (subst (λ (i : ℕ). Rising i a (places a (first + records cs + 1) ts)) q (rising a (first + records cs + 1) ts))))
 
-ascends-from : {n m : ℕ} {ls : List Listing} → m ≤ n → Ascends n ls → Ascends m ls
-ascends-from h Ascends.none = Ascends.none
-ascends-from {m = m} h (Ascends.more {l = l} i x) = Ascends.more (let j : m ≤ offset l = omega arith in j) x
+ascends_from : {n m : ℕ} {ls : List Listing} → m ≤ n → Ascends n ls → Ascends m ls
+ascends_from h Ascends.none = Ascends.none
+ascends_from {m = m} h (Ascends.more {l = l} i x) = Ascends.more (let j : m ≤ offset l = omega arith in j) x
 
 ascends : {lo hi : ℕ} {ps : List Place} {ls : List Listing} → Listings ps ls → Rising hi lo ps → Ascends lo ls
 ascends Listings.none r = Ascends.none
 ascends (Listings.shown b x y) (Rising.more h r) = Ascends.more h (ascends y r)
-ascends (Listings.passed n y) (Rising.more h r) = ascends-from (omega arith) (ascends y r)
+ascends (Listings.passed n y) (Rising.more h r) = ascends_from (omega arith) (ascends y r)
 
 pub planned : (t : Trees) (ls : List Listing) → Listings (places 0 0 t) ls → Planned t ls
 unfolding HeldIn

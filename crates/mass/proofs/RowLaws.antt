@@ -32,14 +32,14 @@ module _ (zs : List ℕ) where
   in_row (listing o k a e ∷ ls) In.first = (0, omega arith, refl)
   in_row (listing o k a e ∷ ls) (In.later j) = let x = in_row ls j in (suc x.0, omega (arith, x.1), row_next o k a e x.0 (numbers ls ++ zs) ∙ x.2)
 
-  pub rows-ascend : {n : ℕ} (ls : List Listing) → Ascends n ls → (i j : ℕ) → i < j → j < length ls → offset (row (numbers ls ++ zs) i) < offset (row (numbers ls ++ zs) j)
+  pub rows_ascend : {n : ℕ} (ls : List Listing) → Ascends n ls → (i j : ℕ) → i < j → j < length ls → offset (row (numbers ls ++ zs) i) < offset (row (numbers ls ++ zs) j)
   unfolding numbers
-  rows-ascend [] a i j h g = absurd (omega arith)
-  rows-ascend (listing o k a e ∷ ls) (Ascends.more x y) i zero h g = absurd (omega arith)
-  rows-ascend (listing o k a e ∷ ls) (Ascends.more x y) zero (suc j) h g =
+  rows_ascend [] a i j h g = absurd (omega arith)
+  rows_ascend (listing o k a e ∷ ls) (Ascends.more x y) i zero h g = absurd (omega arith)
+  rows_ascend (listing o k a e ∷ ls) (Ascends.more x y) zero (suc j) h g =
       let z = above y (row_in ls j (omega arith)) in
       subst (λ (l : Listing). o < offset l) (sym (row_next o k a e j (numbers ls ++ zs))) z
-  rows-ascend (listing o k a e ∷ ls) (Ascends.more x y) (suc i) (suc j) h g =
-      let z = rows-ascend ls y i j (omega arith) (omega arith) in
+  rows_ascend (listing o k a e ∷ ls) (Ascends.more x y) (suc i) (suc j) h g =
+      let z = rows_ascend ls y i j (omega arith) (omega arith) in
       subst (λ (l : Listing). offset l < offset (row (o ∷ k ∷ a ∷ e ∷ (numbers ls ++ zs)) (suc j))) (sym (row_next o k a e i (numbers ls ++ zs)))
       (subst (λ (l : Listing). offset (row (numbers ls ++ zs) i) < offset l) (sym (row_next o k a e j (numbers ls ++ zs))) z)

@@ -9,7 +9,7 @@ use lib.ListN.{length, replicate}
 use Rattle.grammar.specs.Trees.{Trees}
 use Rattle.images.specs.Images.{Accepted, Refused, needed}
 use Rattle.images.specs.declared.Answer as images
-use Rattle.images.proofs.Sole.{one-tree, one-refusal, accepted-not-refused}
+use Rattle.images.proofs.Sole.{one_tree, one_refusal, accepted_not_refused}
 use Rattle.mass.specs.declared.Answer.{Answer}
 use Rattle.mass.specs.declared.Answer.TheVariants.{Listed, ListShort}
 use Rattle.mass.specs.Mass.{Listing, offset, numbers, In, Ascends, Planned, Kept, Answers, MassDepth}
@@ -38,24 +38,24 @@ same_head (Ascends.more h a) (Ascends.more g b) (In.later i) (In.later j) = let 
 rest-within : {n : ℕ} {l m : Listing} {ls ms : List Listing} → Ascends n (l ∷ ls) → l ≡ m → Within (l ∷ ls) (m ∷ ms) → Within ls ms
 rest-within (Ascends.more h a) e w x i = ⊎_elim (λ q. absurd (let y = above a i in let z = ap offset (q ∙ sym e) in omega (arith, y, z))) (λ j. j) (head_or_tail (w x (In.later i)))
 
-rest-ascends : {n : ℕ} {l : Listing} {ls : List Listing} → Ascends n (l ∷ ls) → Ascends (suc (offset l)) ls
-rest-ascends (Ascends.more h a) = a
+rest_ascends : {n : ℕ} {l : Listing} {ls : List Listing} → Ascends n (l ∷ ls) → Ascends (suc (offset l)) ls
+rest_ascends (Ascends.more h a) = a
 
 some_in : {l : Listing} {ls : List Listing} → In l ls → 0 < length ls
 some_in In.first = omega arith
 some_in (In.later i) = omega arith
 
-ascends-once : {n k : ℕ} (ls ms : List Listing) → Ascends n ls → Ascends k ms → Within ls ms → Within ms ls → ls ≡ ms
-ascends-once [] [] a b v w = refl
-ascends-once [] (m ∷ ms) a b v w = absurd (let i = some_in (w m In.first) in omega (arith, i))
-ascends-once (l ∷ ls) [] a b v w = absurd (let i = some_in (v l In.first) in omega (arith, i))
-ascends-once (l ∷ ls) (m ∷ ms) a b v w =
+ascends_once : {n k : ℕ} (ls ms : List Listing) → Ascends n ls → Ascends k ms → Within ls ms → Within ms ls → ls ≡ ms
+ascends_once [] [] a b v w = refl
+ascends_once [] (m ∷ ms) a b v w = absurd (let i = some_in (w m In.first) in omega (arith, i))
+ascends_once (l ∷ ls) [] a b v w = absurd (let i = some_in (v l In.first) in omega (arith, i))
+ascends_once (l ∷ ls) (m ∷ ms) a b v w =
     let e = same_head a b (v l In.first) (w m In.first) in
-    ap (λ (x : Listing). x ∷ ls) e ∙ ap (λ (x : List Listing). m ∷ x) (ascends-once ls ms (rest-ascends a) (rest-ascends b) (rest-within a e v) (rest-within b (sym e) w))
+    ap (λ (x : Listing). x ∷ ls) e ∙ ap (λ (x : List Listing). m ∷ x) (ascends_once ls ms (rest_ascends a) (rest_ascends b) (rest-within a e v) (rest-within b (sym e) w))
 
 -- A TREE HAS ONE LIST.
-pub planned-once : {t : Trees} {ls ms : List Listing} → Planned t ls → Planned t ms → ls ≡ ms
-planned-once {ls = ls} {ms} p q = ascends-once ls ms p.in_order q.in_order (λ l i. q.complete l (p.sound l i)) (λ l i. p.complete l (q.sound l i))
+pub planned_once : {t : Trees} {ls ms : List Listing} → Planned t ls → Planned t ms → ls ≡ ms
+planned_once {ls = ls} {ms} p q = ascends_once ls ms p.in_order q.in_order (λ l i. q.complete l (p.sound l i)) (λ l i. p.complete l (q.sound l i))
 
 -- ── One answer ────────────────────────────────────────────────────────────────────────────────────
 
@@ -65,29 +65,29 @@ kept_same Kept.malformed Kept.malformed = refl
 kept_same Kept.children Kept.children = refl
 kept_same Kept.underived Kept.underived = refl
 
-kept-once : {b d : images.Answer} {a c : Answer} → b ≡ d → Kept b a → Kept d c → a ≡ c
-kept-once {a = a} e k l = kept_same (subst (λ (x : images.Answer). Kept x a) e k) l
+kept_once : {b d : images.Answer} {a c : Answer} → b ≡ d → Kept b a → Kept d c → a ≡ c
+kept_once {a = a} e k l = kept_same (subst (λ (x : images.Answer). Kept x a) e k) l
 
 module _ {bytes : List ℕ} where
-  lists-once : {t u : Trees} {ls ms : List Listing} → Accepted bytes t → Accepted bytes u → Planned t ls → Planned u ms → ls ≡ ms
-  lists-once {ls = ls} x y p q = planned-once (subst (λ (v : Trees). Planned v ls) (one-tree x y) p) q
+  lists_once : {t u : Trees} {ls ms : List Listing} → Accepted bytes t → Accepted bytes u → Planned t ls → Planned u ms → ls ≡ ms
+  lists_once {ls = ls} x y p q = planned_once (subst (λ (v : Trees). Planned v ls) (one_tree x y) p) q
 
-  pub answers-once : {room size : ℕ} {a b : Answer} {l m : List ℕ} → Answers bytes room size a l → Answers bytes room size b m → (a ≡ b) × (l ≡ m)
-  answers-once (Answers.short h) (Answers.short g) = (refl, refl)
-  answers-once (Answers.short h) (Answers.refused g r k) = absurd (omega arith)
-  answers-once (Answers.short h) (Answers.list-short g x p s) = absurd (omega arith)
-  answers-once (Answers.short h) (Answers.listed g x p s) = absurd (omega arith)
-  answers-once (Answers.refused h r k) (Answers.short g) = absurd (omega arith)
-  answers-once (Answers.refused h r k) (Answers.refused g q l) = (kept-once (one-refusal r q) k l, refl)
-  answers-once (Answers.refused h r k) (Answers.list-short g x p s) = absurd (accepted-not-refused x r)
-  answers-once (Answers.refused h r k) (Answers.listed g x p s) = absurd (accepted-not-refused x r)
-  answers-once (Answers.list-short h x p s) (Answers.short g) = absurd (omega arith)
-  answers-once (Answers.list-short h x p s) (Answers.refused g r k) = absurd (accepted-not-refused x r)
-  answers-once (Answers.list-short h x p s) (Answers.list-short g y q r) = (ap ListShort (ap length (lists-once x y p q)), refl)
-  answers-once (Answers.list-short h x p s) (Answers.listed g y q r) = absurd (let e = ap length (lists-once x y p q) in omega (arith, e))
-  answers-once (Answers.listed h x p s) (Answers.short g) = absurd (omega arith)
-  answers-once (Answers.listed h x p s) (Answers.refused g r k) = absurd (accepted-not-refused x r)
-  answers-once (Answers.listed h x p s) (Answers.list-short g y q r) = absurd (let e = ap length (lists-once x y p q) in omega (arith, e))
-  answers-once {size = size} (Answers.listed h x p s) (Answers.listed g y q r) =
-      let e = lists-once x y p q in
+  pub answers_once : {room size : ℕ} {a b : Answer} {l m : List ℕ} → Answers bytes room size a l → Answers bytes room size b m → (a ≡ b) × (l ≡ m)
+  answers_once (Answers.short h) (Answers.short g) = (refl, refl)
+  answers_once (Answers.short h) (Answers.refused g r k) = absurd (omega arith)
+  answers_once (Answers.short h) (Answers.list_short g x p s) = absurd (omega arith)
+  answers_once (Answers.short h) (Answers.listed g x p s) = absurd (omega arith)
+  answers_once (Answers.refused h r k) (Answers.short g) = absurd (omega arith)
+  answers_once (Answers.refused h r k) (Answers.refused g q l) = (kept_once (one_refusal r q) k l, refl)
+  answers_once (Answers.refused h r k) (Answers.list_short g x p s) = absurd (accepted_not_refused x r)
+  answers_once (Answers.refused h r k) (Answers.listed g x p s) = absurd (accepted_not_refused x r)
+  answers_once (Answers.list_short h x p s) (Answers.short g) = absurd (omega arith)
+  answers_once (Answers.list_short h x p s) (Answers.refused g r k) = absurd (accepted_not_refused x r)
+  answers_once (Answers.list_short h x p s) (Answers.list_short g y q r) = (ap ListShort (ap length (lists_once x y p q)), refl)
+  answers_once (Answers.list_short h x p s) (Answers.listed g y q r) = absurd (let e = ap length (lists_once x y p q) in omega (arith, e))
+  answers_once (Answers.listed h x p s) (Answers.short g) = absurd (omega arith)
+  answers_once (Answers.listed h x p s) (Answers.refused g r k) = absurd (accepted_not_refused x r)
+  answers_once (Answers.listed h x p s) (Answers.list_short g y q r) = absurd (let e = ap length (lists_once x y p q) in omega (arith, e))
+  answers_once {size = size} (Answers.listed h x p s) (Answers.listed g y q r) =
+      let e = lists_once x y p q in
       (ap Listed (ap length e), ap (λ (ls : List Listing). numbers ls ++ replicate (size - 4 * length ls) 0) e)

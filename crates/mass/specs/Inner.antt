@@ -21,8 +21,8 @@ pub record Standing (bytes array : List ℕ) (at first : ℕ) (ts : Trees) : Typ
   pub row : Row age ts
   pub after : List ℕ
   pub split : drop at bytes ≡ image ts ++ after
-  pub links-after : List ℕ
-  pub linked : drop (first * 2) array ≡ links at first ts ++ links-after
+  pub links_after : List ℕ
+  pub linked : drop (first * 2) array ≡ links at first ts ++ links_after
 
 -- Some trees stand there that have the records from first up to n.
 pub record Some (bytes array : List ℕ) (first n : ℕ) : Type 0 where
@@ -69,10 +69,10 @@ pub data Spot (bytes : List ℕ) (name : List ℕ) (members : Trees) : ℕ → T
   at : {o : ℕ} → 0 < o → o + 6 < length bytes → Raises name members (two_at bytes (o + 3)) (two_at bytes (o + 5)) → Spot bytes name members o
 
 pub record SumsUp (bytes : List ℕ) (members : Trees) (undecided : Bool) (mass depth : ℕ) : Type 0 where
-  pub if-so : undecided ≡ true → Undecided members
+  pub if_so : undecided ≡ true → Undecided members
   pub so : Undecided members → undecided ≡ true
-  pub on-mass : Spot bytes MASS members mass
-  pub on-depth : Spot bytes DEPTH members depth
+  pub on_mass : Spot bytes MASS members mass
+  pub on_depth : Spot bytes DEPTH members depth
 
 -- Of the trees that have the records from first up to n.
 pub record RaisedBy (bytes array : List ℕ) (first n : ℕ) (own : Own) : Type 0 where

@@ -2,7 +2,7 @@
 -- mass, or of which that is undecided.
 -- Assumes nothing.
 use Rattle.std.specs.Prelude.{◌≡◌, List, [], ◌∷◌, ◌++◌, ℕ, suc, ◌+◌, ◌-◌, ◌*◌, ◌≤◌, ◌<◌, length, get_or, replicate}
-use Rattle.grammar.specs.Tags.{STRING, MEMBERS, OBJECT-COMP, FIELD}
+use Rattle.grammar.specs.Tags.{STRING, MEMBERS, OBJECT_COMP, FIELD}
 use Rattle.grammar.specs.Trees.{Field, byte, number, span, text, Trees, node}
 use Rattle.grammar.specs.Trees as trees
 use Rattle.grammar.specs.Image.{entry, image}
@@ -24,11 +24,11 @@ DEPTH = 100 ∷ 101 ∷ 112 ∷ 116 ∷ 104 ∷ []
 -- R54. "a fixed field `mass` marked plus": a record, by its tag, fields and children, that is one of this name, which stands from a to e. (The first
 -- child of a field is its name; what follows it is the value.)
 pub data FixedPlus (name : List ℕ) (a e : ℕ) : ℕ → List Field → Trees → Type 0 where
-  fixed-plus : {m n v : ℕ} {value : Trees} → FixedPlus name a e FIELD (span a e ∷ byte 0 ∷ byte 1 ∷ byte m ∷ number n ∷ byte v ∷ []) (node STRING (text name ∷ []) trees.none value)
+  fixed_plus : {m n v : ℕ} {value : Trees} → FixedPlus name a e FIELD (span a e ∷ byte 0 ∷ byte 1 ∷ byte m ∷ number n ∷ byte v ∷ []) (node STRING (text name ∷ []) trees.none value)
 
 -- R54. "any computed plus field"
 pub data ComputedPlus : ℕ → List Field → Type 0 where
-  computed-plus : {a e m n v : ℕ} → ComputedPlus FIELD (span a e ∷ byte 1 ∷ byte 1 ∷ byte m ∷ number n ∷ byte v ∷ [])
+  computed_plus : {a e m n v : ℕ} → ComputedPlus FIELD (span a e ∷ byte 1 ∷ byte 1 ∷ byte m ∷ number n ∷ byte v ∷ [])
 
 -- ── What an object's members say ──────────────────────────────────────────────────────────────────
 
@@ -49,15 +49,15 @@ pub data Undecided : Trees → Type 0 where
 -- R55. "1 for `mass` alone or 2 for `depth`, and the name span of the first such field"; undecided "instead, as 0 and span 0,0".
 pub data Lists (members : Trees) : ℕ → ℕ → ℕ → Type 0 where
   undecided : Undecided members → Lists members 0 0 0
-  mass-alone : {a e : ℕ} → (Undecided members → ⊥) → Raises MASS members a e → Leaves DEPTH members → Lists members 1 a e
-  depth-alone : {a e : ℕ} → (Undecided members → ⊥) → Raises DEPTH members a e → Leaves MASS members → Lists members 2 a e
+  mass_alone : {a e : ℕ} → (Undecided members → ⊥) → Raises MASS members a e → Leaves DEPTH members → Lists members 1 a e
+  depth_alone : {a e : ℕ} → (Undecided members → ⊥) → Raises DEPTH members a e → Leaves MASS members → Lists members 2 a e
 
 -- ── Objects ───────────────────────────────────────────────────────────────────────────────────────
 
 -- R55. "each member record (tag 9 or 10)"
 pub data Braces : ℕ → Type 0 where
   members : Braces MEMBERS
-  comprehension : Braces OBJECT-COMP
+  comprehension : Braces OBJECT_COMP
 
 -- R55. A tree within trees whose image begins at an offset: the offset of its own record, the tag, fields and children.
 pub data Subtree : ℕ → Trees → ℕ → ℕ → List Field → Trees → Type 0 where
@@ -128,7 +128,7 @@ pub data Answers (bytes : List ℕ) (room size : ℕ) : Answer → List ℕ → 
   short : room < needed bytes → Answers bytes room size (Short (needed bytes)) (replicate size 0)
   refused : {b : images.Answer} {a : Answer} → needed bytes ≤ room → Refused bytes b → Kept b a → Answers bytes room size a (replicate size 0)
   -- "then 21 list too short, with the count needed; list zero"
-  list-short : {t : Trees} {ls : List Listing} → needed bytes ≤ room → Accepted bytes t → Planned t ls → size < 4 * length ls
+  list_short : {t : Trees} {ls : List Listing} → needed bytes ≤ room → Accepted bytes t → Planned t ls → size < 4 * length ls
       → Answers bytes room size (ListShort (length ls)) (replicate size 0)
   listed : {t : Trees} {ls : List Listing} → needed bytes ≤ room → Accepted bytes t → Planned t ls → 4 * length ls ≤ size
       → Answers bytes room size (Listed (length ls)) (numbers ls ++ replicate (size - 4 * length ls) 0)

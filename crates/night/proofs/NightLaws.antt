@@ -16,8 +16,8 @@ use Rattle.grammar.specs.Answer.{Answer}
 use Rattle.grammar.specs.Source.{Reads01}
 use Rattle.leaves.proofs.PartLaws.{lent}
 use Rattle.reader.specs.Five.{five}
-use Rattle.night.specs.Night.{LISTS, begins, stops, file, size_of, answer-of, Cuts, Fit, Each, Night, unfit}
-use Rattle.night.proofs.Parts.{part-before, part-itself}
+use Rattle.night.specs.Night.{LISTS, begins, stops, file, size_of, answer_of, Cuts, Fit, Each, Night, unfit}
+use Rattle.night.proofs.Parts.{part-before, part_itself}
 
 -- ── Ends that cut a buffer ────────────────────────────────────────────────────────────────────────
 
@@ -69,18 +69,18 @@ module _ (ends : List ℕ) (size : ℕ) (parts : List ℕ) (room count : ℕ) wh
   abbrev fitting : Type 0
   fitting = Fit ends size parts room count
 
-  pub other-parts : ¬ (length parts ≡ length ends) → Tests false fitting
-  other-parts n = fails fitting (λ f. n f.parts)
+  pub other_parts : ¬ (length parts ≡ length ends) → Tests false fitting
+  other_parts n = fails fitting (λ f. n f.parts)
 
-  pub no-fives : ¬ (count % 5 ≡ 0) → Tests false fitting
-  no-fives n = fails fitting (λ f. n (omega (arith, f.answers)))
+  pub no_fives : ¬ (count % 5 ≡ 0) → Tests false fitting
+  no_fives n = fails fitting (λ f. n (omega (arith, f.answers)))
 
-  pub other-fives : ¬ (count / 5 ≡ length ends) → Tests false fitting
-  other-fives n = fails fitting (λ f. n (omega (arith, f.answers)))
+  pub other_fives : ¬ (count / 5 ≡ length ends) → Tests false fitting
+  other_fives n = fails fitting (λ f. n (omega (arith, f.answers)))
 
   -- the sources are not cut by their ends
-  pub no-sources : {b : Bool} → b ≡ false → Tests b (Cuts ends size) → Tests false fitting
-  no-sources e t = fails fitting (λ f. true≢false (sym (t.1 f.sources) ∙ e))
+  pub no_sources : {b : Bool} → b ≡ false → Tests b (Cuts ends size) → Tests false fitting
+  no_sources e t = fails fitting (λ f. true≢false (sym (t.1 f.sources) ∙ e))
 
   -- all is as it should be, but for the output
   pub fits : {b : Bool} → length parts ≡ length ends → count % 5 ≡ 0 → count / 5 ≡ length ends → Cuts ends size → Tests b (Cuts parts room) → Tests b fitting
@@ -96,27 +96,27 @@ cleared {setting} {sources} {ends} {room} {parts} {count} {out} {answers} e t p 
 -- ── Five numbers ──────────────────────────────────────────────────────────────────────────────────
 
 -- A list of five is its elements.
-pub five-list : (a : List ℕ) → length a ≡ 5 → get_or a 0 0 ∷ get_or a 1 0 ∷ get_or a 2 0 ∷ get_or a 3 0 ∷ get_or a 4 0 ∷ [] ≡ a
-five-list [] e = absurd (omega arith)
-five-list (v ∷ []) e = absurd (omega arith)
-five-list (v ∷ w ∷ []) e = absurd (omega arith)
-five-list (v ∷ w ∷ x ∷ []) e = absurd (omega arith)
-five-list (v ∷ w ∷ x ∷ y ∷ []) e = absurd (omega arith)
-five-list (v ∷ w ∷ x ∷ y ∷ z ∷ []) e = refl
-five-list (v ∷ w ∷ x ∷ y ∷ z ∷ u ∷ us) e = absurd (omega arith)
+pub five_list : (a : List ℕ) → length a ≡ 5 → get_or a 0 0 ∷ get_or a 1 0 ∷ get_or a 2 0 ∷ get_or a 3 0 ∷ get_or a 4 0 ∷ [] ≡ a
+five_list [] e = absurd (omega arith)
+five_list (v ∷ []) e = absurd (omega arith)
+five_list (v ∷ w ∷ []) e = absurd (omega arith)
+five_list (v ∷ w ∷ x ∷ []) e = absurd (omega arith)
+five_list (v ∷ w ∷ x ∷ y ∷ []) e = absurd (omega arith)
+five_list (v ∷ w ∷ x ∷ y ∷ z ∷ []) e = refl
+five_list (v ∷ w ∷ x ∷ y ∷ z ∷ u ∷ us) e = absurd (omega arith)
 
 -- stored one by one over a list of five
-pub stored-five : (l a : List ℕ) → length l ≡ 5 → length a ≡ 5 → sets l 0 (get_or a 0 0 ∷ get_or a 1 0 ∷ get_or a 2 0 ∷ get_or a 3 0 ∷ get_or a 4 0 ∷ []) ≡ a
-stored-five l a e h =
-    ap (λ (vs : List ℕ). sets l 0 vs) (five-list a h)
+pub stored_five : (l a : List ℕ) → length l ≡ 5 → length a ≡ 5 → sets l 0 (get_or a 0 0 ∷ get_or a 1 0 ∷ get_or a 2 0 ∷ get_or a 3 0 ∷ get_or a 4 0 ∷ []) ≡ a
+stored_five l a e h =
+    ap (λ (vs : List ℕ). sets l 0 vs) (five_list a h)
     ∙ sets-eq a l 0 (omega arith)
     ∙ ap (λ (r : List ℕ). a ++ r) (drop_of_length-le l {i = 0 + length a} (omega arith))
     ∙ append-nil a
 
 -- An answer's five numbers are in the list once.
-pub same-five : (a b : List ℕ) → length a ≡ 5 → length b ≡ 5 → five a ≡ five b → a ≡ b
-same-five a b h k e =
-    sym (five-list a h) ∙ ap (λ (x : Answer). x.number ∷ x.start ∷ x.stop ∷ x.detail ∷ x.size ∷ []) e ∙ five-list b k
+pub same_five : (a b : List ℕ) → length a ≡ 5 → length b ≡ 5 → five a ≡ five b → a ≡ b
+same_five a b h k e =
+    sym (five_list a h) ∙ ap (λ (x : Answer). x.number ∷ x.start ∷ x.stop ∷ x.detail ∷ x.size ∷ []) e ∙ five_list b k
 
 -- ── The single call, of equal things ──────────────────────────────────────────────────────────────
 
@@ -134,30 +134,30 @@ pub record Reached (setting : ℕ) (sources ends parts out₀ answers₀ out ans
   pub fit : Fit ends (length sources) parts (length out₀) (length answers₀)
   pub more : i ≤ length ends
   pub from_is : from ≡ begins ends i
-  pub part-is : part ≡ begins parts i
+  pub part_is : part ≡ begins parts i
   pub place_is : place ≡ 5 * i
-  pub same-room : length out ≡ length out₀
+  pub same_room : length out ≡ length out₀
   pub same_count : length answers ≡ length answers₀
-  pub read : (k : ℕ) → k < i → Reads01 setting (file ends sources k) (size_of parts k) (answer-of answers k) (file parts out k)
+  pub read : (k : ℕ) → k < i → Reads01 setting (file ends sources k) (size_of parts k) (answer_of answers k) (file parts out k)
 
-pub reached-first : {setting : ℕ} {sources ends parts out answers : List ℕ} → Fit ends (length sources) parts (length out) (length answers)
+pub reached_first : {setting : ℕ} {sources ends parts out answers : List ℕ} → Fit ends (length sources) parts (length out) (length answers)
     → Reached setting sources ends parts out answers out answers 0 0 0 0
-reached-first f =
+reached_first f =
     record {
       fit = f;
       more = omega arith;
       from_is = refl;
-      part-is = refl;
+      part_is = refl;
       place_is = refl;
-      same-room = refl;
+      same_room = refl;
       same_count = refl;
       read = λ k h. absurd (omega (arith, h));
     }
 
 module _ {setting : ℕ} {sources ends parts out₀ answers₀ out answers : List ℕ} {from part place i : ℕ} (r : Reached setting sources ends parts out₀ answers₀ out answers from part place i) where
   -- the last turn leaves every file read
-  pub reached-all : length ends ≤ i → Each setting sources ends parts out answers
-  reached-all h = record { single = λ k b. r.read k (omega (arith, b, h)) }
+  pub reached_all : length ends ≤ i → Each setting sources ends parts out answers
+  reached_all h = record { single = λ k b. r.read k (omega (arith, b, h)) }
 
   module _ (below : i < length ends) where
     pub source-forward : from ≤ stops ends i
@@ -170,25 +170,25 @@ module _ {setting : ℕ} {sources ends parts out₀ answers₀ out answers : Lis
     has_part = omega (arith, below, r.fit.parts)
 
     pub part-forward : part ≤ stops parts i
-    part-forward = omega (arith, r.part-is, r.fit.output.forward i has_part)
+    part-forward = omega (arith, r.part_is, r.fit.output.forward i has_part)
 
     pub part-within : stops parts i ≤ length out
-    part-within = omega (arith, r.same-room, stops-within r.fit.output i has_part)
+    part-within = omega (arith, r.same_room, stops-within r.fit.output i has_part)
 
     pub place-within : place + 5 ≤ length answers
     place-within = omega (arith, r.place_is, r.same_count, r.fit.answers, below)
 
-    its-source : take (stops ends i - from) (drop from sources) ≡ file ends sources i
-    its-source = lent from (stops ends i) sources ∙ ap (λ (n : ℕ). slice n (stops ends i) sources) r.from_is
+    its_source : take (stops ends i - from) (drop from sources) ≡ file ends sources i
+    its_source = lent from (stops ends i) sources ∙ ap (λ (n : ℕ). slice n (stops ends i) sources) r.from_is
 
-    its-room : length (take (stops parts i - part) (drop part out)) ≡ size_of parts i
-    its-room =
+    its_room : length (take (stops parts i - part) (drop part out)) ≡ size_of parts i
+    its_room =
         ap length (lent part (stops parts i) out)
         ∙ length-slice part (stops parts i) out part-within
-        ∙ ap (λ (n : ℕ). stops parts i - n) r.part-is
+        ∙ ap (λ (n : ℕ). stops parts i - n) r.part_is
 
-    pub its-five : length (take (place + 5 - place) (drop place answers)) ≡ 5
-    its-five = ap length (lent place (place + 5) answers) ∙ length-slice place (place + 5) answers place-within ∙ omega arith
+    pub its_five : length (take (place + 5 - place) (drop place answers)) ≡ 5
+    its_five = ap length (lent place (place + 5) answers) ∙ length-slice place (place + 5) answers place-within ∙ omega arith
 
     -- what came back of the output and of the answers
     module _ (o a : List ℕ) (o-long : length o ≡ length (take (stops parts i - part) (drop part out))) (a-long : length a ≡ length (take (place + 5 - place) (drop place answers))) where
@@ -198,36 +198,36 @@ module _ {setting : ℕ} {sources ends parts out₀ answers₀ out answers : Lis
       abbrev answers' : List ℕ
       answers' = take place answers ++ (a ++ drop (place + 5 - place) (drop place answers))
 
-      before : (k : ℕ) → k < i → Reads01 setting (file ends sources k) (size_of parts k) (answer-of answers' k) (file parts out' k)
+      before : (k : ℕ) → k < i → Reads01 setting (file ends sources k) (size_of parts k) (answer_of answers' k) (file parts out' k)
       before k h =
           let earlier = begins-before r.fit.output (suc k) i h (omega (arith, has_part)) in
-          let p = part-before out o part (stops parts i) (omega (arith, part-forward, part-within)) (begins parts k) (stops parts k) (omega (arith, earlier, r.part-is)) in
+          let p = part-before out o part (stops parts i) (omega (arith, part-forward, part-within)) (begins parts k) (stops parts k) (omega (arith, earlier, r.part_is)) in
           let q = part-before answers a place (place + 5) (omega (arith, place-within)) (5 * k) (5 * k + 5) (omega (arith, h, r.place_is)) in
           reads_same refl refl (ap five (sym q)) (sym p) (r.read k h)
 
-      its-part : file parts out' i ≡ o
-      its-part =
-          ap (λ (n : ℕ). slice n (stops parts i) out') (sym r.part-is)
-          ∙ part-itself out o part (stops parts i) (omega (arith, part-forward, part-within)) o-long part-within
+      its_part : file parts out' i ≡ o
+      its_part =
+          ap (λ (n : ℕ). slice n (stops parts i) out') (sym r.part_is)
+          ∙ part_itself out o part (stops parts i) (omega (arith, part-forward, part-within)) o-long part-within
 
-      its-place : slice (5 * i) (5 * i + 5) answers' ≡ a
-      its-place =
+      its_place : slice (5 * i) (5 * i + 5) answers' ≡ a
+      its_place =
           ap (λ (n : ℕ). slice n (n + 5) answers') (sym r.place_is)
-          ∙ part-itself answers a place (place + 5) (omega (arith, place-within)) a-long place-within
+          ∙ part_itself answers a place (place + 5) (omega (arith, place-within)) a-long place-within
 
       module _ (single : Reads01 setting (take (stops ends i - from) (drop from sources)) (length (take (stops parts i - part) (drop part out))) (five a) o) where
-        itself : Reads01 setting (file ends sources i) (size_of parts i) (answer-of answers' i) (file parts out' i)
-        itself = reads_same its-source its-room (ap five (sym its-place)) (sym its-part) single
+        itself : Reads01 setting (file ends sources i) (size_of parts i) (answer_of answers' i) (file parts out' i)
+        itself = reads_same its_source its_room (ap five (sym its_place)) (sym its_part) single
 
-        pub reached-next : Reached setting sources ends parts out₀ answers₀ out' answers' (stops ends i) (stops parts i) (place + 5) (i + 1)
-        reached-next =
+        pub reached_next : Reached setting sources ends parts out₀ answers₀ out' answers' (stops ends i) (stops parts i) (place + 5) (i + 1)
+        reached_next =
             record {
               fit = r.fit;
               more = omega (arith, below);
               from_is = sym (next-begins ends i);
-              part-is = sym (next-begins parts i);
+              part_is = sym (next-begins parts i);
               place_is = omega (arith, r.place_is);
-              same-room = same_len_mid part (stops parts i - part) out o o-long ∙ r.same-room;
+              same_room = same_len_mid part (stops parts i - part) out o o-long ∙ r.same_room;
               same_count = same_len_mid place (place + 5 - place) answers a a-long ∙ r.same_count;
               read = below_more _ _ before itself;
             }

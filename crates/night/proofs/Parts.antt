@@ -19,8 +19,8 @@ module _ (l last : List ℕ) (a b : ℕ) (within : a ≤ length l) where
       ap (drop x) (take-append-le y (take a l) (last ++ rest) (omega (arith, length-take-le a l within)) ∙ take-take y a l h)
 
   -- and it is what came back, which is as long as what was lent
-  pub part-itself : length last ≡ length (take (b - a) (drop a l)) → b ≤ length l → slice a b (take a l ++ (last ++ drop (b - a) (drop a l))) ≡ last
-  part-itself long h =
+  pub part_itself : length last ≡ length (take (b - a) (drop a l)) → b ≤ length l → slice a b (take a l ++ (last ++ drop (b - a) (drop a l))) ≡ last
+  part_itself long h =
       sym (lent a b (take a l ++ (last ++ rest)))
       ∙ ap (take (b - a)) (drop_at (take a l) (last ++ rest) a (length-take-le a l within))
       ∙ take_at last rest (b - a) (long ∙ ap length (lent a b l) ∙ length-slice a b l h)
@@ -32,19 +32,19 @@ module _ (from to : ℕ → ℕ) (n : ℕ) (start : from 0 ≡ 0) (next : (i : �
   longer a b k h =
       ap (λ (j : ℕ). take j k) (let q : b ≡ a + (b - a) = omega arith in q) ∙ take-add a (b - a) k ∙ ap (λ (r : List ℕ). take a k ++ r) (lent a b k)
 
-  same-front : (i : ℕ) → i ≤ n → take (from i) l ≡ take (from i) m
-  same-front zero h = ap (λ (j : ℕ). take j l) start ∙ sym (ap (λ (j : ℕ). take j m) start)
-  same-front (suc i) h =
+  same_front : (i : ℕ) → i ≤ n → take (from i) l ≡ take (from i) m
+  same_front zero h = ap (λ (j : ℕ). take j l) start ∙ sym (ap (λ (j : ℕ). take j m) start)
+  same_front (suc i) h =
       let below : i < n = omega arith in
       let up = next i below in
       let step = forward i below in
       ap (λ (j : ℕ). take j l) (sym up)
       ∙ longer (from i) (to i) l step
-      ∙ ap₂ (λ (x y : List ℕ). x ++ y) (same-front i (omega arith)) (same i below)
+      ∙ ap₂ (λ (x y : List ℕ). x ++ y) (same_front i (omega arith)) (same i below)
       ∙ sym (longer (from i) (to i) m step)
       ∙ ap (λ (j : ℕ). take j m) up
 
   -- where the last one ends with both
   pub same_parts : from n ≡ length l → from n ≡ length m → l ≡ m
   same_parts p q =
-      sym (take-length l) ∙ ap (λ (j : ℕ). take j l) (sym p) ∙ same-front n (omega arith) ∙ ap (λ (j : ℕ). take j m) q ∙ take-length m
+      sym (take-length l) ∙ ap (λ (j : ℕ). take j l) (sym p) ∙ same_front n (omega arith) ∙ ap (λ (j : ℕ). take j m) q ∙ take-length m

@@ -30,8 +30,8 @@ abbrev pub size_of : List ℕ → ℕ → ℕ
 size_of ends i = stops ends i - begins ends i
 
 -- R47. Its five numbers in the list of answers.
-abbrev pub answer-of : List ℕ → ℕ → Answer
-answer-of answers i = five (slice (5 * i) (5 * i + 5) answers)
+abbrev pub answer_of : List ℕ → ℕ → Answer
+answer_of answers i = five (slice (5 * i) (5 * i + 5) answers)
 
 -- ── Lists that fit ────────────────────────────────────────────────────────────────────────────────
 
@@ -52,7 +52,7 @@ pub record Fit (ends : List ℕ) (size : ℕ) (part-ends : List ℕ) (room count
 
 -- R48. "Answer and output part for each source equal the single call's on that source, that setting and that part."
 pub record Each (setting : ℕ) (sources ends part-ends out answers : List ℕ) : Type 0 where
-  pub single : (i : ℕ) → i < length ends → Reads01 setting (file ends sources i) (size_of part-ends i) (answer-of answers i) (file part-ends out i)
+  pub single : (i : ℕ) → i < length ends → Reads01 setting (file ends sources i) (size_of part-ends i) (answer_of answers i) (file part-ends out i)
 
 -- R47 to R49. Of a setting, the sources with their ends, the output's length with the ends of its parts, and the length of the list for the answers: the
 -- call's number, and the output and that list as they are left.

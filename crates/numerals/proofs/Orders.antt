@@ -11,13 +11,13 @@ use lib.Dec.{T, lit<, leb, leb→le, nleb→lt}
 use lib.Pow.{pow-add}
 use lib.ListN.{take, get_or}
 use lib.Seq.{take_all}
-use Rattle.numerals.specs.Value.{LIMIT, isDigit, spelled, AtLeast}
-use Rattle.numerals.specs.Inner.{limitDigits, Reaches, Misses, Ordered, equal, above, below, Led, Compares, Pushes, pushed, Says, Decides}
+use Rattle.numerals.specs.Value.{LIMIT, is_digit, spelled, AtLeast}
+use Rattle.numerals.specs.Inner.{limit_digits, Reaches, Misses, Ordered, equal, above, below, Led, Compares, Pushes, pushed, Says, Decides}
 use Rattle.numerals.specs.declared.Order.{Order}
 use Rattle.numerals.specs.declared.Order.TheVariants.{Equal, Above, Below}
 use Rattle.numerals.specs.declared.Lead.{Lead}
 use Rattle.numerals.proofs.Powers.{power-next, power-some, many, few, none}
-use Rattle.numerals.proofs.Spellings.{worth, limit-length, limit-spelled, limit-last, limit-digit, limit-next, limit-cut, is_digit, pushed_none}
+use Rattle.numerals.proofs.Spellings.{worth, limit-length, limit-spelled, limit_last, limit-digit, limit-next, limit_cut, is_digit_lem, pushed_none}
 
 -- n times 10^(j + down) is n times 10^j, times 10^down.
 shifted : (n j up down : ℕ) → up ≡ j + down → n * 10 ^ up ≡ n * 10 ^ j * 10 ^ down
@@ -25,15 +25,15 @@ shifted n j up down e = ap (λ (i : ℕ). n * 10 ^ i) e ∙ ap (λ (x : ℕ). n 
 
 -- ── One digit more ────────────────────────────────────────────────────────────────────────────────
 
-still-above : {n k : ℕ} (d : ℕ) → Reaches n k → Reaches (n * 10 + d) (k + 1)
-still-above {n} {k} d a =
+still_above : {n k : ℕ} (d : ℕ) → Reaches n k → Reaches (n * 10 + d) (k + 1)
+still_above {n} {k} d a =
     record {
       reached = λ up down e.
           omega (arith, a.reached (1 + up) down (omega arith), shifted n 1 (1 + up) up refl, add-mul (n * 10) d (10 ^ up));
     }
 
-still-below : {n k : ℕ} (d : ℕ) → d ≤ 9 → Misses n k → Misses (n * 10 + d) (k + 1)
-still-below {n} {k} d h a =
+still_below : {n k : ℕ} (d : ℕ) → d ≤ 9 → Misses n k → Misses (n * 10 + d) (k + 1)
+still_below {n} {k} d h a =
     record {
       missed = λ up down e.
           let more : n * 10 + d + 1 ≤ (n + 1) * 10 = omega arith in
@@ -41,86 +41,86 @@ still-below {n} {k} d h a =
     }
 
 -- A first digit that differs decides.
-goes_above : (n k j : ℕ) → k + j ≡ 309 → spelled 0 (take k limitDigits) < n → Reaches n k
+goes_above : (n k j : ℕ) → k + j ≡ 309 → spelled 0 (take k limit_digits) < n → Reaches n k
 goes_above n k j h less =
     record { reached = λ up down e. subst (λ (x : ℕ). LIMIT * 10 ^ down ≤ x) (sym (shifted n j up down (omega arith))) (mul-le-mul_right (10 ^ down) past) }
   where
     past : LIMIT ≤ n * 10 ^ j
     past =
-        let more : spelled 0 (take k limitDigits) + 1 ≤ n = omega arith in
-        omega (arith, (limit-cut k j h).1, mul-le-mul_right (10 ^ j) more)
+        let more : spelled 0 (take k limit_digits) + 1 ≤ n = omega arith in
+        omega (arith, (limit_cut k j h).1, mul-le-mul_right (10 ^ j) more)
 
-goes-below : (n k j : ℕ) → k + j ≡ 309 → n < spelled 0 (take k limitDigits) → Misses n k
-goes-below n k j h less =
+goes_below : (n k j : ℕ) → k + j ≡ 309 → n < spelled 0 (take k limit_digits) → Misses n k
+goes_below n k j h less =
     record { missed = λ up down e. subst (λ (x : ℕ). x ≤ LIMIT * 10 ^ down) (sym (shifted (n + 1) j up down (omega arith))) (mul-le-mul_right (10 ^ down) short) }
   where
     short : (n + 1) * 10 ^ j ≤ LIMIT
     short =
-        let more : n + 1 ≤ spelled 0 (take k limitDigits) = omega arith in
-        omega (arith, (limit-cut k j h).0, mul-le-mul_right (10 ^ j) more)
+        let more : n + 1 ≤ spelled 0 (take k limit_digits) = omega arith in
+        omega (arith, (limit_cut k j h).0, mul-le-mul_right (10 ^ j) more)
 
 -- All 309 digits are the limit's.
-is-limit : (n k : ℕ) → 309 ≤ k → n ≡ spelled 0 (take k limitDigits) → n ≡ LIMIT
-is-limit n k h e = e ∙ ap (spelled 0) (take_all k limitDigits (omega (arith, limit-length))) ∙ limit-spelled
+is_limit : (n k : ℕ) → 309 ≤ k → n ≡ spelled 0 (take k limit_digits) → n ≡ LIMIT
+is_limit n k h e = e ∙ ap (spelled 0) (take_all k limit_digits (omega (arith, limit-length))) ∙ limit-spelled
 
-limit-reaches : (n k : ℕ) → k ≡ 309 → n ≡ LIMIT → Reaches n k
-limit-reaches n k h e =
+limit_reaches : (n k : ℕ) → k ≡ 309 → n ≡ LIMIT → Reaches n k
+limit_reaches n k h e =
     record { reached = λ up down u. subst (λ (i : ℕ). LIMIT * 10 ^ down ≤ n * 10 ^ i) (omega arith) (subst (λ (x : ℕ). LIMIT * 10 ^ down ≤ x * 10 ^ down) (sym e) (omega arith)) }
 
-pub compares-above : (k b : ℕ) → Compares Above k b Above
-compares-above k b = record { compares = λ n t o. by o }
+pub compares_above : (k b : ℕ) → Compares Above k b Above
+compares_above k b = record { compares = λ n t o. by o }
   where
     by : {n : ℕ} → Ordered n k Above → Ordered (n * 10 + (b - 48)) (k + 1) Above
-    by (above a) = above (still-above (b - 48) a)
+    by (above a) = above (still_above (b - 48) a)
 
-pub compares-below : (k b : ℕ) → Compares Below k b Below
-compares-below k b = record { compares = λ n t o. by (worth b t) o }
+pub compares_below : (k b : ℕ) → Compares Below k b Below
+compares_below k b = record { compares = λ n t o. by (worth b t) o }
   where
     by : {n : ℕ} → (48 ≤ b) × (b ≤ 57) → Ordered n k Below → Ordered (n * 10 + (b - 48)) (k + 1) Below
-    by w (below a) = below (still-below (b - 48) (omega (arith, w.0, w.1)) a)
+    by w (below a) = below (still_below (b - 48) (omega (arith, w.0, w.1)) a)
 
-pub compares-past : (k b : ℕ) → 309 ≤ k → Compares Equal k b Above
-compares-past k b h = record { compares = λ n t o. by o }
+pub compares_past : (k b : ℕ) → 309 ≤ k → Compares Equal k b Above
+compares_past k b h = record { compares = λ n t o. by o }
   where
     by : {n : ℕ} → Ordered n k Equal → Ordered (n * 10 + (b - 48)) (k + 1) Above
-    by {n} (equal l e) = above (still-above (b - 48) (limit-reaches n k (omega arith) (is-limit n k h e)))
+    by {n} (equal l e) = above (still_above (b - 48) (limit_reaches n k (omega arith) (is_limit n k h e)))
 
 module _ (k b : ℕ) (h : k < 309) where
   abbrev next : ℕ
-  next = get_or limitDigits k 0
+  next = get_or limit_digits k 0
 
-  pub compares-more : next < b → Compares Equal k b Above
-  compares-more less = record { compares = λ n t o. by (worth b t) o }
+  pub compares_more : next < b → Compares Equal k b Above
+  compares_more less = record { compares = λ n t o. by (worth b t) o }
     where
       by : {n : ℕ} → (48 ≤ b) × (b ≤ 57) → Ordered n k Equal → Ordered (n * 10 + (b - 48)) (k + 1) Above
       by {n} w (equal l e) = above (goes_above (n * 10 + (b - 48)) (k + 1) (308 - k) (omega arith) (omega (arith, limit-next k h, w.0, w.1, (worth next (limit-digit k h)).0)))
 
-  pub compares-less : b < next → Compares Equal k b Below
-  compares-less less = record { compares = λ n t o. by (worth b t) o }
+  pub compares_less : b < next → Compares Equal k b Below
+  compares_less less = record { compares = λ n t o. by (worth b t) o }
     where
       by : {n : ℕ} → (48 ≤ b) × (b ≤ 57) → Ordered n k Equal → Ordered (n * 10 + (b - 48)) (k + 1) Below
-      by {n} w (equal l e) = below (goes-below (n * 10 + (b - 48)) (k + 1) (308 - k) (omega arith) (omega (arith, limit-next k h, w.0, w.1, (worth next (limit-digit k h)).0)))
+      by {n} w (equal l e) = below (goes_below (n * 10 + (b - 48)) (k + 1) (308 - k) (omega arith) (omega (arith, limit-next k h, w.0, w.1, (worth next (limit-digit k h)).0)))
 
-  pub compares-same : next ≡ b → Compares Equal k b Equal
-  compares-same same = record { compares = λ n t o. by o }
+  pub compares_same : next ≡ b → Compares Equal k b Equal
+  compares_same same = record { compares = λ n t o. by o }
     where
       by : {n : ℕ} → Ordered n k Equal → Ordered (n * 10 + (b - 48)) (k + 1) Equal
       by {n} (equal l e) =
-          equal (omega arith) (ap (λ (m : ℕ). m * 10 + (b - 48)) e ∙ ap (λ (d : ℕ). spelled 0 (take k limitDigits) * 10 + (d - 48)) (sym same) ∙ sym (limit-next k h))
+          equal (omega arith) (ap (λ (m : ℕ). m * 10 + (b - 48)) e ∙ ap (λ (d : ℕ). spelled 0 (take k limit_digits) * 10 + (d - 48)) (sym same) ∙ sym (limit-next k h))
 
 -- ── What is kept of the digits ────────────────────────────────────────────────────────────────────
 
-pub led-begun : Led 0 (record { count = 0; order = Equal })
+pub led_begun : Led 0 (record { count = 0; order = Equal })
 unfolding spelled
-led-begun = record { size = lit< tt; full = λ h. omega arith; order = equal (omega arith) refl }
+led_begun = record { size = lit< tt; full = λ h. omega arith; order = equal (omega arith) refl }
 
 module _ (l : Lead) (b : ℕ) where
-  pub pushes-none : (b < 48) ⊎ (57 < b) → Pushes l b l
-  pushes-none h = record { step = λ n g. subst (λ (m : ℕ). Led m l) (sym (pushed_none n b h)) g; grows = omega arith }
+  pub pushes_none : (b < 48) ⊎ (57 < b) → Pushes l b l
+  pushes_none h = record { step = λ n g. subst (λ (m : ℕ). Led m l) (sym (pushed_none n b h)) g; grows = omega arith }
 
   -- A zero before all other digits.
-  pub pushes-zero : l.count ≡ 0 → b ≡ 48 → Pushes l b l
-  pushes-zero h z =
+  pub pushes_zero : l.count ≡ 0 → b ≡ 48 → Pushes l b l
+  pushes_zero h z =
       record {
         step = λ n g.
             let nothing : n ≡ 0 = omega (arith, subst (λ (k : ℕ). n < 10 ^ k) h g.size) in
@@ -128,16 +128,16 @@ module _ (l : Lead) (b : ℕ) where
         grows = omega arith;
       }
 
-  pub pushes-digit : (o : Order) → 48 ≤ b → b ≤ 57 → (l.count + (b - 48) ≡ 0 → ⊥) → Compares l.order l.count b o
+  pub pushes_digit : (o : Order) → 48 ≤ b → b ≤ 57 → (l.count + (b - 48) ≡ 0 → ⊥) → Compares l.order l.count b o
       → Pushes l b (record { count = l.count + 1; order = o })
-  pushes-digit o low high some c =
-      record { step = λ n g. subst (λ (m : ℕ). Led m (record { count = l.count + 1; order = o })) (sym (pushed-is n)) (stepped n g); grows = omega arith }
+  pushes_digit o low high some c =
+      record { step = λ n g. subst (λ (m : ℕ). Led m (record { count = l.count + 1; order = o })) (sym (pushed_is n)) (stepped n g); grows = omega arith }
     where
       d : ℕ
       d = b - 48
 
-      pushed-is : (n : ℕ) → pushed n b ≡ n * 10 + d
-      pushed-is n = by (isDigit b) (is_digit b low high)
+      pushed_is : (n : ℕ) → pushed n b ≡ n * 10 + d
+      pushed_is n = by (is_digit b) (is_digit_lem b low high)
         where
           by : (x : Bool) → T x → cond x (n * 10 + d) n ≡ n * 10 + d
           by true t = refl
@@ -152,24 +152,24 @@ module _ (l : Lead) (b : ℕ) where
           record {
             size = omega (arith, g.size, power-next l.count);
             full = λ h. full n l.count g.size g.full some;
-            order = c.compares n (is_digit b low high) g.order;
+            order = c.compares n (is_digit_lem b low high) g.order;
           }
 
 -- ── In the end ────────────────────────────────────────────────────────────────────────────────────
 
 module _ (n k up down : ℕ) (e : k + up ≡ 309 + down) where
-  pub above-reaches : Ordered n k Above → AtLeast n up down
-  above-reaches (above a) = a.reached up down e
+  pub above_reaches : Ordered n k Above → AtLeast n up down
+  above_reaches (above a) = a.reached up down e
 
-  pub below-misses : Ordered n k Below → AtLeast n up down → ⊥
-  below-misses (below a) h = omega (arith, a.missed up down e, h, add-mul n 1 (10 ^ up), power-some up)
+  pub below_misses : Ordered n k Below → AtLeast n up down → ⊥
+  below_misses (below a) h = omega (arith, a.missed up down e, h, add-mul n 1 (10 ^ up), power-some up)
 
-  pub equal-reaches : 309 ≤ k → Ordered n k Equal → AtLeast n up down
-  equal-reaches h (equal l q) = (limit-reaches n k (omega arith) (is-limit n k h q)).reached up down e
+  pub equal_reaches : 309 ≤ k → Ordered n k Equal → AtLeast n up down
+  equal_reaches h (equal l q) = (limit_reaches n k (omega arith) (is_limit n k h q)).reached up down e
 
   -- The limit's last digit is no 0, so fewer digits than it has are not all of it.
-  pub equal-misses : k < 309 → Ordered n k Equal → AtLeast n up down → ⊥
-  equal-misses h (equal l q) a = omega (arith, a, shifted n j up down (omega arith), mul-lt-mul_of_pos_right short (power-some down))
+  pub equal_misses : k < 309 → Ordered n k Equal → AtLeast n up down → ⊥
+  equal_misses h (equal l q) a = omega (arith, a, shifted n j up down (omega arith), mul-lt-mul_of_pos_right short (power-some down))
     where
       j : ℕ
       j = 309 - k
@@ -181,10 +181,10 @@ module _ (n k up down : ℕ) (e : k + up ≡ 309 + down) where
       tens = shifted n i j 1 (omega arith)
 
       apart : n * 10 ^ j ≡ LIMIT → ⊥
-      apart z = omega (arith, sym (mul-mod_left (n * 10 ^ i) 10) ∙ ap (λ (x : ℕ). x % 10) (sym tens ∙ z) ∙ limit-last)
+      apart z = omega (arith, sym (mul-mod_left (n * 10 ^ i) 10) ∙ ap (λ (x : ℕ). x % 10) (sym tens ∙ z) ∙ limit_last)
 
       short : n * 10 ^ j < LIMIT
-      short = omega (arith, subst (λ (m : ℕ). m * 10 ^ j ≤ LIMIT) (sym q) (limit-cut k j (omega arith)).0, apart)
+      short = omega (arith, subst (λ (m : ℕ). m * 10 ^ j ≤ LIMIT) (sym q) (limit_cut k j (omega arith)).0, apart)
 
 -- A number of `count` digits, by its size.
 module _ (l : Lead) (size down : ℕ) where
@@ -192,38 +192,38 @@ module _ (l : Lead) (size down : ℕ) where
       → size ≡ 309 + down → Decides l size down r
   decided f e = record { decides = λ n up over g h. ⊎_elim (λ s. f n up over g (omega arith)) (λ s. absurd (omega (arith, s.0))) h }
 
-  pub decides-zero : l.count ≡ 0 → Decides l size down false
-  decides-zero z =
+  pub decides_zero : l.count ≡ 0 → Decides l size down false
+  decides_zero z =
       record {
         decides = λ n up over g h a.
             let nothing : n ≡ 0 = omega (arith, subst (λ (k : ℕ). n < 10 ^ k) z g.size) in
             none up (down + over) (subst (λ (m : ℕ). AtLeast m up (down + over)) nothing a);
       }
 
-  pub decides-many : (l.count ≡ 0 → ⊥) → 309 + down < size → Decides l size down true
-  decides-many some h =
+  pub decides_many : (l.count ≡ 0 → ⊥) → 309 + down < size → Decides l size down true
+  decides_many some h =
       record {
         decides = λ n up over g e. many n l.count up (down + over) (g.full (omega (arith, some))) (⊎_elim (λ s. omega (arith, s)) (λ s. s.1) e);
       }
 
-  pub decides-few : size < 309 + down → Decides l size down false
-  decides-few h =
+  pub decides_few : size < 309 + down → Decides l size down false
+  decides_few h =
       record {
         decides = λ n up over g e a. few n l.count up (down + over) g.size (⊎_elim (λ s. omega (arith, s)) (λ s. omega (arith, s.0)) e) a;
       }
 
   module _ (e : size ≡ 309 + down) where
     pub decides_above : l.order ≡ Above → Decides l size down true
-    decides_above q = decided (λ n up over g h. above-reaches n l.count up (down + over) h (subst (λ (o : Order). Ordered n l.count o) q g.order)) e
+    decides_above q = decided (λ n up over g h. above_reaches n l.count up (down + over) h (subst (λ (o : Order). Ordered n l.count o) q g.order)) e
 
     pub decides_below : l.order ≡ Below → Decides l size down false
-    decides_below q = decided (λ n up over g h. below-misses n l.count up (down + over) h (subst (λ (o : Order). Ordered n l.count o) q g.order)) e
+    decides_below q = decided (λ n up over g h. below_misses n l.count up (down + over) h (subst (λ (o : Order). Ordered n l.count o) q g.order)) e
 
-    pub decides-equal : l.order ≡ Equal → Decides l size down (leb 309 l.count)
-    decides-equal q = decided (λ n up over g h. by n up over h (leb 309 l.count) (leb→le 309 l.count) (λ t. nleb→lt 309 l.count t)
+    pub decides_equal : l.order ≡ Equal → Decides l size down (leb 309 l.count)
+    decides_equal q = decided (λ n up over g h. by n up over h (leb 309 l.count) (leb→le 309 l.count) (λ t. nleb→lt 309 l.count t)
         (subst (λ (o : Order). Ordered n l.count o) q g.order)) e
       where
         by : (n up over : ℕ) → l.count + up ≡ 309 + (down + over) → (r : Bool) → (T r → 309 ≤ l.count) → (T (not r) → l.count < 309) → Ordered n l.count Equal
             → Says r (AtLeast n up (down + over))
-        by n up over h true f g o = equal-reaches n l.count up (down + over) h (f tt) o
-        by n up over h false f g o = equal-misses n l.count up (down + over) h (g tt) o
+        by n up over h true f g o = equal_reaches n l.count up (down + over) h (f tt) o
+        by n up over h false f g o = equal_misses n l.count up (down + over) h (g tt) o

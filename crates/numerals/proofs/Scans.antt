@@ -13,13 +13,13 @@ use lib.Seq.{take-suc, drop-cons}
 use Rattle.numerals.specs.Value.{before, behind, has}
 use Rattle.numerals.specs.Inner.{Found, Past}
 
-is-eqb : (b x : ℕ) → b ≡ x → T (eqb b x)
-is-eqb b x e = subst (λ (i : ℕ). T (eqb b i)) e (eqb_refl b)
+is_eqb : (b x : ℕ) → b ≡ x → T (eqb b x)
+is_eqb b x e = subst (λ (i : ℕ). T (eqb b i)) e (eqb_refl b)
 
 module _ (x y b : ℕ) (bs : List ℕ) where
   pub before_here : (b ≡ x) ⊎ (b ≡ y) → before x y (b ∷ bs) ≡ []
   unfolding before
-  before_here h = by (eqb b x) (eqb b y) (⊎_elim (λ e. inl (is-eqb b x e)) (λ e. inr (is-eqb b y e)) h)
+  before_here h = by (eqb b x) (eqb b y) (⊎_elim (λ e. inl (is_eqb b x e)) (λ e. inr (is_eqb b y e)) h)
     where
       by : (p q : Bool) → T p ⊎ T q → cond (p || q) [] (b ∷ before x y bs) ≡ []
       by true q t = refl
@@ -28,25 +28,25 @@ module _ (x y b : ℕ) (bs : List ℕ) where
 
   pub behind-here : (b ≡ x) ⊎ (b ≡ y) → behind x y (b ∷ bs) ≡ bs
   unfolding behind
-  behind-here h = by (eqb b x) (eqb b y) (⊎_elim (λ e. inl (is-eqb b x e)) (λ e. inr (is-eqb b y e)) h)
+  behind-here h = by (eqb b x) (eqb b y) (⊎_elim (λ e. inl (is_eqb b x e)) (λ e. inr (is_eqb b y e)) h)
     where
       by : (p q : Bool) → T p ⊎ T q → cond (p || q) bs (behind x y bs) ≡ bs
       by true q t = refl
       by false true t = refl
       by false false t = absurd (⊎_elim (λ u. u) (λ u. u) t)
 
-  pub before-other : (b ≡ x → ⊥) → (b ≡ y → ⊥) → before x y (b ∷ bs) ≡ b ∷ before x y bs
+  pub before_other : (b ≡ x → ⊥) → (b ≡ y → ⊥) → before x y (b ∷ bs) ≡ b ∷ before x y bs
   unfolding before
-  before-other n m = by (eqb b x) (eqb b y) (λ t. n (eqb→eq b x t)) (λ t. m (eqb→eq b y t))
+  before_other n m = by (eqb b x) (eqb b y) (λ t. n (eqb→eq b x t)) (λ t. m (eqb→eq b y t))
     where
       by : (p q : Bool) → (T p → ⊥) → (T q → ⊥) → cond (p || q) [] (b ∷ before x y bs) ≡ b ∷ before x y bs
       by false false f g = refl
       by true q f g = absurd (f tt)
       by false true f g = absurd (g tt)
 
-  pub behind-other : (b ≡ x → ⊥) → (b ≡ y → ⊥) → behind x y (b ∷ bs) ≡ behind x y bs
+  pub behind_other : (b ≡ x → ⊥) → (b ≡ y → ⊥) → behind x y (b ∷ bs) ≡ behind x y bs
   unfolding behind
-  behind-other n m = by (eqb b x) (eqb b y) (λ t. n (eqb→eq b x t)) (λ t. m (eqb→eq b y t))
+  behind_other n m = by (eqb b x) (eqb b y) (λ t. n (eqb→eq b x t)) (λ t. m (eqb→eq b y t))
     where
       by : (p q : Bool) → (T p → ⊥) → (T q → ⊥) → cond (p || q) bs (behind x y bs) ≡ behind x y bs
       by false false f g = refl
@@ -59,25 +59,25 @@ pub record Sought (t : List ℕ) (x y i : ℕ) : Type 0 where
   pub front : before x y t ≡ take i t ++ before x y (drop i t)
   pub rest : behind x y t ≡ behind x y (drop i t)
 
-pub sought-begun : (t : List ℕ) (x y : ℕ) → Sought t x y 0
-sought-begun t x y = record { within = omega arith; front = refl; rest = refl }
+pub sought_begun : (t : List ℕ) (x y : ℕ) → Sought t x y 0
+sought_begun t x y = record { within = omega arith; front = refl; rest = refl }
 
 module _ {t : List ℕ} {x y i : ℕ} (s : Sought t x y i) where
-  pub sought-on : i < length t → (get_or t i 0 ≡ x → ⊥) → (get_or t i 0 ≡ y → ⊥) → Sought t x y (i + 1)
-  sought-on h n m =
+  pub sought_on : i < length t → (get_or t i 0 ≡ x → ⊥) → (get_or t i 0 ≡ y → ⊥) → Sought t x y (i + 1)
+  sought_on h n m =
       let b = get_or t i 0 in
       record {
         within = omega arith;
         front = s.front ∙ ap (λ (l : List ℕ). take i t ++ before x y l) (drop-cons t i 0 h)
-            ∙ ap (λ (l : List ℕ). take i t ++ l) (before-other x y b (drop (suc i) t) n m)
+            ∙ ap (λ (l : List ℕ). take i t ++ l) (before_other x y b (drop (suc i) t) n m)
             ∙ sym (append_assoc (take i t) (b ∷ []) (before x y (drop (suc i) t)))
             ∙ ap (λ (l : List ℕ). l ++ before x y (drop (suc i) t)) (sym (take-suc t i 0 h))
             ∙ ap (λ (j : ℕ). take j t ++ before x y (drop j t)) (sym (add-one i));
-        rest = s.rest ∙ ap (behind x y) (drop-cons t i 0 h) ∙ behind-other x y b (drop (suc i) t) n m ∙ ap (λ (j : ℕ). behind x y (drop j t)) (sym (add-one i));
+        rest = s.rest ∙ ap (behind x y) (drop-cons t i 0 h) ∙ behind_other x y b (drop (suc i) t) n m ∙ ap (λ (j : ℕ). behind x y (drop j t)) (sym (add-one i));
       }
 
-  pub sought-here : i < length t → (get_or t i 0 ≡ x) ⊎ (get_or t i 0 ≡ y) → Found t x y i
-  sought-here h e =
+  pub sought_here : i < length t → (get_or t i 0 ≡ x) ⊎ (get_or t i 0 ≡ y) → Found t x y i
+  sought_here h e =
       let b = get_or t i 0 in
       record {
         within = omega arith;
@@ -86,9 +86,9 @@ module _ {t : List ℕ} {x y i : ℕ} (s : Sought t x y i) where
         rest = ap (λ (j : ℕ). drop j t) (add-one i) ∙ sym (s.rest ∙ ap (behind x y) (drop-cons t i 0 h) ∙ behind-here x y b (drop (suc i) t) e);
       }
 
-  pub sought-all : length t ≤ i → Found t x y i
+  pub sought_all : length t ≤ i → Found t x y i
   unfolding before behind
-  sought-all h =
+  sought_all h =
       let over : drop i t ≡ [] = drop_of_length-le t h in
       record {
         within = s.within;
@@ -112,19 +112,19 @@ has-before x (b ∷ t) = by (eqb b x) (has-before x t)
     by true h = sym (leb-suc-suc 0 (length t) ∙ leb-zero (length t))
     by false h = h ∙ sym (leb-suc-suc (suc (length (before x x t))) (length t))
 
-pub behind-short : (x y : ℕ) (t : List ℕ) → length (behind x y t) ≤ length t
+pub behind_short : (x y : ℕ) (t : List ℕ) → length (behind x y t) ≤ length t
 unfolding behind
-behind-short x y [] = omega arith
-behind-short x y (b ∷ t) = by (eqb b x || eqb b y) (behind-short x y t)
+behind_short x y [] = omega arith
+behind_short x y (b ∷ t) = by (eqb b x || eqb b y) (behind_short x y t)
   where
     by : (p : Bool) → length (behind x y t) ≤ length t → length (cond p t (behind x y t)) ≤ suc (length t)
     by true h = omega arith
     by false h = omega arith
 
-pub before-short : (x y : ℕ) (t : List ℕ) → length (before x y t) ≤ length t
+pub before_short : (x y : ℕ) (t : List ℕ) → length (before x y t) ≤ length t
 unfolding before
-before-short x y [] = omega arith
-before-short x y (b ∷ t) = by (eqb b x || eqb b y) (before-short x y t)
+before_short x y [] = omega arith
+before_short x y (b ∷ t) = by (eqb b x || eqb b y) (before_short x y t)
   where
     by : (p : Bool) → length (before x y t) ≤ length t → length (cond p [] (b ∷ before x y t)) ≤ suc (length t)
     by true h = omega arith

@@ -3,7 +3,7 @@
 use Rattle.std.specs.Prelude.{◌≡◌, Bool, true, false, cond, List, [], ◌∷◌, ◌⊎◌, ℕ, ◌+◌, ◌-◌, ◌*◌, ◌^◌, ◌≤◌, ◌<◌, T, length, take, drop}
 use Prim.Native.Char.{code}
 use Prim.Native.String.{String, [] as nil, ◌∷◌ as ◌then◌}
-use Rattle.numerals.specs.Value.{LIMIT, isDigit, spelled, before, behind, AtLeast}
+use Rattle.numerals.specs.Value.{LIMIT, is_digit, spelled, before, behind, AtLeast}
 use Rattle.numerals.specs.declared.Order.{Order}
 use Rattle.numerals.specs.declared.Order.TheVariants.{Equal, Above, Below}
 use Rattle.numerals.specs.declared.Lead.{Lead}
@@ -13,8 +13,8 @@ ascii nil = []
 ascii (c then s) = code c ∷ ascii s
 
 -- The limit's 309 digits.
-unfoldable pub limitDigits : List ℕ
-limitDigits =
+unfoldable pub limit_digits : List ℕ
+limit_digits =
     ascii
     "179769313486231580793728971405303415079934132710037826936173778980444968292764750946649017977587207096330286416692887910946555547851940402630657488671505820681908902000708383676273854845817711531764475730270069855571366959622842914819860834936475292719074168444365510704342711559699508093042880177904174497792"
 
@@ -27,7 +27,7 @@ pub record Misses (n k : ℕ) : Type 0 where
 
 -- How k digits, which spell n, stand to the limit's first ones.
 pub data Ordered (n k : ℕ) : Order → Type 0 where
-  equal : k ≤ 309 → n ≡ spelled 0 (take k limitDigits) → Ordered n k Equal
+  equal : k ≤ 309 → n ≡ spelled 0 (take k limit_digits) → Ordered n k Equal
   above : Reaches n k → Ordered n k Above
   below : Misses n k → Ordered n k Below
 
@@ -39,10 +39,10 @@ pub record Led (n : ℕ) (l : Lead) : Type 0 where
 
 -- One digit more, and one byte more.
 abbrev pub pushed : ℕ → ℕ → ℕ
-pushed n b = cond (isDigit b) (n * 10 + (b - code "0")) n
+pushed n b = cond (is_digit b) (n * 10 + (b - code "0")) n
 
 pub record Compares (o : Order) (k b : ℕ) (r : Order) : Type 0 where
-  pub compares : (n : ℕ) → T (isDigit b) → Ordered n k o → Ordered (n * 10 + (b - code "0")) (k + 1) r
+  pub compares : (n : ℕ) → T (is_digit b) → Ordered n k o → Ordered (n * 10 + (b - code "0")) (k + 1) r
 
 pub record Pushes (l : Lead) (b : ℕ) (r : Lead) : Type 0 where
   pub step : (n : ℕ) → Led n l → Led (pushed n b) r

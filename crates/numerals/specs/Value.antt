@@ -7,18 +7,18 @@ use Prim.Native.Char.{code}
 unfoldable pub LIMIT : ℕ
 LIMIT = 2 ^ 1024 - 2 ^ 970
 
-abbrev pub isDigit : ℕ → Bool
-isDigit b = leb (code "0") b && leb b (code "9")
+abbrev pub is_digit : ℕ → Bool
+is_digit b = leb (code "0") b && leb b (code "9")
 
 -- R45. The whole number that the digits among these bytes spell, written behind n. Whatever is no digit, as `_` and `.`, is passed over.
 unfoldable pub spelled : ℕ → List ℕ → ℕ
 spelled n [] = n
-spelled n (b ∷ bs) = spelled (cond (isDigit b) (n * 10 + (b - code "0")) n) bs
+spelled n (b ∷ bs) = spelled (cond (is_digit b) (n * 10 + (b - code "0")) n) bs
 
 -- How many digits there are.
 unfoldable pub digits : List ℕ → ℕ
 digits [] = 0
-digits (b ∷ bs) = cond (isDigit b) (1 + digits bs) (digits bs)
+digits (b ∷ bs) = cond (is_digit b) (1 + digits bs) (digits bs)
 
 -- What stands before the first of two bytes, and what stands behind it; all, and nothing, where there is neither.
 unfoldable pub before : ℕ → ℕ → List ℕ → List ℕ
@@ -61,4 +61,4 @@ pub record TooLarge (t : List ℕ) : Type 0 where
 -- The answer of a test for it.
 pub data Verdict (t : List ℕ) : Bool → Type 0 where
   too_large : TooLarge t → Verdict t true
-  in-range : (TooLarge t → ⊥) → Verdict t false
+  in_range : (TooLarge t → ⊥) → Verdict t false

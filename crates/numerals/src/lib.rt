@@ -2,7 +2,7 @@
 ghost use Rattle.std.specs.Prelude.{◌≡◌, ◌+◌, ◌≤◌, ◌<◌, ◌^◌, length};
 ghost use Rattle.numerals.specs.Value.{Verdict, Large, spelled, digits, behind, has};
 ghost use Rattle.numerals.specs.declared.Order.TheVariants.{Equal};
-ghost use Rattle.numerals.specs.Inner.{limitDigits, Says, Led, Pushes, Compares, Decides, Found, Past, Capped, Appends};
+ghost use Rattle.numerals.specs.Inner.{limit_digits, Says, Led, Pushes, Compares, Decides, Found, Past, Capped, Appends};
 
 // 2^1024 - 2^970
 const LIMIT: [u8; 309] = *b"\
@@ -27,7 +27,7 @@ pub(crate) struct Lead {
 
 // Digits that are the limit's so far, with one more.
 fn compare(count: usize, b: u8, limit: &[u8; 309]) -> Order
-    requires { limit.now ≡ limitDigits }
+    requires { limit.now ≡ limit_digits }
     ensures { Compares Equal count b result }
 {
     if 309 <= count {
@@ -45,7 +45,7 @@ fn compare(count: usize, b: u8, limit: &[u8; 309]) -> Order
 
 // What is above or below stays so.
 fn with_digit(order: Order, count: usize, b: u8, limit: &[u8; 309]) -> Order
-    requires { limit.now ≡ limitDigits }
+    requires { limit.now ≡ limit_digits }
     ensures { Compares order count b result }
 {
     match order {
@@ -57,7 +57,7 @@ fn with_digit(order: Order, count: usize, b: u8, limit: &[u8; 309]) -> Order
 
 // With one byte more: a digit, but for zeros before the first other.
 fn push(l: Lead, b: u8, limit: &[u8; 309]) -> Lead
-    requires { (l.count < 2 ^ 63) × (limit.now ≡ limitDigits) }
+    requires { (l.count < 2 ^ 63) × (limit.now ≡ limit_digits) }
     ensures { Pushes l b result }
 {
     if b < b'0' {
@@ -79,7 +79,7 @@ fn push(l: Lead, b: u8, limit: &[u8; 309]) -> Lead
 }
 
 fn leading(text: &[u8], limit: &[u8; 309]) -> Lead
-    requires { limit.now ≡ limitDigits }
+    requires { limit.now ≡ limit_digits }
     ensures { (Led (spelled 0 text.now) result) × (result.count ≤ length text.now) }
 {
     let mut l = Lead {

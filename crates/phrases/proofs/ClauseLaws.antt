@@ -14,15 +14,15 @@ use Rattle.grammar.specs.Trees.{byte, number, span, text, Trees, none, node, cou
 use Rattle.grammar.specs.Image.{image, entry, payload}
 use Rattle.grammar.proofs.ImageLaws.{image-length}
 use Rattle.grammar.specs.Writing.{Wrote}
-use Rattle.grammar.specs.Lexemes.{Lexeme, Said, says, said, rest, kind-of, word_of}
-use Rattle.grammar.specs.Productions.{Phrase, Body, end, goto, ◌▸◌, eat, sub, deep, close, rule, expression, exp-object-iteration, for-clause, pattern, header, iteration, iteration-value, clauses, more-clauses, if-clause, members, next-member, comprehension, Step, array-first, array-comp, elements}
-use Rattle.grammar.specs.Reading.{has, choose, view, production, Outcome, Reading, gone as read-gone}
+use Rattle.grammar.specs.Lexemes.{Lexeme, Said, says, said, rest, kind_of, word_of}
+use Rattle.grammar.specs.Productions.{Phrase, Body, end, goto, ◌▸◌, eat, sub, deep, close, rule, expression, exp_object_iteration, for_clause, pattern, header, iteration, iteration_value, clauses, more_clauses, if_clause, members, next_member, comprehension, Step, array_first, array_comp, elements}
+use Rattle.grammar.specs.Reading.{has, choose, view, production, Outcome, Reading, gone as read_gone}
 use Rattle.grammar.proofs.Chosen.{pick_yes, pick_no}
-use Rattle.leaves.specs.Lexing.{Stands, Moved, Header, header as is-header, off, no-bracket, no_key, not-closed, no-colon, Colons, none_more, one_more, two-more, Past, past, same}
+use Rattle.leaves.specs.Lexing.{Stands, Moved, Header, header as is-header, off, no_bracket, no_key, not_closed, no_colon, Colons, none_more, one_more, two_more, Past, past, same}
 use Rattle.leaves.specs.Meets.{power, State, state, Seg, Breaks, Leads, Takes, Counted, Counts}
-use Rattle.leaves.proofs.LexemeLaws.{lies, Sees, sees, sees-next, sight, seen, name-says, moved-once}
-use Rattle.leaves.proofs.PartLaws.{wrote-lent}
-use Rattle.leaves.proofs.LeafLaws.{moved-past}
+use Rattle.leaves.proofs.LexemeLaws.{lies, Sees, sees, sees_next, sight, seen, name_says, moved_once}
+use Rattle.leaves.proofs.PartLaws.{wrote_lent}
+use Rattle.leaves.proofs.LeafLaws.{moved_past}
 use Rattle.leaves.specs.contracts.Answer.{the_type}
 use Rattle.leaves.proofs.Steps
 use Rattle.leaves.specs.declared.Cursor.{Cursor}
@@ -32,12 +32,12 @@ use Rattle.leaves.specs.declared.Answer.TheVariants.{Done, Broken}
 
 -- ── Tests ─────────────────────────────────────────────────────────────────────────────────────────
 
-no-left : (a b : Bool) → a ≡ false → a && b ≡ false
-no-left a b e = ap (λ (x : Bool). x && b) e
+no_left : (a b : Bool) → a ≡ false → a && b ≡ false
+no_left a b e = ap (λ (x : Bool). x && b) e
 
-no-right : (a b : Bool) → b ≡ false → a && b ≡ false
-no-right true b e = e
-no-right false b e = refl
+no_right : (a b : Bool) → b ≡ false → a && b ≡ false
+no_right true b e = e
+no_right false b e = refl
 
 both : (a b : Bool) → a ≡ true → b ≡ true → a && b ≡ true
 both a b e f = ap (λ (x : Bool). x && b) e ∙ f
@@ -45,56 +45,56 @@ both a b e f = ap (λ (x : Bool). x && b) e ∙ f
 is : (n k : ℕ) {m : ℕ} → n ≡ m → m ≡ k → eqb n k ≡ true
 is n k e f = eq-eqb n k (e ∙ f)
 
-is-not : (n k : ℕ) {m : ℕ} → n ≡ m → (m ≡ k → ⊥) → eqb n k ≡ false
-is-not n k e f = ne_eqb n k (λ h. f (sym e ∙ h))
+is_not : (n k : ℕ) {m : ℕ} → n ≡ m → (m ≡ k → ⊥) → eqb n k ≡ false
+is_not n k e f = ne_eqb n k (λ h. f (sym e ∙ h))
 
 -- ── The header of an object iteration ─────────────────────────────────────────────────────────────
 
 -- four kinds, where the setting has object iteration
 abbrev four : ℕ → List Lexeme → Bool
-four g xs = eqb (kind-of xs) 23 && eqb (kind-of (rest xs)) 55 && eqb (kind-of (rest (rest xs))) 24 && eqb (kind-of (rest (rest (rest xs)))) 29 && has g exp-object-iteration
+four g xs = eqb (kind_of xs) 23 && eqb (kind_of (rest xs)) 55 && eqb (kind_of (rest (rest xs))) 24 && eqb (kind_of (rest (rest (rest xs)))) 29 && has g exp_object_iteration
 
-not-four : {g : ℕ} {s : List ℕ} {c : Cursor} {r : ℕ} {xs : List Lexeme} → Header g s c r → ¬ (r ≡ 1) → Sees s c xs → four g xs ≡ false
-not-four {xs = xs} (is-header _ _ _ _ _ _ _ _) h y = absurd (h refl)
-not-four {g} {xs = xs} (off e) h y =
-    no-right (eqb (kind-of xs) 23 && eqb (kind-of (rest xs)) 55 && eqb (kind-of (rest (rest xs))) 24 && eqb (kind-of (rest (rest (rest xs)))) 29) (has g exp-object-iteration) e
-not-four {g} {xs = xs} (no-bracket e) h y =
-    no-left (eqb (kind-of xs) 23 && eqb (kind-of (rest xs)) 55 && eqb (kind-of (rest (rest xs))) 24 && eqb (kind-of (rest (rest (rest xs)))) 29) (has g exp-object-iteration)
-    (no-left (eqb (kind-of xs) 23 && eqb (kind-of (rest xs)) 55 && eqb (kind-of (rest (rest xs))) 24) (eqb (kind-of (rest (rest (rest xs)))) 29)
-    (no-left (eqb (kind-of xs) 23 && eqb (kind-of (rest xs)) 55) (eqb (kind-of (rest (rest xs))) 24)
-    (no-left (eqb (kind-of xs) 23) (eqb (kind-of (rest xs)) 55) (is-not (kind-of xs) 23 y.kind e))))
-not-four {g} {xs = xs} (no_key m e) h y =
-    no-left (eqb (kind-of xs) 23 && eqb (kind-of (rest xs)) 55 && eqb (kind-of (rest (rest xs))) 24 && eqb (kind-of (rest (rest (rest xs)))) 29) (has g exp-object-iteration)
-    (no-left (eqb (kind-of xs) 23 && eqb (kind-of (rest xs)) 55 && eqb (kind-of (rest (rest xs))) 24) (eqb (kind-of (rest (rest (rest xs)))) 29)
-    (no-left (eqb (kind-of xs) 23 && eqb (kind-of (rest xs)) 55) (eqb (kind-of (rest (rest xs))) 24)
-    (no-right (eqb (kind-of xs) 23) (eqb (kind-of (rest xs)) 55) (is-not (kind-of (rest xs)) 55 (sees-next y m).kind e))))
-not-four {g} {xs = xs} (not-closed m m₁ e) h y =
-    no-left (eqb (kind-of xs) 23 && eqb (kind-of (rest xs)) 55 && eqb (kind-of (rest (rest xs))) 24 && eqb (kind-of (rest (rest (rest xs)))) 29) (has g exp-object-iteration)
-    (no-left (eqb (kind-of xs) 23 && eqb (kind-of (rest xs)) 55 && eqb (kind-of (rest (rest xs))) 24) (eqb (kind-of (rest (rest (rest xs)))) 29)
-    (no-right (eqb (kind-of xs) 23 && eqb (kind-of (rest xs)) 55) (eqb (kind-of (rest (rest xs))) 24)
-    (is-not (kind-of (rest (rest xs))) 24 (sees-next (sees-next y m) m₁).kind e)))
-not-four {g} {xs = xs} (no-colon m m₁ m₂ e) h y =
-    no-left (eqb (kind-of xs) 23 && eqb (kind-of (rest xs)) 55 && eqb (kind-of (rest (rest xs))) 24 && eqb (kind-of (rest (rest (rest xs)))) 29) (has g exp-object-iteration)
-    (no-right (eqb (kind-of xs) 23 && eqb (kind-of (rest xs)) 55 && eqb (kind-of (rest (rest xs))) 24) (eqb (kind-of (rest (rest (rest xs)))) 29)
-    (is-not (kind-of (rest (rest (rest xs)))) 29 (sees-next (sees-next (sees-next y m) m₁) m₂).kind e))
+not_four : {g : ℕ} {s : List ℕ} {c : Cursor} {r : ℕ} {xs : List Lexeme} → Header g s c r → ¬ (r ≡ 1) → Sees s c xs → four g xs ≡ false
+not_four {xs = xs} (is-header _ _ _ _ _ _ _ _) h y = absurd (h refl)
+not_four {g} {xs = xs} (off e) h y =
+    no_right (eqb (kind_of xs) 23 && eqb (kind_of (rest xs)) 55 && eqb (kind_of (rest (rest xs))) 24 && eqb (kind_of (rest (rest (rest xs)))) 29) (has g exp_object_iteration) e
+not_four {g} {xs = xs} (no_bracket e) h y =
+    no_left (eqb (kind_of xs) 23 && eqb (kind_of (rest xs)) 55 && eqb (kind_of (rest (rest xs))) 24 && eqb (kind_of (rest (rest (rest xs)))) 29) (has g exp_object_iteration)
+    (no_left (eqb (kind_of xs) 23 && eqb (kind_of (rest xs)) 55 && eqb (kind_of (rest (rest xs))) 24) (eqb (kind_of (rest (rest (rest xs)))) 29)
+    (no_left (eqb (kind_of xs) 23 && eqb (kind_of (rest xs)) 55) (eqb (kind_of (rest (rest xs))) 24)
+    (no_left (eqb (kind_of xs) 23) (eqb (kind_of (rest xs)) 55) (is_not (kind_of xs) 23 y.kind e))))
+not_four {g} {xs = xs} (no_key m e) h y =
+    no_left (eqb (kind_of xs) 23 && eqb (kind_of (rest xs)) 55 && eqb (kind_of (rest (rest xs))) 24 && eqb (kind_of (rest (rest (rest xs)))) 29) (has g exp_object_iteration)
+    (no_left (eqb (kind_of xs) 23 && eqb (kind_of (rest xs)) 55 && eqb (kind_of (rest (rest xs))) 24) (eqb (kind_of (rest (rest (rest xs)))) 29)
+    (no_left (eqb (kind_of xs) 23 && eqb (kind_of (rest xs)) 55) (eqb (kind_of (rest (rest xs))) 24)
+    (no_right (eqb (kind_of xs) 23) (eqb (kind_of (rest xs)) 55) (is_not (kind_of (rest xs)) 55 (sees_next y m).kind e))))
+not_four {g} {xs = xs} (not_closed m m₁ e) h y =
+    no_left (eqb (kind_of xs) 23 && eqb (kind_of (rest xs)) 55 && eqb (kind_of (rest (rest xs))) 24 && eqb (kind_of (rest (rest (rest xs)))) 29) (has g exp_object_iteration)
+    (no_left (eqb (kind_of xs) 23 && eqb (kind_of (rest xs)) 55 && eqb (kind_of (rest (rest xs))) 24) (eqb (kind_of (rest (rest (rest xs)))) 29)
+    (no_right (eqb (kind_of xs) 23 && eqb (kind_of (rest xs)) 55) (eqb (kind_of (rest (rest xs))) 24)
+    (is_not (kind_of (rest (rest xs))) 24 (sees_next (sees_next y m) m₁).kind e)))
+not_four {g} {xs = xs} (no_colon m m₁ m₂ e) h y =
+    no_left (eqb (kind_of xs) 23 && eqb (kind_of (rest xs)) 55 && eqb (kind_of (rest (rest xs))) 24 && eqb (kind_of (rest (rest (rest xs)))) 29) (has g exp_object_iteration)
+    (no_right (eqb (kind_of xs) 23 && eqb (kind_of (rest xs)) 55 && eqb (kind_of (rest (rest xs))) 24) (eqb (kind_of (rest (rest (rest xs)))) 29)
+    (is_not (kind_of (rest (rest (rest xs)))) 29 (sees_next (sees_next (sees_next y m) m₁) m₂).kind e))
 
 -- a clause over a pattern
-abbrev pub over-pattern : Body
-over-pattern = sub pattern ▸ eat 76 ▸ expression ▸ close 33 [] ▸ end
+abbrev pub over_pattern : Body
+over_pattern = sub pattern ▸ eat 76 ▸ expression ▸ close 33 [] ▸ end
 
-plain-production : (g p n : ℕ) (xs : List Lexeme) → four g xs ≡ false → production (power g) g for-clause p xs n ≡ over-pattern
+plain-production : (g p n : ℕ) (xs : List Lexeme) → four g xs ≡ false → production (power g) g for_clause p xs n ≡ over_pattern
 unfolding production choose rule view
-plain-production g p n xs e = pick_no (four g xs) (deep header ▸ goto (iteration (said (word_of (rest xs))))) over-pattern e
+plain-production g p n xs e = pick_no (four g xs) (deep header ▸ goto (iteration (said (word_of (rest xs))))) over_pattern e
 
-pub plain-clause : {g : ℕ} {s : List ℕ} {d : ℕ} {from : State} {n e v w r : ℕ} {c : Cursor} {o : List ℕ} → Stands s c → Header g s c r → ¬ (r ≡ 1)
-    → Seg g s d from e v (state (goto for-clause) n c w o) → Seg g s d from e v (state over-pattern n c w o)
-plain-clause {g} {n = n} {c = c} st h i p = Steps.goes over-pattern st (λ xs y. plain-production g c.at n xs (not-four h i y)) p
+pub plain_clause : {g : ℕ} {s : List ℕ} {d : ℕ} {from : State} {n e v w r : ℕ} {c : Cursor} {o : List ℕ} → Stands s c → Header g s c r → ¬ (r ≡ 1)
+    → Seg g s d from e v (state (goto for_clause) n c w o) → Seg g s d from e v (state over_pattern n c w o)
+plain_clause {g} {n = n} {c = c} st h i p = Steps.goes over_pattern st (λ xs y. plain-production g c.at n xs (not_four h i y)) p
 
 -- ── Object iteration ──────────────────────────────────────────────────────────────────────────────
 
 -- what stands at a header
 pub record Heads (g : ℕ) (c key bracket colon : Cursor) : Type 0 where
-  pub on : has g exp-object-iteration ≡ true
+  pub on : has g exp_object_iteration ≡ true
   pub first : c.kind ≡ 23
   pub second : key.kind ≡ 55
   pub third : bracket.kind ≡ 24
@@ -102,9 +102,9 @@ pub record Heads (g : ℕ) (c key bracket colon : Cursor) : Type 0 where
 
 pub heads : {g : ℕ} {s : List ℕ} {c key bracket colon : Cursor} → Header g s c 1 → Moved s c key → Moved s key bracket → Moved s bracket colon → Heads g c key bracket colon
 heads {g} {s} {c} {key} {bracket} {colon} (is-header {c₁ = c₁} {c₂ = c₂} {c₃ = c₃} h k m k₁ m₁ k₂ m₂ k₃) n n₁ n₂ =
-    let e : c₁ ≡ key = moved-once m n in
-    let e₁ : c₂ ≡ bracket = moved-once (subst (λ (x : Cursor). Moved s x c₂) e m₁) n₁ in
-    let e₂ : c₃ ≡ colon = moved-once (subst (λ (x : Cursor). Moved s x c₃) e₁ m₂) n₂ in
+    let e : c₁ ≡ key = moved_once m n in
+    let e₁ : c₂ ≡ bracket = moved_once (subst (λ (x : Cursor). Moved s x c₂) e m₁) n₁ in
+    let e₂ : c₃ ≡ colon = moved_once (subst (λ (x : Cursor). Moved s x c₃) e₁ m₂) n₂ in
     record {
       on = h;
       first = k;
@@ -113,32 +113,32 @@ heads {g} {s} {c} {key} {bracket} {colon} (is-header {c₁ = c₁} {c₂ = c₂}
       fourth = subst (λ (x : Cursor). x.kind ≡ 29) e₂ k₃;
     }
 
-is-four : {g : ℕ} {s : List ℕ} {c key bracket colon : Cursor} {xs : List Lexeme} → Heads g c key bracket colon → Moved s c key → Moved s key bracket → Moved s bracket colon → Sees s c xs
+is_four : {g : ℕ} {s : List ℕ} {c key bracket colon : Cursor} {xs : List Lexeme} → Heads g c key bracket colon → Moved s c key → Moved s key bracket → Moved s bracket colon → Sees s c xs
     → four g xs ≡ true
-is-four {g} {xs = xs} h m m₁ m₂ y =
-    both (eqb (kind-of xs) 23 && eqb (kind-of (rest xs)) 55 && eqb (kind-of (rest (rest xs))) 24 && eqb (kind-of (rest (rest (rest xs)))) 29) (has g exp-object-iteration)
-    (both (eqb (kind-of xs) 23 && eqb (kind-of (rest xs)) 55 && eqb (kind-of (rest (rest xs))) 24) (eqb (kind-of (rest (rest (rest xs)))) 29)
-    (both (eqb (kind-of xs) 23 && eqb (kind-of (rest xs)) 55) (eqb (kind-of (rest (rest xs))) 24)
-    (both (eqb (kind-of xs) 23) (eqb (kind-of (rest xs)) 55) (is (kind-of xs) 23 y.kind h.first) (is (kind-of (rest xs)) 55 (sees-next y m).kind h.second))
-    (is (kind-of (rest (rest xs))) 24 (sees-next (sees-next y m) m₁).kind h.third))
-    (is (kind-of (rest (rest (rest xs)))) 29 (sees-next (sees-next (sees-next y m) m₁) m₂).kind h.fourth))
+is_four {g} {xs = xs} h m m₁ m₂ y =
+    both (eqb (kind_of xs) 23 && eqb (kind_of (rest xs)) 55 && eqb (kind_of (rest (rest xs))) 24 && eqb (kind_of (rest (rest (rest xs)))) 29) (has g exp_object_iteration)
+    (both (eqb (kind_of xs) 23 && eqb (kind_of (rest xs)) 55 && eqb (kind_of (rest (rest xs))) 24) (eqb (kind_of (rest (rest (rest xs)))) 29)
+    (both (eqb (kind_of xs) 23 && eqb (kind_of (rest xs)) 55) (eqb (kind_of (rest (rest xs))) 24)
+    (both (eqb (kind_of xs) 23) (eqb (kind_of (rest xs)) 55) (is (kind_of xs) 23 y.kind h.first) (is (kind_of (rest xs)) 55 (sees_next y m).kind h.second))
+    (is (kind_of (rest (rest xs))) 24 (sees_next (sees_next y m) m₁).kind h.third))
+    (is (kind_of (rest (rest (rest xs)))) 29 (sees_next (sees_next (sees_next y m) m₁) m₂).kind h.fourth))
     h.on
 
 -- a clause over an object
-abbrev pub over-object : List ℕ → Body
-over-object key = deep header ▸ goto (iteration key)
+abbrev pub over_object : List ℕ → Body
+over_object key = deep header ▸ goto (iteration key)
 
-header-production : (g p n : ℕ) (xs : List Lexeme) (key : List ℕ) → four g xs ≡ true → word_of (rest xs) ≡ says key → production (power g) g for-clause p xs n ≡ over-object key
+header_production : (g p n : ℕ) (xs : List Lexeme) (key : List ℕ) → four g xs ≡ true → word_of (rest xs) ≡ says key → production (power g) g for_clause p xs n ≡ over_object key
 unfolding production choose rule view said
-header-production g p n xs key e f = pick_yes (four g xs) (over-object (said (word_of (rest xs)))) over-pattern e ∙ ap (λ (w : Said). over-object (said w)) f
+header_production g p n xs key e f = pick_yes (four g xs) (over_object (said (word_of (rest xs)))) over_pattern e ∙ ap (λ (w : Said). over_object (said w)) f
 
-pub header-clause : {g : ℕ} {s : List ℕ} {d : ℕ} {from : State} {n e v w : ℕ} {c key bracket colon : Cursor} {o : List ℕ} → Stands s c → Heads g c key bracket colon
-    → Moved s c key → Moved s key bracket → Moved s bracket colon → Seg g s d from e v (state (goto for-clause) n c w o)
-    → Seg g s d from e v (state (over-object (slice key.start key.end s)) n c w o)
-header-clause {g} {s} {n = n} {c = c} {key = key} st h m m₁ m₂ p =
+pub header_clause : {g : ℕ} {s : List ℕ} {d : ℕ} {from : State} {n e v w : ℕ} {c key bracket colon : Cursor} {o : List ℕ} → Stands s c → Heads g c key bracket colon
+    → Moved s c key → Moved s key bracket → Moved s bracket colon → Seg g s d from e v (state (goto for_clause) n c w o)
+    → Seg g s d from e v (state (over_object (slice key.start key.end s)) n c w o)
+header_clause {g} {s} {n = n} {c = c} {key = key} st h m m₁ m₂ p =
     let name = slice key.start key.end s in
-    Steps.goes (over-object name) st
-    (λ xs y. header-production g c.at n xs name (is-four h m m₁ m₂ y) (name-says h.second ((sees-next y m).says (λ z. omega (arith, h.second, z))))) p
+    Steps.goes (over_object name) st
+    (λ xs y. header_production g c.at n xs name (is_four h m m₁ m₂ y) (name_says h.second ((sees_next y m).says (λ z. omega (arith, h.second, z))))) p
 
 -- bytes counted anew
 pub repaid : {g : ℕ} {s : List ℕ} {d : ℕ} {from to : State} {e v : ℕ} (e₁ v₁ : ℕ) → from.cursor.at + e₁ ≤ to.cursor.at
@@ -158,43 +158,43 @@ repaid e₁ v₁ h i p =
     }
 
 -- the colons of an object iteration
-colons-three : (g p n : ℕ) (xs : List Lexeme) (key : List ℕ) → eqb (kind-of xs) 29 ≡ true → eqb (kind-of (rest xs)) 29 ≡ true → eqb (kind-of (rest (rest xs))) 29 ≡ true
-    → production (power g) g (iteration key) p xs n ≡ eat 29 ▸ eat 29 ▸ eat 29 ▸ goto (iteration-value 2 key)
+colons_three : (g p n : ℕ) (xs : List Lexeme) (key : List ℕ) → eqb (kind_of xs) 29 ≡ true → eqb (kind_of (rest xs)) 29 ≡ true → eqb (kind_of (rest (rest xs))) 29 ≡ true
+    → production (power g) g (iteration key) p xs n ≡ eat 29 ▸ eat 29 ▸ eat 29 ▸ goto (iteration_value 2 key)
 unfolding production choose rule view has
-colons-three g p n xs key a b e = rw (a, b, e) refl
+colons_three g p n xs key a b e = rw (a, b, e) refl
 
-colons-two : (g p n : ℕ) (xs : List Lexeme) (key : List ℕ) → eqb (kind-of xs) 29 ≡ true → eqb (kind-of (rest xs)) 29 ≡ true → eqb (kind-of (rest (rest xs))) 29 ≡ false
-    → production (power g) g (iteration key) p xs n ≡ eat 29 ▸ eat 29 ▸ goto (iteration-value 1 key)
+colons_two : (g p n : ℕ) (xs : List Lexeme) (key : List ℕ) → eqb (kind_of xs) 29 ≡ true → eqb (kind_of (rest xs)) 29 ≡ true → eqb (kind_of (rest (rest xs))) 29 ≡ false
+    → production (power g) g (iteration key) p xs n ≡ eat 29 ▸ eat 29 ▸ goto (iteration_value 1 key)
 unfolding production choose rule view has
-colons-two g p n xs key a b e = rw (a, b, e) refl
+colons_two g p n xs key a b e = rw (a, b, e) refl
 
-colons-one : (g p n : ℕ) (xs : List Lexeme) (key : List ℕ) → eqb (kind-of xs) 29 ≡ true → eqb (kind-of (rest xs)) 29 ≡ false
-    → production (power g) g (iteration key) p xs n ≡ eat 29 ▸ goto (iteration-value 0 key)
+colons_one : (g p n : ℕ) (xs : List Lexeme) (key : List ℕ) → eqb (kind_of xs) 29 ≡ true → eqb (kind_of (rest xs)) 29 ≡ false
+    → production (power g) g (iteration key) p xs n ≡ eat 29 ▸ goto (iteration_value 0 key)
 unfolding production choose rule view has
-colons-one g p n xs key a b = rw (a, b) refl
+colons_one g p n xs key a b = rw (a, b) refl
 
 pub iterated : {g : ℕ} {s : List ℕ} {d n w v : ℕ} {colon c₀ c₁ : Cursor} {o key : List ℕ} → Stands s colon → colon.kind ≡ 29 → Moved s colon c₀ → Colons s c₀ v c₁
-    → Seg g s d (state (goto (iteration key)) n colon w o) 1 0 (state (goto (iteration-value v key)) n c₁ w o)
+    → Seg g s d (state (goto (iteration key)) n colon w o) 1 0 (state (goto (iteration_value v key)) n c₁ w o)
 iterated {g} {n = n} {colon = colon} {key = key} st k m (none_more h) =
     Steps.taken (omega arith) st m k
-    (Steps.goes (eat 29 ▸ goto (iteration-value 0 key)) st
-    (λ xs y. colons-one g colon.at n xs key (is (kind-of xs) 29 y.kind k) (is-not (kind-of (rest xs)) 29 (sees-next y m).kind h)) Steps.here)
+    (Steps.goes (eat 29 ▸ goto (iteration_value 0 key)) st
+    (λ xs y. colons_one g colon.at n xs key (is (kind_of xs) 29 y.kind k) (is_not (kind_of (rest xs)) 29 (sees_next y m).kind h)) Steps.here)
 iterated {g} {n = n} {colon = colon} {key = key} st k m (one_more k₁ m₁ h) =
     let q =
     Steps.taken (omega arith) m.stands m₁ k₁
     (Steps.taken (omega arith) st m k
-    (Steps.goes (eat 29 ▸ eat 29 ▸ goto (iteration-value 1 key)) st
-    (λ xs y. colons-two g colon.at n xs key (is (kind-of xs) 29 y.kind k) (is (kind-of (rest xs)) 29 (sees-next y m).kind k₁)
-    (is-not (kind-of (rest (rest xs))) 29 (sees-next (sees-next y m) m₁).kind h)) Steps.here)) in
+    (Steps.goes (eat 29 ▸ eat 29 ▸ goto (iteration_value 1 key)) st
+    (λ xs y. colons_two g colon.at n xs key (is (kind_of xs) 29 y.kind k) (is (kind_of (rest xs)) 29 (sees_next y m).kind k₁)
+    (is_not (kind_of (rest (rest xs))) 29 (sees_next (sees_next y m) m₁).kind h)) Steps.here)) in
     repaid 1 0 (omega (arith, q.onward)) (omega (arith, q.credit)) q
-iterated {g} {n = n} {colon = colon} {key = key} st k m (two-more k₁ m₁ k₂ m₂) =
+iterated {g} {n = n} {colon = colon} {key = key} st k m (two_more k₁ m₁ k₂ m₂) =
     let q =
     Steps.taken (omega arith) m₁.stands m₂ k₂
     (Steps.taken (omega arith) m.stands m₁ k₁
     (Steps.taken (omega arith) st m k
-    (Steps.goes (eat 29 ▸ eat 29 ▸ eat 29 ▸ goto (iteration-value 2 key)) st
-    (λ xs y. colons-three g colon.at n xs key (is (kind-of xs) 29 y.kind k) (is (kind-of (rest xs)) 29 (sees-next y m).kind k₁)
-    (is (kind-of (rest (rest xs))) 29 (sees-next (sees-next y m) m₁).kind k₂)) Steps.here))) in
+    (Steps.goes (eat 29 ▸ eat 29 ▸ eat 29 ▸ goto (iteration_value 2 key)) st
+    (λ xs y. colons_three g colon.at n xs key (is (kind_of xs) 29 y.kind k) (is (kind_of (rest xs)) 29 (sees_next y m).kind k₁)
+    (is (kind_of (rest (rest xs))) 29 (sees_next (sees_next y m) m₁).kind k₂)) Steps.here))) in
     repaid 1 0 (omega (arith, q.onward)) (omega (arith, q.credit)) q
 
 -- the header, one level deeper
@@ -209,14 +209,14 @@ header_read st h m m₁ m₂ =
 -- all up to the pattern: it pays for the key
 pub iterates : {g : ℕ} {s : List ℕ} {d w v : ℕ} {c key bracket colon c₀ c₁ : Cursor} {o : List ℕ} → ¬ (d ≡ 0) → Stands s c → Header g s c 1 → Moved s c key → Moved s key bracket
     → Moved s bracket colon → Moved s colon c₀ → Colons s c₀ v c₁
-    → Seg g s d (state (goto for-clause) 0 c w o) (key.end - key.start + 1) 0
+    → Seg g s d (state (goto for_clause) 0 c w o) (key.end - key.start + 1) 0
     (state (sub pattern ▸ eat 76 ▸ expression ▸ close 35 (byte v ∷ text (slice key.start key.end s) ∷ []) ▸ end) 0 c₁ w o)
 unfolding rule choose sight
 iterates {g} {s} {d} {w} {v} {c} {key} {bracket} {colon} {c₁ = c₁} {o} h st i m m₁ m₂ m₃ z =
     let hs = heads i m m₁ m₂ in
     let name = slice key.start key.end s in
     let inner = Steps.ends {k = 0} (omega arith) (header_read {d = d - 1} {w = w} {o = o} st hs m m₁ m₂) in
-    let outer = Steps.took (Steps.as-deep h inner) refl (header-clause {d = d} st hs m m₁ m₂ (Steps.at g s d (goto for-clause) 0 c w o)) in
+    let outer = Steps.took (Steps.as_deep h inner) refl (header_clause {d = d} st hs m m₁ m₂ (Steps.at g s d (goto for_clause) 0 c w o)) in
     let tail = iterated {g = g} {s = s} {d = d} {n = 0} {w = w} {o = o} {key = name} m₂.stands hs.fourth m₃ z in
     let last = tail.stands m₂.stands in
     let whole = Steps.known (sub pattern ▸ eat 76 ▸ expression ▸ close 35 (byte v ∷ text name ∷ []) ▸ end) last refl (λ xs t. refl) (Steps.onto outer tail) in
@@ -226,27 +226,27 @@ iterates {g} {s} {d} {w} {v} {c} {key} {bracket} {colon} {c₁ = c₁} {o} h st 
     let far : c.at + (key.end - key.start + 1) ≤ c₁.at = omega (arith, l.from, l.on, m.at, l₁.from, l₁.on, m₁.at, l₂.from, l₂.on, m₂.at, tail.onward) in
     repaid (key.end - key.start + 1) 0 far (omega (arith, far)) whole
 
-key-size : (s : List ℕ) (a e v : ℕ) → e ≤ length s → length (entry 35 (byte v ∷ text (slice a e s) ∷ [])) ≤ 4 + (e - a)
+key_size : (s : List ℕ) (a e v : ℕ) → e ≤ length s → length (entry 35 (byte v ∷ text (slice a e s) ∷ [])) ≤ 4 + (e - a)
 unfolding entry payload
-key-size s a e v h = omega (arith, length-slice a e s h)
+key_size s a e v h = omega (arith, length-slice a e s h)
 
 -- its record
-pub iteration-closed : {g : ℕ} {s : List ℕ} {d n w w₁ : ℕ} {from : State} {c : Cursor} {o o₁ : List ℕ} (a e v : ℕ) → e ≤ length s
+pub iteration_closed : {g : ℕ} {s : List ℕ} {d n w w₁ : ℕ} {from : State} {c : Cursor} {o o₁ : List ℕ} (a e v : ℕ) → e ≤ length s
     → Wrote o w (entry 35 (byte v ∷ text (take (e - a) (drop a s)) ∷ [])) w₁ o₁
     → Seg g s d from (e - a + 1 + 1) 0 (state (close 35 (byte v ∷ text (slice a e s) ∷ []) ▸ end) n c w o) → Seg g s d from 0 0 (state end 1 c w₁ o₁)
-iteration-closed {s = s} a e v h u p =
-    Steps.settled 0 (omega arith) (Steps.closed (4 + (e - a)) (key-size s a e v h) (wrote-lent 35 (λ (l : List ℕ). byte v ∷ text l ∷ []) s a e u) p)
+iteration_closed {s = s} a e v h u p =
+    Steps.settled 0 (omega arith) (Steps.closed (4 + (e - a)) (key_size s a e v h) (wrote_lent 35 (λ (l : List ℕ). byte v ∷ text l ∷ []) s a e u) p)
 
 -- no level is left for a header
-pub too-deep-clause : {g : ℕ} {s : List ℕ} {d n w u k : ℕ} {b : Body} {c : Cursor} {o o₁ : List ℕ} {a : Answer} → d ≡ 0 → Stands s c → Header g s c 1
-    → a ≡ Broken (record { number = 11; place = c; detail = 0 }) → Leads g s d (state (goto for-clause) n c w o) u b k a o₁
-too-deep-clause e st (is-header h k m k₁ m₁ k₂ m₂ k₃) q =
-    Steps.broke (Steps.breaks-on (Steps.too-deep e st) (header-clause st (heads (is-header h k m k₁ m₁ k₂ m₂ k₃) m m₁ m₂) m m₁ m₂ Steps.here)) q
+pub too_deep_clause : {g : ℕ} {s : List ℕ} {d n w u k : ℕ} {b : Body} {c : Cursor} {o o₁ : List ℕ} {a : Answer} → d ≡ 0 → Stands s c → Header g s c 1
+    → a ≡ Broken (record { number = 11; place = c; detail = 0 }) → Leads g s d (state (goto for_clause) n c w o) u b k a o₁
+too_deep_clause e st (is-header h k m k₁ m₁ k₂ m₂ k₃) q =
+    Steps.broke (Steps.breaks_on (Steps.too_deep e st) (header_clause st (heads (is-header h k m k₁ m₁ k₂ m₂ k₃) m m₁ m₂) m m₁ m₂ Steps.here)) q
 
 -- ── Clauses ───────────────────────────────────────────────────────────────────────────────────────
 
 ungone : {g d : ℕ} {q : Phrase} {ts : Trees} {p : ℕ} {xs : List Lexeme} {o : Outcome} → Reading (power g) g (goto q) ts d p xs o → Reading (power g) g (production (power g) g q p xs (size ts)) ts d p xs o
-ungone (read-gone r) = r
+ungone (read_gone r) = r
 
 -- two phrases that are the same here
 same_here : {g : ℕ} {s : List ℕ} {d : ℕ} {from : State} {q q₁ : Phrase} {n e v w : ℕ} {c : Cursor} {o : List ℕ} → Stands s c
@@ -265,7 +265,7 @@ same_here {g} {s} {d} {q = q} {q₁} {n} {c = c} st f p =
           record {
             left = r.left;
             kept = r.kept;
-            back = λ o x. r.back o (read-gone (subst⁻¹ (λ (m : ℕ). there (production (power g) g q c.at r.left m) o) (p.counted ts z)
+            back = λ o x. r.back o (read_gone (subst⁻¹ (λ (m : ℕ). there (production (power g) g q c.at r.left m) o) (p.counted ts z)
                 (subst⁻¹ (λ (m : Body). there m o) (f r.left y) (subst (λ (m : ℕ). there (production (power g) g q₁ c.at r.left m) o) (p.counted ts z) (ungone x)))));
           };
       stored = p.stored;
@@ -275,93 +275,93 @@ same_here {g} {s} {d} {q = q} {q₁} {n} {c = c} st f p =
       credit = p.credit;
     }
 
-first-for : (g n : ℕ) (c : Cursor) (xs : List Lexeme) (t : Said) → choose g (rule (power g) clauses (sight c xs n 83 t)) ≡ choose g (rule (power g) more-clauses (sight c xs n 83 t))
+first_for : (g n : ℕ) (c : Cursor) (xs : List Lexeme) (t : Said) → choose g (rule (power g) clauses (sight c xs n 83 t)) ≡ choose g (rule (power g) more_clauses (sight c xs n 83 t))
 unfolding rule choose sight has
-first-for g n c xs t = refl
+first_for g n c xs t = refl
 
 -- at `for` the first clause is as any other
-pub clauses-begin : {g : ℕ} {s : List ℕ} {d : ℕ} {from : State} {n e v w : ℕ} {c : Cursor} {o : List ℕ} → Stands s c → c.kind ≡ 83
-    → Seg g s d from e v (state (goto clauses) n c w o) → Seg g s d from e v (state (goto more-clauses) n c w o)
-clauses-begin {g} {n = n} {c = c} st k p =
-    same_here st (λ xs y. seen (power g) g clauses n y k refl ∙ first-for g n c xs (word_of xs) ∙ sym (seen (power g) g more-clauses n y k refl)) p
+pub clauses_begin : {g : ℕ} {s : List ℕ} {d : ℕ} {from : State} {n e v w : ℕ} {c : Cursor} {o : List ℕ} → Stands s c → c.kind ≡ 83
+    → Seg g s d from e v (state (goto clauses) n c w o) → Seg g s d from e v (state (goto more_clauses) n c w o)
+clauses_begin {g} {n = n} {c = c} st k p =
+    same_here st (λ xs y. seen (power g) g clauses n y k refl ∙ first_for g n c xs (word_of xs) ∙ sym (seen (power g) g more_clauses n y k refl)) p
 
 -- what an `if` reads, with the keyword's range
 module _ {g : ℕ} {s : List ℕ} {d : ℕ} (i j : ℕ) {w : ℕ} {c : Cursor} {o o₁ : List ℕ} {a : Answer} where
-  pub if-read : {c₁ : Cursor} {w₁ w₂ k : ℕ} {o₂ : List ℕ} → Stands s c → Takes g s expression 1 0 d c w o a o₁ → a ≡ Done c₁ w₁ k → Wrote o₁ w₁ (entry 34 (span i j ∷ [])) w₂ o₂
-      → Takes g s (sub (if-clause i j)) 1 7 d c w o (Done c₁ w₂ 1) o₂
+  pub if_read : {c₁ : Cursor} {w₁ w₂ k : ℕ} {o₂ : List ℕ} → Stands s c → Takes g s expression 1 0 d c w o a o₁ → a ≡ Done c₁ w₁ k → Wrote o₁ w₁ (entry 34 (span i j ∷ [])) w₂ o₂
+      → Takes g s (sub (if_clause i j)) 1 7 d c w o (Done c₁ w₂ 1) o₂
   unfolding rule choose sight entry payload
-  if-read st m e u =
-      Steps.as-sub (Steps.owes (omega arith) (Steps.closed 7 (omega arith) u (Steps.took m e
-      (Steps.known (expression ▸ close 34 (span i j ∷ []) ▸ end) st refl (λ xs t. refl) (Steps.at g s d (goto (if-clause i j)) 0 c w o)))))
+  if_read st m e u =
+      Steps.as_sub (Steps.owes (omega arith) (Steps.closed 7 (omega arith) u (Steps.took m e
+      (Steps.known (expression ▸ close 34 (span i j ∷ []) ▸ end) st refl (λ xs t. refl) (Steps.at g s d (goto (if_clause i j)) 0 c w o)))))
 
-  pub if-broken : Stands s c → Takes g s expression 1 0 d c w o a o₁ → tag_of the_type a ≡ 1 → Takes g s (sub (if-clause i j)) 1 7 d c w o a o₁
+  pub if_broken : Stands s c → Takes g s expression 1 0 d c w o a o₁ → tag_of the_type a ≡ 1 → Takes g s (sub (if_clause i j)) 1 7 d c w o a o₁
   unfolding rule choose sight
-  if-broken st m e =
-      Steps.as-sub (Steps.passed (Steps.takes-broken m e)
-      (Steps.known (expression ▸ close 34 (span i j ∷ []) ▸ end) st refl (λ xs t. refl) (Steps.at g s d (goto (if-clause i j)) 0 c w o)))
+  if_broken st m e =
+      Steps.as_sub (Steps.passed (Steps.takes_broken m e)
+      (Steps.known (expression ▸ close 34 (span i j ∷ []) ▸ end) st refl (λ xs t. refl) (Steps.at g s d (goto (if_clause i j)) 0 c w o)))
 
 -- ── Members ───────────────────────────────────────────────────────────────────────────────────────
 
 -- where no comma stood
-here-still : {g : ℕ} {s : List ℕ} {d : ℕ} {from : State} {n e v w : ℕ} {c c₁ : Cursor} {o : List ℕ} {b : Body} → c₁ ≡ c → Seg g s d from e v (state b n c w o)
+here_still : {g : ℕ} {s : List ℕ} {d : ℕ} {from : State} {n e v w : ℕ} {c c₁ : Cursor} {o : List ℕ} {b : Body} → c₁ ≡ c → Seg g s d from e v (state b n c w o)
     → Seg g s d from e v (state b n c₁ w o)
-here-still {g} {s} {d} {from} {n} {e} {v} {w} {o = o} {b} i p = subst⁻¹ (λ (x : Cursor). Seg g s d from e v (state b n x w o)) i p
+here_still {g} {s} {d} {from} {n} {e} {v} {w} {o = o} {b} i p = subst⁻¹ (λ (x : Cursor). Seg g s d from e v (state b n x w o)) i p
 
 module _ {g : ℕ} {s : List ℕ} {d : ℕ} {from : State} {f n e v w : ℕ} {c c₁ : Cursor} {o : List ℕ} where
   -- past a comma
-  pub members-next : Stands s c → Past s c c₁ → c.kind ≡ 33 → Seg g s d from e v (state (goto (members f)) n c w o) → Seg g s d from e v (state (goto (next-member f)) n c₁ w o)
+  pub members_next : Stands s c → Past s c c₁ → c.kind ≡ 33 → Seg g s d from e v (state (goto (members f)) n c w o) → Seg g s d from e v (state (goto (next_member f)) n c₁ w o)
   unfolding rule choose has sight
-  members-next st i k p =
-      let q = Steps.taken (omega arith) st (moved-past i k) k (Steps.known (eat 33 ▸ goto (next-member f)) st k (λ xs t. refl) p) in
+  members_next st i k p =
+      let q = Steps.taken (omega arith) st (moved_past i k) k (Steps.known (eat 33 ▸ goto (next_member f)) st k (λ xs t. refl) p) in
       repaid e v (omega (arith, q.onward)) (omega (arith, q.credit)) q
 
-  pub members-last : Stands s c → Past s c c₁ → ¬ (c.kind ≡ 33) → ¬ (c₁.kind ≡ 83) → Seg g s d from e v (state (goto (members f)) n c w o)
+  pub members_last : Stands s c → Past s c c₁ → ¬ (c.kind ≡ 33) → ¬ (c₁.kind ≡ 83) → Seg g s d from e v (state (goto (members f)) n c w o)
       → Seg g s d from e v (state (close 9 (number n ∷ []) ▸ end) n c₁ w o)
   unfolding rule choose has sight
-  members-last st (past k mv) h i p = absurd (h k)
-  members-last st (same k z) h i p =
+  members_last st (past k mv) h i p = absurd (h k)
+  members_last st (same k z) h i p =
       let j : ¬ (c.kind ≡ 83) = λ y. i (ap (λ (x : Cursor). x.kind) z ∙ y) in
-      here-still z (Steps.known (close 9 (number n ∷ []) ▸ end) st refl (λ xs t. simp (ne_eqb c.kind 33 h, ne_eqb c.kind 83 j)) p)
+      here_still z (Steps.known (close 9 (number n ∷ []) ▸ end) st refl (λ xs t. simp (ne_eqb c.kind 33 h, ne_eqb c.kind 83 j)) p)
 
   -- `for`
-  pub members-for : Stands s c → Past s c c₁ → c₁.kind ≡ 83 → Seg g s d from e v (state (goto (members f)) n c w o) → Seg g s d from e v (state (goto (comprehension f)) n c₁ w o)
+  pub members_for : Stands s c → Past s c c₁ → c₁.kind ≡ 83 → Seg g s d from e v (state (goto (members f)) n c w o) → Seg g s d from e v (state (goto (comprehension f)) n c₁ w o)
   unfolding rule choose has sight
-  members-for st (past k mv) h p = Steps.known (goto (comprehension f)) mv.stands h (λ xs t. refl) (members-next st (past k mv) k p)
-  members-for st (same k z) h p =
-      here-still z (Steps.known (goto (comprehension f)) st (sym (ap (λ (x : Cursor). x.kind) z) ∙ h) (λ xs t. refl) p)
+  members_for st (past k mv) h p = Steps.known (goto (comprehension f)) mv.stands h (λ xs t. refl) (members_next st (past k mv) k p)
+  members_for st (same k z) h p =
+      here_still z (Steps.known (goto (comprehension f)) st (sym (ap (λ (x : Cursor). x.kind) z) ∙ h) (λ xs t. refl) p)
 
 -- ── Elements ──────────────────────────────────────────────────────────────────────────────────────
 
 module _ (g p n : ℕ) (xs : List Lexeme) where
-  first-comma : eqb (kind-of xs) 83 ≡ false → eqb (kind-of xs) 33 ≡ true → eqb (kind-of (rest xs)) 83 ≡ true → production (power g) g array-first p xs n ≡ eat 33 ▸ goto array-comp
+  first_comma : eqb (kind_of xs) 83 ≡ false → eqb (kind_of xs) 33 ≡ true → eqb (kind_of (rest xs)) 83 ≡ true → production (power g) g array_first p xs n ≡ eat 33 ▸ goto array_comp
   unfolding production choose rule view has
-  first-comma a b e = rw (a, b, e) refl
+  first_comma a b e = rw (a, b, e) refl
 
-  first_alone : eqb (kind-of xs) 83 ≡ false → eqb (kind-of xs) 33 ≡ true → eqb (kind-of (rest xs)) 83 ≡ false → production (power g) g array-first p xs n ≡ goto elements
+  first_alone : eqb (kind_of xs) 83 ≡ false → eqb (kind_of xs) 33 ≡ true → eqb (kind_of (rest xs)) 83 ≡ false → production (power g) g array_first p xs n ≡ goto elements
   unfolding production choose rule view has
   first_alone a b e = rw (a, b, e) refl
 
-  first-other : eqb (kind-of xs) 83 ≡ false → eqb (kind-of xs) 33 ≡ false → production (power g) g array-first p xs n ≡ goto elements
+  first_other : eqb (kind_of xs) 83 ≡ false → eqb (kind_of xs) 33 ≡ false → production (power g) g array_first p xs n ≡ goto elements
   unfolding production choose rule view has
-  first-other a b = rw (a, b) refl
+  first_other a b = rw (a, b) refl
 
 module _ {g : ℕ} {s : List ℕ} {d : ℕ} {from : State} {n e v w : ℕ} {c c₁ : Cursor} {o : List ℕ} where
   -- at its clauses, perhaps after a comma
-  pub array-for : Stands s c → Past s c c₁ → c₁.kind ≡ 83 → Seg g s d from e v (state (goto array-first) n c w o) → Seg g s d from e v (state (goto array-comp) n c₁ w o)
+  pub array_for : Stands s c → Past s c c₁ → c₁.kind ≡ 83 → Seg g s d from e v (state (goto array_first) n c w o) → Seg g s d from e v (state (goto array_comp) n c₁ w o)
   unfolding rule choose has sight
-  array-for st (past k mv) h p =
+  array_for st (past k mv) h p =
       let q =
       Steps.taken (omega arith) st mv k
-      (Steps.goes (eat 33 ▸ goto array-comp) st
-      (λ xs y. first-comma g c.at n xs (is-not (kind-of xs) 83 y.kind (λ z. omega (arith, z, k))) (is (kind-of xs) 33 y.kind k) (is (kind-of (rest xs)) 83 (sees-next y mv).kind h)) p) in
+      (Steps.goes (eat 33 ▸ goto array_comp) st
+      (λ xs y. first_comma g c.at n xs (is_not (kind_of xs) 83 y.kind (λ z. omega (arith, z, k))) (is (kind_of xs) 33 y.kind k) (is (kind_of (rest xs)) 83 (sees_next y mv).kind h)) p) in
       repaid e v (omega (arith, q.onward)) (omega (arith, q.credit)) q
-  array-for st (same j z) h p = here-still z (Steps.known (goto array-comp) st (sym (ap (λ (x : Cursor). x.kind) z) ∙ h) (λ xs t. refl) p)
+  array_for st (same j z) h p = here_still z (Steps.known (goto array_comp) st (sym (ap (λ (x : Cursor). x.kind) z) ∙ h) (λ xs t. refl) p)
 
   -- at no clauses: the comma, if there is one, is before an element
-  pub array-no-for : Stands s c → Past s c c₁ → ¬ (c₁.kind ≡ 83) → Seg g s d from e v (state (goto array-first) n c w o) → Seg g s d from e v (state (goto elements) n c w o)
-  array-no-for st (past k mv) h p =
+  pub array_no_for : Stands s c → Past s c c₁ → ¬ (c₁.kind ≡ 83) → Seg g s d from e v (state (goto array_first) n c w o) → Seg g s d from e v (state (goto elements) n c w o)
+  array_no_for st (past k mv) h p =
       Steps.goes (goto elements) st
-      (λ xs y. first_alone g c.at n xs (is-not (kind-of xs) 83 y.kind (λ z. omega (arith, z, k))) (is (kind-of xs) 33 y.kind k) (is-not (kind-of (rest xs)) 83 (sees-next y mv).kind h)) p
-  array-no-for st (same j z) h p =
+      (λ xs y. first_alone g c.at n xs (is_not (kind_of xs) 83 y.kind (λ z. omega (arith, z, k))) (is (kind_of xs) 33 y.kind k) (is_not (kind_of (rest xs)) 83 (sees_next y mv).kind h)) p
+  array_no_for st (same j z) h p =
       let i : ¬ (c.kind ≡ 83) = λ y. h (ap (λ (x : Cursor). x.kind) z ∙ y) in
-      Steps.goes (goto elements) st (λ xs y. first-other g c.at n xs (is-not (kind-of xs) 83 y.kind i) (is-not (kind-of xs) 33 y.kind j)) p
+      Steps.goes (goto elements) st (λ xs y. first_other g c.at n xs (is_not (kind_of xs) 83 y.kind i) (is_not (kind_of xs) 33 y.kind j)) p

@@ -27,22 +27,22 @@ grows : {g : ℕ} {s : List ℕ} {d : ℕ} {b b₁ : Body} {k w w₁ : ℕ} {c c
 unfolding size image
 grows h p = omega (arith, imaged (p.trees none), p.counted none refl, ap length (p.imaged none), p.wrote, p.credit)
 
-pub step-grows : {g : ℕ} {s : List ℕ} {st : Step} {d w w₁ j : ℕ} {c c₁ : Cursor} {o o₁ : List ℕ} {a : Answer} → Takes g s st 1 0 d c w o a o₁ → a ≡ Done c₁ w₁ j → c.at < c₁.at
-step-grows {g} {s} {st} {d} {w} {c = c} {o = o} m e = grows (omega arith) (Steps.took {b = end} m e (Steps.at g s d (st ▸ end) 0 c w o))
+pub step_grows : {g : ℕ} {s : List ℕ} {st : Step} {d w w₁ j : ℕ} {c c₁ : Cursor} {o o₁ : List ℕ} {a : Answer} → Takes g s st 1 0 d c w o a o₁ → a ≡ Done c₁ w₁ j → c.at < c₁.at
+step_grows {g} {s} {st} {d} {w} {c = c} {o = o} m e = grows (omega arith) (Steps.took {b = end} m e (Steps.at g s d (st ▸ end) 0 c w o))
 
-pub argument-grows : {g : ℕ} {s : List ℕ} {d m k w w₁ j : ℕ} {c c₁ : Cursor} {o o₁ : List ℕ} {a : Answer} → Argues g s d m k c w o a o₁ → a ≡ Done c₁ w₁ j → c.at < c₁.at
-argument-grows h q = grows (omega arith) (Steps.led (h.argues 0 0 0) q)
+pub argument_grows : {g : ℕ} {s : List ℕ} {d m k w w₁ j : ℕ} {c c₁ : Cursor} {o o₁ : List ℕ} {a : Answer} → Argues g s d m k c w o a o₁ → a ≡ Done c₁ w₁ j → c.at < c₁.at
+argument_grows h q = grows (omega arith) (Steps.led (h.argues 0 0 0) q)
 
 -- ── Lists that tell how many trees they add ───────────────────────────────────────────────────────
 
 module _ {g : ℕ} {s : List ℕ} {d : ℕ} {q : Phrase} {c : Cursor} {w e v : ℕ} {o : List ℕ} where
-  pub counts-on : {c₁ : Cursor} {w₁ k u : ℕ} {o₁ : List ℕ} → v ≤ 32 * e + u → c.at + k ≤ c₁.at → Seg g s d (state (goto q) 0 c w o) e v (state end k c₁ w₁ o₁)
+  pub counts_on : {c₁ : Cursor} {w₁ k u : ℕ} {o₁ : List ℕ} → v ≤ 32 * e + u → c.at + k ≤ c₁.at → Seg g s d (state (goto q) 0 c w o) e v (state end k c₁ w₁ o₁)
       → Counts g s q u d c w o (Done c₁ w₁ k) o₁
   unfolding Counted
-  counts-on h i p = record { counts = (Steps.as-sub (Steps.owes h p), i) }
+  counts_on h i p = record { counts = (Steps.as_sub (Steps.owes h p), i) }
 
-  pub passed-counting : {mid : State} {a : Answer} {u : ℕ} {o₁ : List ℕ} → ((r : Refusal) × (a ≡ Broken r) × Breaks g s d mid r) → Seg g s d (state (goto q) 0 c w o) e v mid
+  pub passed_counting : {mid : State} {a : Answer} {u : ℕ} {o₁ : List ℕ} → ((r : Refusal) × (a ≡ Broken r) × Breaks g s d mid r) → Seg g s d (state (goto q) 0 c w o) e v mid
       → Counts g s q u d c w o a o₁
   unfolding Counted
-  passed-counting {u = u} {o₁ = o₁} x p =
-      record { counts = subst⁻¹ (λ (z : Answer). Counted g s q u d c w o z o₁) x.1 (Steps.as-sub (Steps.broke (Steps.breaks-on x.2 p) refl)) }
+  passed_counting {u = u} {o₁ = o₁} x p =
+      record { counts = subst⁻¹ (λ (z : Answer). Counted g s q u d c w o z o₁) x.1 (Steps.as_sub (Steps.broke (Steps.breaks_on x.2 p) refl)) }

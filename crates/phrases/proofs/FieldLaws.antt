@@ -12,13 +12,13 @@ use lib.ListN.{length}
 use Rattle.grammar.specs.Image.{image}
 use Rattle.grammar.proofs.ImageLaws.{image-length}
 use Rattle.grammar.specs.Trees.{Trees, none, node, byte, number, span, count as size}
-use Rattle.grammar.specs.Lexemes.{Lexeme, rest, kind-of}
-use Rattle.grammar.specs.Productions.{Phrase, Step, Body, end, goto, ◌▸◌, eat, close, rule, row, ◌∣◌, otherwise, always, expression, field-value}
-use Rattle.grammar.specs.Reading.{Outcome, done, Reading, ended, gone as read-gone, eaten, production, view, choose, has}
-use Rattle.leaves.specs.Lexing.{Left, Stands, Moved, Colons, none_more, one_more, two-more}
+use Rattle.grammar.specs.Lexemes.{Lexeme, rest, kind_of}
+use Rattle.grammar.specs.Productions.{Phrase, Step, Body, end, goto, ◌▸◌, eat, close, rule, row, ◌∣◌, otherwise, always, expression, field_value}
+use Rattle.grammar.specs.Reading.{Outcome, done, Reading, ended, gone as read_gone, eaten, production, view, choose, has}
+use Rattle.leaves.specs.Lexing.{Left, Stands, Moved, Colons, none_more, one_more, two_more}
 use Rattle.leaves.specs.Meets.{Ready, power, State, state, Seg, Breaks, Takes, Counted, Counts, Eats, bound}
-use Rattle.leaves.proofs.LexemeLaws.{Sees, sees, sees-next}
-use Rattle.leaves.proofs.LeafLaws.{ate-stands}
+use Rattle.leaves.proofs.LexemeLaws.{Sees, sees, sees_next}
+use Rattle.leaves.proofs.LeafLaws.{ate_stands}
 use Rattle.leaves.specs.contracts.Answer.{the_type}
 use Rattle.leaves.proofs.Steps
 use Rattle.leaves.specs.declared.Cursor.{Cursor}
@@ -29,52 +29,52 @@ use Rattle.leaves.specs.declared.Answer.TheVariants.{Done, Broken}
 -- ── Three productions, by how many of three tests hold ────────────────────────────────────────────
 
 module _ (g : ℕ) where
-  pick-0 : (x y z : Bool) (b₂ b₁ b₀ : Body) → y ≡ false → choose g (row always (x && y && z) b₂ ∣ row always (x && y) b₁ ∣ otherwise b₀) ≡ b₀
+  pick_0 : (x y z : Bool) (b₂ b₁ b₀ : Body) → y ≡ false → choose g (row always (x && y && z) b₂ ∣ row always (x && y) b₁ ∣ otherwise b₀) ≡ b₀
   unfolding choose
-  pick-0 true true z b₂ b₁ b₀ e = absurd (let q : ◌≡◌ {A = ℕ} 0 1 = cc in omega arith)
-  pick-0 true false z b₂ b₁ b₀ e = refl
-  pick-0 false y z b₂ b₁ b₀ e = refl
+  pick_0 true true z b₂ b₁ b₀ e = absurd (let q : ◌≡◌ {A = ℕ} 0 1 = cc in omega arith)
+  pick_0 true false z b₂ b₁ b₀ e = refl
+  pick_0 false y z b₂ b₁ b₀ e = refl
 
-  pick-1 : (x y z : Bool) (b₂ b₁ b₀ : Body) → x ≡ true → y ≡ true → z ≡ false → choose g (row always (x && y && z) b₂ ∣ row always (x && y) b₁ ∣ otherwise b₀) ≡ b₁
+  pick_1 : (x y z : Bool) (b₂ b₁ b₀ : Body) → x ≡ true → y ≡ true → z ≡ false → choose g (row always (x && y && z) b₂ ∣ row always (x && y) b₁ ∣ otherwise b₀) ≡ b₁
   unfolding choose has
-  pick-1 true true false b₂ b₁ b₀ e f h = refl
-  pick-1 true true true b₂ b₁ b₀ e f h = absurd (let q : ◌≡◌ {A = ℕ} 0 1 = cc in omega arith)
-  pick-1 true false z b₂ b₁ b₀ e f h = absurd (let q : ◌≡◌ {A = ℕ} 0 1 = cc in omega arith)
-  pick-1 false y z b₂ b₁ b₀ e f h = absurd (let q : ◌≡◌ {A = ℕ} 0 1 = cc in omega arith)
+  pick_1 true true false b₂ b₁ b₀ e f h = refl
+  pick_1 true true true b₂ b₁ b₀ e f h = absurd (let q : ◌≡◌ {A = ℕ} 0 1 = cc in omega arith)
+  pick_1 true false z b₂ b₁ b₀ e f h = absurd (let q : ◌≡◌ {A = ℕ} 0 1 = cc in omega arith)
+  pick_1 false y z b₂ b₁ b₀ e f h = absurd (let q : ◌≡◌ {A = ℕ} 0 1 = cc in omega arith)
 
-  pick-2 : (x y z : Bool) (b₂ b₁ b₀ : Body) → x ≡ true → y ≡ true → z ≡ true → choose g (row always (x && y && z) b₂ ∣ row always (x && y) b₁ ∣ otherwise b₀) ≡ b₂
+  pick_2 : (x y z : Bool) (b₂ b₁ b₀ : Body) → x ≡ true → y ≡ true → z ≡ true → choose g (row always (x && y && z) b₂ ∣ row always (x && y) b₁ ∣ otherwise b₀) ≡ b₂
   unfolding choose has
-  pick-2 true true true b₂ b₁ b₀ e f h = refl
-  pick-2 true true false b₂ b₁ b₀ e f h = absurd (let q : ◌≡◌ {A = ℕ} 0 1 = cc in omega arith)
-  pick-2 true false z b₂ b₁ b₀ e f h = absurd (let q : ◌≡◌ {A = ℕ} 0 1 = cc in omega arith)
-  pick-2 false y z b₂ b₁ b₀ e f h = absurd (let q : ◌≡◌ {A = ℕ} 0 1 = cc in omega arith)
+  pick_2 true true true b₂ b₁ b₀ e f h = refl
+  pick_2 true true false b₂ b₁ b₀ e f h = absurd (let q : ◌≡◌ {A = ℕ} 0 1 = cc in omega arith)
+  pick_2 true false z b₂ b₁ b₀ e f h = absurd (let q : ◌≡◌ {A = ℕ} 0 1 = cc in omega arith)
+  pick_2 false y z b₂ b₁ b₀ e f h = absurd (let q : ◌≡◌ {A = ℕ} 0 1 = cc in omega arith)
 
-  pick-any : (k : ℕ) (t₂ t₁ : Bool) (b₂ b₁ b₀ : Body) → (b : Body) × (choose g (row always t₂ (eat k ▸ b₂) ∣ row always t₁ (eat k ▸ b₁) ∣ otherwise (eat k ▸ b₀)) ≡ eat k ▸ b)
+  pick_any : (k : ℕ) (t₂ t₁ : Bool) (b₂ b₁ b₀ : Body) → (b : Body) × (choose g (row always t₂ (eat k ▸ b₂) ∣ row always t₁ (eat k ▸ b₁) ∣ otherwise (eat k ▸ b₀)) ≡ eat k ▸ b)
   unfolding choose has
-  pick-any k true t₁ b₂ b₁ b₀ = (b₂, refl)
-  pick-any k false true b₂ b₁ b₀ = (b₁, refl)
-  pick-any k false false b₂ b₁ b₀ = (b₀, refl)
+  pick_any k true t₁ b₂ b₁ b₀ = (b₂, refl)
+  pick_any k false true b₂ b₁ b₀ = (b₁, refl)
+  pick_any k false false b₂ b₁ b₀ = (b₀, refl)
 
 -- ── What `eat` saw ────────────────────────────────────────────────────────────────────────────────
 
-eaten-kind : {g k : ℕ} {ts us : Trees} {d p r : ℕ} {xs ys : List Lexeme} → Reading (power g) g (eat k ▸ end) ts d p xs (done us r ys) → kind-of xs ≡ k
-eaten-kind (eaten e _) = e
+eaten_kind : {g k : ℕ} {ts us : Trees} {d p r : ℕ} {xs ys : List Lexeme} → Reading (power g) g (eat k ▸ end) ts d p xs (done us r ys) → kind_of xs ≡ k
+eaten_kind (eaten e _) = e
 
-pub ate-kind : {s : List ℕ} {k w w₁ j : ℕ} {c c₁ : Cursor} {a : Answer} {xs : List Lexeme} → Eats s k c w a → a ≡ Done c₁ w₁ j → Left s c.at xs → kind-of xs ≡ k
+pub ate_kind : {s : List ℕ} {k w w₁ j : ℕ} {c c₁ : Cursor} {a : Answer} {xs : List Lexeme} → Eats s k c w a → a ≡ Done c₁ w₁ j → Left s c.at xs → kind_of xs ≡ k
 unfolding size
-ate-kind {c₁ = c₁} {xs = xs} m q l =
+ate_kind {c₁ = c₁} {xs = xs} m q l =
     let x = Steps.led ((m.eats 0 0 []).takes end 0) q in
     let r = x.run none xs refl l in
-    eaten-kind (r.back (done (x.trees none) c₁.at r.left) ended)
+    eaten_kind (r.back (done (x.trees none) c₁.at r.left) ended)
 
-pub ate-moved : {s : List ℕ} {k w w₁ j : ℕ} {c c₁ : Cursor} {a : Answer} → Stands s c → Eats s k c w a → a ≡ Done c₁ w₁ j → Moved s c c₁
-ate-moved {w₁ = w₁} {j} {c₁ = c₁} st m q = record { at = (m.moved c₁ w₁ j q).2; stands = ate-stands st m q }
+pub ate_moved : {s : List ℕ} {k w w₁ j : ℕ} {c c₁ : Cursor} {a : Answer} → Stands s c → Eats s k c w a → a ≡ Done c₁ w₁ j → Moved s c c₁
+ate_moved {w₁ = w₁} {j} {c₁ = c₁} st m q = record { at = (m.moved c₁ w₁ j q).2; stands = ate_stands st m q }
 
 regone : {g d : ℕ} {q : Phrase} {b : Body} {ts : Trees} {n p : ℕ} {xs : List Lexeme} {o : Outcome} → production (power g) g q p xs n ≡ b → size ts ≡ n → Reading (power g) g b ts d p xs o
     → Reading (power g) g (goto q) ts d p xs o
 regone {g} {d} {q} {b} {ts} {n} {p} {xs} {o} e z r =
     let there : Body → Type 0 = λ (x : Body). Reading (power g) g x ts d p xs o in
-    read-gone (subst⁻¹ (λ (m : ℕ). there (production (power g) g q p xs m)) z (subst⁻¹ there e r))
+    read_gone (subst⁻¹ (λ (m : ℕ). there (production (power g) g q p xs m)) z (subst⁻¹ there e r))
 
 module _ {g : ℕ} {s : List ℕ} {d : ℕ} where
   -- the phrase goes on as its production says, of the lexemes that are left
@@ -94,7 +94,7 @@ module _ {g : ℕ} {s : List ℕ} {d : ℕ} where
             record {
               left = r.left;
               kept = r.kept;
-              back = λ o x. r.back o (read-gone (subst⁻¹ (λ (m : ℕ). there (production (power g) g q c.at r.left m) o) (p.counted ts z) (subst⁻¹ (λ (m : Body). there m o) (f r.left r.kept y) x)));
+              back = λ o x. r.back o (read_gone (subst⁻¹ (λ (m : ℕ). there (production (power g) g q c.at r.left m) o) (p.counted ts z) (subst⁻¹ (λ (m : Body). there m o) (f r.left r.kept y) x)));
             };
         stored = p.stored;
         wrote = p.wrote;
@@ -104,10 +104,10 @@ module _ {g : ℕ} {s : List ℕ} {d : ℕ} where
       }
 
   -- a lexeme that every production begins with is not there
-  pub goes-broken : {q : Phrase} {n k w : ℕ} {c : Cursor} {o : List ℕ} {a : Answer} → ((xs : List Lexeme) → (b : Body) × (production (power g) g q c.at xs n ≡ eat k ▸ b))
+  pub goes_broken : {q : Phrase} {n k w : ℕ} {c : Cursor} {o : List ℕ} {a : Answer} → ((xs : List Lexeme) → (b : Body) × (production (power g) g q c.at xs n ≡ eat k ▸ b))
       → Eats s k c w a → tag_of the_type a ≡ 1 → (r : Refusal) × (a ≡ Broken r) × Breaks g s d (state (goto q) n c w o) r
-  goes-broken {q} {n} {k} {w} {c} {o} {a} f m t =
-      let x = Steps.no-done a t in
+  goes_broken {q} {n} {k} {w} {c} {o} {a} f m t =
+      let x = Steps.no_done a t in
       let any : (b : Body) → Breaks g s d (state (eat k ▸ b) n c w o) x.0 = λ b. Steps.refused ((m.eats g d o).takes b n) x.1 in (
         x.0,
         x.1,
@@ -134,49 +134,49 @@ module _ (g : ℕ) (at : ℕ) (xs : List Lexeme) (n i j k p m : ℕ) where
   one_less : (b : ℕ) → valued i j k p m (n + 1 - 1) b ≡ valued i j k p m n b
   one_less b = ap (λ (x : ℕ). valued i j k p m x b) (let q : n + 1 - 1 ≡ n = omega arith in q)
 
-  one-colon : ¬ (kind-of (rest xs) ≡ 29) → production (power g) g (field-value i j k p m) at xs (n + 1) ≡ eat 29 ▸ valued i j k p m n 0
+  one_colon : ¬ (kind_of (rest xs) ≡ 29) → production (power g) g (field_value i j k p m) at xs (n + 1) ≡ eat 29 ▸ valued i j k p m n 0
   unfolding production view rule
-  one-colon h =
-      pick-0 g (eqb (kind-of xs) 29) (eqb (kind-of (rest xs)) 29) (eqb (kind-of (rest (rest xs))) 29) _ _ _ (ne_eqb _ 29 h)
+  one_colon h =
+      pick_0 g (eqb (kind_of xs) 29) (eqb (kind_of (rest xs)) 29) (eqb (kind_of (rest (rest xs))) 29) _ _ _ (ne_eqb _ 29 h)
       ∙ ap (λ (x : Body). eat 29 ▸ x) (one_less 0)
 
-  two-colons : kind-of xs ≡ 29 → kind-of (rest xs) ≡ 29 → ¬ (kind-of (rest (rest xs)) ≡ 29) → production (power g) g (field-value i j k p m) at xs (n + 1) ≡ eat 29 ▸ eat 29 ▸ valued i j k p m n 1
+  two_colons : kind_of xs ≡ 29 → kind_of (rest xs) ≡ 29 → ¬ (kind_of (rest (rest xs)) ≡ 29) → production (power g) g (field_value i j k p m) at xs (n + 1) ≡ eat 29 ▸ eat 29 ▸ valued i j k p m n 1
   unfolding production view rule
-  two-colons e f h =
-      pick-1 g (eqb (kind-of xs) 29) (eqb (kind-of (rest xs)) 29) (eqb (kind-of (rest (rest xs))) 29) _ _ _ (eq-eqb _ 29 e) (eq-eqb _ 29 f) (ne_eqb _ 29 h)
+  two_colons e f h =
+      pick_1 g (eqb (kind_of xs) 29) (eqb (kind_of (rest xs)) 29) (eqb (kind_of (rest (rest xs))) 29) _ _ _ (eq-eqb _ 29 e) (eq-eqb _ 29 f) (ne_eqb _ 29 h)
       ∙ ap (λ (x : Body). eat 29 ▸ eat 29 ▸ x) (one_less 1)
 
-  three-colons : kind-of xs ≡ 29 → kind-of (rest xs) ≡ 29 → kind-of (rest (rest xs)) ≡ 29
-      → production (power g) g (field-value i j k p m) at xs (n + 1) ≡ eat 29 ▸ eat 29 ▸ eat 29 ▸ valued i j k p m n 2
+  three_colons : kind_of xs ≡ 29 → kind_of (rest xs) ≡ 29 → kind_of (rest (rest xs)) ≡ 29
+      → production (power g) g (field_value i j k p m) at xs (n + 1) ≡ eat 29 ▸ eat 29 ▸ eat 29 ▸ valued i j k p m n 2
   unfolding production view rule
-  three-colons e f h =
-      pick-2 g (eqb (kind-of xs) 29) (eqb (kind-of (rest xs)) 29) (eqb (kind-of (rest (rest xs))) 29) _ _ _ (eq-eqb _ 29 e) (eq-eqb _ 29 f) (eq-eqb _ 29 h)
+  three_colons e f h =
+      pick_2 g (eqb (kind_of xs) 29) (eqb (kind_of (rest xs)) 29) (eqb (kind_of (rest (rest xs))) 29) _ _ _ (eq-eqb _ 29 e) (eq-eqb _ 29 f) (eq-eqb _ 29 h)
       ∙ ap (λ (x : Body). eat 29 ▸ eat 29 ▸ eat 29 ▸ x) (one_less 2)
 
-  pub some-colon : (x : ℕ) → (b : Body) × (production (power g) g (field-value i j k p m) at xs x ≡ eat 29 ▸ b)
+  pub some_colon : (x : ℕ) → (b : Body) × (production (power g) g (field_value i j k p m) at xs x ≡ eat 29 ▸ b)
   unfolding production view rule
-  some-colon x = pick-any g 29 _ _ _ _ _
+  some_colon x = pick_any g 29 _ _ _ _ _
 
 module _ {g : ℕ} {s : List ℕ} {d : ℕ} {from : State} {i j k p m n e v w w₁ x : ℕ} {c₀ c₁ : Cursor} {o : List ℕ} {a : Answer} where
   -- no more is said of how many bytes the further colons take
   pub colons : {b : ℕ} {c₂ : Cursor} → Stands s c₀ → Eats s 29 c₀ w a → a ≡ Done c₁ w₁ x → Colons s c₁ b c₂
-      → Seg g s d from e v (state (goto (field-value i j k p m)) (n + 1) c₀ w o) → Seg g s d from (e + 1) v (state (valued i j k p m n b) (n + 1) c₂ w₁ o)
+      → Seg g s d from e v (state (goto (field_value i j k p m)) (n + 1) c₀ w o) → Seg g s d from (e + 1) v (state (valued i j k p m n b) (n + 1) c₂ w₁ o)
   colons st t q (none_more h) r =
-      let mv = ate-moved st t q in
-      Steps.ate t q (goes_left (eat 29 ▸ valued i j k p m n 0) st (λ xs l y. one-colon g c₀.at xs n i j k p m (λ z. h (sym (sees-next y mv).kind ∙ z))) r)
+      let mv = ate_moved st t q in
+      Steps.ate t q (goes_left (eat 29 ▸ valued i j k p m n 0) st (λ xs l y. one_colon g c₀.at xs n i j k p m (λ z. h (sym (sees_next y mv).kind ∙ z))) r)
   colons {c₂ = c₂} st t q (one_more f mv₁ h) r =
-      let mv = ate-moved st t q in
+      let mv = ate_moved st t q in
       let there =
       goes_left (eat 29 ▸ eat 29 ▸ valued i j k p m n 1) st
-      (λ xs l y. let y₁ = sees-next y mv in let y₂ = sees-next y₁ mv₁ in two-colons g c₀.at xs n i j k p m (ate-kind t q l) (y₁.kind ∙ f) (λ z. h (sym y₂.kind ∙ z))) r
+      (λ xs l y. let y₁ = sees_next y mv in let y₂ = sees_next y₁ mv₁ in two_colons g c₀.at xs n i j k p m (ate_kind t q l) (y₁.kind ∙ f) (λ z. h (sym y₂.kind ∙ z))) r
       in
       let z : e + 1 + 0 ≡ e + 1 = omega arith in
       subst (λ (u : ℕ). Seg g s d from u v (state (valued i j k p m n 1) (n + 1) c₂ w₁ o)) z (Steps.taken_of 0 (omega arith) mv.stands mv₁ f (Steps.ate t q there))
-  colons {c₂ = c₂} st t q (two-more f mv₁ h mv₂) r =
-      let mv = ate-moved st t q in
+  colons {c₂ = c₂} st t q (two_more f mv₁ h mv₂) r =
+      let mv = ate_moved st t q in
       let there =
       goes_left (eat 29 ▸ eat 29 ▸ eat 29 ▸ valued i j k p m n 2) st
-      (λ xs l y. let y₁ = sees-next y mv in let y₂ = sees-next y₁ mv₁ in three-colons g c₀.at xs n i j k p m (ate-kind t q l) (y₁.kind ∙ f) (y₂.kind ∙ h)) r
+      (λ xs l y. let y₁ = sees_next y mv in let y₂ = sees_next y₁ mv₁ in three_colons g c₀.at xs n i j k p m (ate_kind t q l) (y₁.kind ∙ f) (y₂.kind ∙ h)) r
       in
       let z : e + 1 + 0 + 0 ≡ e + 1 = omega arith in
       subst (λ (u : ℕ). Seg g s d from u v (state (valued i j k p m n 2) (n + 1) c₂ w₁ o)) z

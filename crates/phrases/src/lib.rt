@@ -2,10 +2,10 @@
 // or it stays and the callee comes before its caller in the order of ranks. Lists and tails are loops: calls nest by depth alone.
 ghost use Rattle.std.specs.Prelude.{◌≡◌, [], ◌∷◌, ◌+◌, ◌-◌, ◌≤◌, ◌<◌, length};
 ghost use Rattle.std.proofs.Math.Seq.{slice as part};
-ghost use Rattle.lexemes.specs.Kinds.{IF-KW, FUNCTION-KW, FOR-KW, ASSERT-KW};
+ghost use Rattle.lexemes.specs.Kinds.{IF_KW, FUNCTION_KW, FOR_KW, ASSERT_KW};
 ghost use Rattle.grammar.specs.Trees.{span};
-ghost use Rattle.grammar.specs.Productions.{goto, end, sub, deep, expr as exprPhrase, infix-tail, suffixed, suffix as suffixPhrase, bracket, slice-end, slice-step, arguments, basic as basicPhrase, array as arrayPhrase, inside as insidePhrase, comprehension, clauses, for-clause, assertion};
-ghost use Rattle.grammar.specs.Productions.{member as memberPhrase, field as fieldPhrase, field-value, params as paramsPhrase, param as paramPhrase, binds, local-body, bind as bindPhrase, pattern, array-rest, array-rest-end, pattern-fields, pattern-field, pattern-default};
+ghost use Rattle.grammar.specs.Productions.{goto, end, sub, deep, expr as exprPhrase, infix_tail, suffixed, suffix as suffixPhrase, bracket, slice_end, slice_step, arguments, basic as basicPhrase, array as arrayPhrase, inside as insidePhrase, comprehension, clauses, for_clause, assertion};
+ghost use Rattle.grammar.specs.Productions.{member as memberPhrase, field as fieldPhrase, field_value, params as paramsPhrase, param as paramPhrase, binds, local_body, bind as bindPhrase, pattern, array_rest, array_rest_end, pattern_fields, pattern_field, pattern_default};
 ghost use Rattle.leaves.specs.Lexing.{Named, Header as HeaderAt, Imports, Suffixed};
 ghost use Rattle.leaves.specs.Meets.{Ready, state, Leads, LeadsAny, Takes, TakesSome, Counts, Tells, TellsSome, TellsAny, Argues, suffixes, titled, bound as bound_by, safely};
 
@@ -53,7 +53,7 @@ fn assert(src: &[u8], out: &mut [u8], c: Cursor, w: usize, left: usize, set: u64
 // if_else, with if_spec_data's `if`: basic at `if`, else-part.
 #[cycle(arg_args_array_assert_basic_bind_body_chain_claim_comp_cond_each_ends_expr_field_func_index_init_inside_item_link_load_local_member_name_obj_param_params_pat_rest_rhs_safe_sign_slice_spec_specs_step_value)]
 fn cond(src: &[u8], out: &mut [u8], c: Cursor, w: usize, left: usize, set: u64) -> Answer
-    requires { Ready src.now c w × (c.kind ≡ IF-KW) }
+    requires { Ready src.now c w × (c.kind ≡ IF_KW) }
     ensures { Leads set src.now left (state (goto basicPhrase) 0 c w out.old) 0 end 1 result out.new }
 {
     let a = expr(src, out, eat_any(src, c), w, left, set, 0);
@@ -93,7 +93,7 @@ fn slice(
     x: Span,
 ) -> WithFirst
     requires { Ready src.now c w × (parts ≤ 1) × (x.start < 65536) × (x.end < 65536) }
-    ensures { TellsAny set src.now left (goto (slice-end parts x.start x.end)) c w out.old suffixes 1 result out.new }
+    ensures { TellsAny set src.now left (goto (slice_end parts x.start x.end)) c w out.old suffixes 1 result out.new }
 {
     let none = Span { start: 0, end: 0 };
     if c.kind == Kind::COLON {
@@ -130,7 +130,7 @@ fn step(
     y: Span,
 ) -> WithFirst
     requires { Ready src.now c w × (parts ≤ 3) × (x.start < 65536) × (x.end < 65536) × (y.start < 65536) × (y.end < 65536) }
-    ensures { TellsAny set src.now left (goto (slice-step parts x.start x.end y.start y.end)) c w out.old suffixes 1 result out.new }
+    ensures { TellsAny set src.now left (goto (slice_step parts x.start x.end y.start y.end)) c w out.old suffixes 1 result out.new }
 {
     if c.kind == Kind::R_BRACK {
         return slice_close(src, out, c, w, parts, x, y, Span { start: 0, end: 0 });
@@ -194,7 +194,7 @@ fn pat(src: &[u8], out: &mut [u8], c: Cursor, w: usize, left: usize, set: u64) -
 #[cycle(arg_args_array_assert_basic_bind_body_chain_claim_comp_cond_each_ends_expr_field_func_index_init_inside_item_link_load_local_member_name_obj_param_params_pat_rest_rhs_safe_sign_slice_spec_specs_step_value)]
 fn rest(src: &[u8], out: &mut [u8], c: Cursor, w: usize, left: usize, set: u64, n: usize) -> Answer
     requires { Ready src.now c w × (n ≤ c.at) }
-    ensures { Leads set src.now left (state (goto (array-rest n)) n c w out.old) 0 end 1 result out.new }
+    ensures { Leads set src.now left (state (goto (array_rest n)) n c w out.old) 0 end 1 result out.new }
 {
     if c.kind == Kind::IDENT {
         let name = Span {
@@ -220,7 +220,7 @@ fn ends(
     name: Span,
 ) -> Answer
     requires { Ready src.now c w × (n ≤ c.at) × (name.start ≤ name.end) × (name.end ≤ length src.now) }
-    ensures { Leads set src.now left (state (goto (array-rest-end n keep (part name.start name.end src.now))) n c w out.old) (name.end - name.start) end 1 result out.new }
+    ensures { Leads set src.now left (state (goto (array_rest_end n keep (part name.start name.end src.now))) n c w out.old) (name.end - name.start) end 1 result out.new }
 {
     let mut cur = c;
     let mut at = w;
@@ -247,7 +247,7 @@ fn ends(
 #[cycle(arg_args_array_assert_basic_bind_body_chain_claim_comp_cond_each_ends_expr_field_func_index_init_inside_item_link_load_local_member_name_obj_param_params_pat_rest_rhs_safe_sign_slice_spec_specs_step_value)]
 fn obj(src: &[u8], out: &mut [u8], c: Cursor, w: usize, left: usize, set: u64) -> Answer
     requires { Ready src.now c w }
-    ensures { Leads set src.now left (state (goto pattern-fields) 0 c w out.old) 0 end 1 result out.new }
+    ensures { Leads set src.now left (state (goto pattern_fields) 0 c w out.old) 0 end 1 result out.new }
 {
     let mut cur = c;
     let mut at = w;
@@ -276,7 +276,7 @@ fn obj(src: &[u8], out: &mut [u8], c: Cursor, w: usize, left: usize, set: u64) -
 #[cycle(arg_args_array_assert_basic_bind_body_chain_claim_comp_cond_each_ends_expr_field_func_index_init_inside_item_link_load_local_member_name_obj_param_params_pat_rest_rhs_safe_sign_slice_spec_specs_step_value)]
 fn item(src: &[u8], out: &mut [u8], c: Cursor, w: usize, left: usize, set: u64) -> Answer
     requires { Ready src.now c w }
-    ensures { Takes set src.now (sub pattern-field) 1 0 left c w out.old result out.new }
+    ensures { Takes set src.now (sub pattern_field) 1 0 left c w out.old result out.new }
 {
     let a = eat(src, c, w, Kind::IDENT);
     let Answer::Done(c1, w1, _) = a else {
@@ -309,7 +309,7 @@ fn init(
     name: Span,
 ) -> Answer
     requires { Ready src.now c w × (name.start ≤ name.end) × (name.end ≤ length src.now) }
-    ensures { Leads set src.now left (state (goto (pattern-default into (part name.start name.end src.now))) into c w out.old) (9 + (name.end - name.start)) end 1 result out.new }
+    ensures { Leads set src.now left (state (goto (pattern_default into (part name.start name.end src.now))) into c w out.old) (9 + (name.end - name.start)) end 1 result out.new }
 {
     let from = name.start;
     let to = name.end;
@@ -614,7 +614,7 @@ fn value(
     h: Header,
 ) -> Answer
     requires { Ready src.now c w × (h.start < 65536) × (h.end < 65536) × (h.computed ≤ 4) × (h.params ≤ c.at) }
-    ensures { Leads set src.now left (state (goto (field-value h.start h.end h.computed h.plus h.method)) (h.params + 1) c w out.old) 0 end 1 result out.new }
+    ensures { Leads set src.now left (state (goto (field_value h.start h.end h.computed h.plus h.method)) (h.params + 1) c w out.old) 0 end 1 result out.new }
 {
     let a = eat(src, c, w, Kind::COLON);
     let Answer::Done(c1, w1, _) = a else {
@@ -649,7 +649,7 @@ pub fn member(src: &[u8], out: &mut [u8], c: Cursor, w: usize, left: usize, set:
 #[cycle(arg_args_array_assert_basic_bind_body_chain_claim_comp_cond_each_ends_expr_field_func_index_init_inside_item_link_load_local_member_name_obj_param_params_pat_rest_rhs_safe_sign_slice_spec_specs_step_value)]
 fn spec(src: &[u8], out: &mut [u8], c: Cursor, w: usize, left: usize, set: u64) -> Answer
     requires { Ready src.now c w }
-    ensures { Takes set src.now (sub for-clause) 1 0 left c w out.old result out.new }
+    ensures { Takes set src.now (sub for_clause) 1 0 left c w out.old result out.new }
 {
     if header_at(src, c, set) == 1 {
         return each(src, out, c, w, left, set);
@@ -674,7 +674,7 @@ fn spec(src: &[u8], out: &mut [u8], c: Cursor, w: usize, left: usize, set: u64) 
 #[cycle(arg_args_array_assert_basic_bind_body_chain_claim_comp_cond_each_ends_expr_field_func_index_init_inside_item_link_load_local_member_name_obj_param_params_pat_rest_rhs_safe_sign_slice_spec_specs_step_value)]
 fn each(src: &[u8], out: &mut [u8], c: Cursor, w: usize, left: usize, set: u64) -> Answer
     requires { Ready src.now c w × HeaderAt set src.now c 1 }
-    ensures { Leads set src.now left (state (goto for-clause) 0 c w out.old) 0 end 1 result out.new }
+    ensures { Leads set src.now left (state (goto for_clause) 0 c w out.old) 0 end 1 result out.new }
 {
     if left == 0 {
         return error(c, Number::DEPTH, 0);
@@ -705,7 +705,7 @@ fn each(src: &[u8], out: &mut [u8], c: Cursor, w: usize, left: usize, set: u64) 
 // compspecs, if_spec_data, at `for`: clauses, more-clauses, if-clause.
 #[cycle(arg_args_array_assert_basic_bind_body_chain_claim_comp_cond_each_ends_expr_field_func_index_init_inside_item_link_load_local_member_name_obj_param_params_pat_rest_rhs_safe_sign_slice_spec_specs_step_value)]
 fn specs(src: &[u8], out: &mut [u8], c: Cursor, w: usize, left: usize, set: u64) -> WithCount
-    requires { Ready src.now c w × (c.kind ≡ FOR-KW) }
+    requires { Ready src.now c w × (c.kind ≡ FOR_KW) }
     ensures { Counts set src.now clauses 0 left c w out.old result out.new }
 {
     let mut cur = c;
@@ -781,7 +781,7 @@ fn comp(
     n: usize,
     fault: usize,
 ) -> Answer
-    requires { Ready src.now c w × (c.kind ≡ FOR-KW) × (n ≤ c.at) × (fault ≤ 4) }
+    requires { Ready src.now c w × (c.kind ≡ FOR_KW) × (n ≤ c.at) × (fault ≤ 4) }
     ensures { Leads set src.now left (state (goto (comprehension fault)) n c w out.old) 7 end 1 result out.new }
 {
     let a = specs(src, out, c, w, left, set);
@@ -909,7 +909,7 @@ fn local(src: &[u8], out: &mut [u8], c: Cursor, w: usize, left: usize, set: u64)
 #[cycle(arg_args_array_assert_basic_bind_body_chain_claim_comp_cond_each_ends_expr_field_func_index_init_inside_item_link_load_local_member_name_obj_param_params_pat_rest_rhs_safe_sign_slice_spec_specs_step_value)]
 fn body(src: &[u8], out: &mut [u8], c: Cursor, w: usize, left: usize, set: u64, n: usize) -> Answer
     requires { Ready src.now c w × (n ≤ c.at) }
-    ensures { Leads set src.now left (state (goto local-body) n c w out.old) 0 end 1 result out.new }
+    ensures { Leads set src.now left (state (goto local_body) n c w out.old) 0 end 1 result out.new }
 {
     let a = eat(src, c, w, Kind::SEMI);
     let Answer::Done(c1, w1, _) = a else {
@@ -926,7 +926,7 @@ fn body(src: &[u8], out: &mut [u8], c: Cursor, w: usize, left: usize, set: u64, 
 // expr_basic's function: basic at `function`, function-body.
 #[cycle(arg_args_array_assert_basic_bind_body_chain_claim_comp_cond_each_ends_expr_field_func_index_init_inside_item_link_load_local_member_name_obj_param_params_pat_rest_rhs_safe_sign_slice_spec_specs_step_value)]
 fn func(src: &[u8], out: &mut [u8], c: Cursor, w: usize, left: usize, set: u64) -> Answer
-    requires { Ready src.now c w × (c.kind ≡ FUNCTION-KW) }
+    requires { Ready src.now c w × (c.kind ≡ FUNCTION_KW) }
     ensures { Leads set src.now left (state (goto basicPhrase) 0 c w out.old) 0 end 1 result out.new }
 {
     let a = eat(src, eat_any(src, c), w, Kind::L_PAREN);
@@ -952,7 +952,7 @@ fn func(src: &[u8], out: &mut [u8], c: Cursor, w: usize, left: usize, set: u64) 
 // expr_basic's assert: basic at `assert`.
 #[cycle(arg_args_array_assert_basic_bind_body_chain_claim_comp_cond_each_ends_expr_field_func_index_init_inside_item_link_load_local_member_name_obj_param_params_pat_rest_rhs_safe_sign_slice_spec_specs_step_value)]
 fn claim(src: &[u8], out: &mut [u8], c: Cursor, w: usize, left: usize, set: u64) -> Answer
-    requires { Ready src.now c w × (c.kind ≡ ASSERT-KW) }
+    requires { Ready src.now c w × (c.kind ≡ ASSERT_KW) }
     ensures { Leads set src.now left (state (goto basicPhrase) 0 c w out.old) 0 end 1 result out.new }
 {
     let a = assert(src, out, c, w, left, set);
@@ -1131,7 +1131,7 @@ fn index(
 #[cycle(arg_args_array_assert_basic_bind_body_chain_claim_comp_cond_each_ends_expr_field_func_index_init_inside_item_link_load_local_member_name_obj_param_params_pat_rest_rhs_safe_sign_slice_spec_specs_step_value)]
 fn sign(src: &[u8], out: &mut [u8], c: Cursor, w: usize, left: usize, set: u64, least: u8) -> Answer
     requires { Ready src.now c w }
-    ensures { Leads set src.now left (state (goto (exprPhrase least)) 0 c w out.old) 0 (goto (infix-tail least)) 1 result out.new }
+    ensures { Leads set src.now left (state (goto (exprPhrase least)) 0 c w out.old) 0 (goto (infix_tail least)) 1 result out.new }
 {
     let p = unary_op(c.kind);
     let Prefix::Unary(o) = p else {

@@ -11,9 +11,9 @@ use lib.ListN.{length, replicate}
 use Rattle.grammar.specs.Numbers.{TREE, SETTING, LONG, ENCODING, LEXEME, WANTED, ABSENT, EXPRESSION, MISPLACED, ESCAPE, DEPTH, ROOM, LARGE}
 use Rattle.grammar.specs.Trees.{Trees}
 use Rattle.grammar.specs.Image.{image}
-use Rattle.grammar.specs.Answer.{Answer, Verdict, refused, tree, Judged, answer, output, document-01}
+use Rattle.grammar.specs.Answer.{Answer, Verdict, refused, tree, Judged, answer, output, document_01}
 use Rattle.grammar.specs.Source.{Bad, Kept, Reads01}
-use Rattle.grammar.proofs.Whole.{Accepted, Parsed, parsed, judged-tree}
+use Rattle.grammar.proofs.Whole.{Accepted, Parsed, parsed, judged_tree}
 use Rattle.grammar.proofs.Source.{lexing}
 use Rattle.reader.specs.Reader.{numbers}
 use Rattle.reader.specs.declared.Reading.{Reading}
@@ -21,8 +21,8 @@ use Rattle.reader.specs.declared.Reading.TheVariants.{Tree, Setting, Long, Encod
 
 -- ── The case that has these numbers ───────────────────────────────────────────────────────────────
 
-case-of : Answer → Reading
-case-of a = by (eqb a.number)
+case_of : Answer → Reading
+case_of a = by (eqb a.number)
   where
     by : (ℕ → Bool) → Reading
     by is =
@@ -40,40 +40,40 @@ case-of a = by (eqb a.number)
         (cond (is ROOM) (Room a.size)
         (Large a.start a.stop))))))))))))
 
-case-back : (r : Reading) → case-of (numbers r) ≡ r
-unfolding numbers case-of
-case-back (Tree n) = refl
-case-back Setting = refl
-case-back Long = refl
-case-back (Encoding n) = refl
-case-back (Lexeme a e k) = refl
-case-back (Wanted a e k) = refl
-case-back (Absent a e x) = refl
-case-back (Expression a e) = refl
-case-back (Misplaced a e x) = refl
-case-back (Escape a e x) = refl
-case-back (Depth a e) = refl
-case-back (Room n) = refl
-case-back (Large a e) = refl
+case_back : (r : Reading) → case_of (numbers r) ≡ r
+unfolding numbers case_of
+case_back (Tree n) = refl
+case_back Setting = refl
+case_back Long = refl
+case_back (Encoding n) = refl
+case_back (Lexeme a e k) = refl
+case_back (Wanted a e k) = refl
+case_back (Absent a e x) = refl
+case_back (Expression a e) = refl
+case_back (Misplaced a e x) = refl
+case_back (Escape a e x) = refl
+case_back (Depth a e) = refl
+case_back (Room n) = refl
+case_back (Large a e) = refl
 
 -- No two cases have the same numbers.
 pub same_case : (r r' : Reading) → numbers r ≡ numbers r' → r ≡ r'
-same_case r r' e = sym (case-back r) ∙ ap case-of e ∙ case-back r'
+same_case r r' e = sym (case_back r) ∙ ap case_of e ∙ case_back r'
 
 -- ── Numbers 0 and 12 say that there is a tree ─────────────────────────────────────────────────────
 
 -- The rules derive this tree of a source that is past numbers 1 to 4.
 abbrev pub HasTree : ℕ → List ℕ → Trees → Type 0
-HasTree setting source ts = Parsed lexing document-01 setting source ts
+HasTree setting source ts = Parsed lexing document_01 setting source ts
 
-pub derived-judged : {setting : ℕ} {source : List ℕ} {ts : Trees} → HasTree setting source ts → Judged Bad Kept document-01 setting source (tree ts)
-derived-judged d = judged-tree lexing document-01 d
+pub derived_judged : {setting : ℕ} {source : List ℕ} {ts : Trees} → HasTree setting source ts → Judged Bad Kept document_01 setting source (tree ts)
+derived_judged d = judged_tree lexing document_01 d
 
 -- An answer and an output with one of these numbers are those of a derived tree.
-pub accepted-derived : {setting : ℕ} {source : List ℕ} {room : ℕ} {a : Answer} {out : List ℕ} → Reads01 setting source room a out → Accepted a
+pub accepted_derived : {setting : ℕ} {source : List ℕ} {room : ℕ} {a : Answer} {out : List ℕ} → Reads01 setting source room a out → Accepted a
     → (ts : Trees) × HasTree setting source ts × (a ≡ answer room (tree ts)) × (out ≡ output room (tree ts))
-accepted-derived {room = room} x h =
-    let p = parsed lexing document-01 room x.judged (subst Accepted x.answered h) in
+accepted_derived {room = room} x h =
+    let p = parsed lexing document_01 room x.judged (subst Accepted x.answered h) in
     (p.0, p.2, x.answered ∙ ap (answer room) p.1, x.written ∙ ap (output room) p.1)
 
 -- ── A tree's answer and output, with room and without ─────────────────────────────────────────────
@@ -87,36 +87,36 @@ no_room true e = absurd (omega (arith, e))
 no_room false e = refl
 
 module _ (room : ℕ) (ts : Trees) where
-  by-room : Bool → Answer
-  by-room b = record { number = cond b TREE ROOM; start = 0; stop = 0; detail = 0; size = length (image ts) }
+  by_room : Bool → Answer
+  by_room b = record { number = cond b TREE ROOM; start = 0; stop = 0; detail = 0; size = length (image ts) }
 
-  out-by-room : Bool → List ℕ
-  out-by-room b = cond b (image ts ++ replicate (room - length (image ts)) 0) (replicate room 0)
+  out_by_room : Bool → List ℕ
+  out_by_room b = cond b (image ts ++ replicate (room - length (image ts)) 0) (replicate room 0)
 
   pub fits-answer : length (image ts) ≤ room → answer room (tree ts) ≡ numbers (Tree (length (image ts)))
-  unfolding answer numbers by-room
-  fits-answer h = ap by-room (le-leb (length (image ts)) room h)
+  unfolding answer numbers by_room
+  fits-answer h = ap by_room (le-leb (length (image ts)) room h)
 
   pub fits-output : length (image ts) ≤ room → output room (tree ts) ≡ image ts ++ replicate (room - length (image ts)) 0
-  unfolding output out-by-room
-  fits-output h = ap out-by-room (le-leb (length (image ts)) room h)
+  unfolding output out_by_room
+  fits-output h = ap out_by_room (le-leb (length (image ts)) room h)
 
-  pub lacks-answer : room < length (image ts) → answer room (tree ts) ≡ numbers (Room (length (image ts)))
-  unfolding answer numbers by-room
-  lacks-answer h = ap by-room (lt-leb (length (image ts)) room h)
+  pub lacks_answer : room < length (image ts) → answer room (tree ts) ≡ numbers (Room (length (image ts)))
+  unfolding answer numbers by_room
+  lacks_answer h = ap by_room (lt-leb (length (image ts)) room h)
 
-  pub lacks-output : room < length (image ts) → output room (tree ts) ≡ replicate room 0
-  unfolding output out-by-room
-  lacks-output h = ap out-by-room (lt-leb (length (image ts)) room h)
+  pub lacks_output : room < length (image ts) → output room (tree ts) ≡ replicate room 0
+  unfolding output out_by_room
+  lacks_output h = ap out_by_room (lt-leb (length (image ts)) room h)
 
   -- and back
   pub tree-answer : (n : ℕ) → numbers (Tree n) ≡ answer room (tree ts) → (n ≡ length (image ts)) × (length (image ts) ≤ room)
   unfolding numbers answer
   tree-answer n e = (ap (λ (a : Answer). a.size) e, leb-true (length (image ts)) room (has_room (leb (length (image ts)) room) (ap (λ (a : Answer). a.number) e)))
 
-  pub room-answer : (n : ℕ) → numbers (Room n) ≡ answer room (tree ts) → (n ≡ length (image ts)) × (room < length (image ts))
+  pub room_answer : (n : ℕ) → numbers (Room n) ≡ answer room (tree ts) → (n ≡ length (image ts)) × (room < length (image ts))
   unfolding numbers answer
-  room-answer n e = (ap (λ (a : Answer). a.size) e, leb-false (length (image ts)) room (no_room (leb (length (image ts)) room) (ap (λ (a : Answer). a.number) e)))
+  room_answer n e = (ap (λ (a : Answer). a.size) e, leb-false (length (image ts)) room (no_room (leb (length (image ts)) room) (ap (λ (a : Answer). a.number) e)))
 
 -- What any number but 0 leaves.
 pub refusal-output : (room : ℕ) (v : Verdict) → ¬ ((answer room v).number ≡ TREE) → output room v ≡ replicate room 0

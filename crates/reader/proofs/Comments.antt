@@ -14,16 +14,16 @@ use lib.Dec.{T, eqb, leb}
 use lib.ListN.{length, replicate}
 use Rattle.strings.specs.Utf8.{Utf8}
 use Rattle.lexemes.specs.Same.{SameLexemes, Place}
-use Rattle.grammar.specs.Numbers.{TREE, ESCAPE, fits, at-lexeme}
+use Rattle.grammar.specs.Numbers.{TREE, ESCAPE, fits, at_lexeme}
 use Rattle.grammar.specs.Trees.{Trees}
 use Rattle.grammar.specs.Alike.{Alike}
 use Rattle.grammar.specs.Image.{image}
 use Rattle.grammar.specs.Answer.{Answer, Verdict, refused, tree, answer, output}
 use Rattle.grammar.specs.Source.{Reads01}
-use Rattle.grammar.specs.SameAnswers.{SameDetail, SameVerdict, equal, as-far, trees, settings, refusals}
-use Rattle.grammar.proofs.ImageLaws.{alike-length}
+use Rattle.grammar.specs.SameAnswers.{SameDetail, SameVerdict, equal, as_far, trees, settings, refusals}
+use Rattle.grammar.proofs.ImageLaws.{alike_length}
 use Rattle.grammar.proofs.Source.{reads_fit}
-use Rattle.grammar.proofs.SameSources.{same-judged}
+use Rattle.grammar.proofs.SameSources.{same_judged}
 use Rattle.reader.specs.Reader.{numbers, Reads}
 use Rattle.reader.specs.declared.Reading.{Reading}
 use Rattle.reader.proofs.AnswerLaws.{has_room}
@@ -34,33 +34,33 @@ pub record SameAnswers {s t : List ℕ} (x : SameLexemes s t) (room : ℕ) (a b 
   pub size : a.size ≡ b.size
   pub detail : ¬ (a.number ≡ ESCAPE) → a.detail ≡ b.detail
   -- A number that stands at a lexeme stands at the i-th of the one source and at the i-th of the other.
-  pub place : T (at-lexeme a.number) → (i : ℕ) × Place 0 x.left i a.start a.stop × Place 0 x.right i b.start b.stop × SameDetail a.number a.start a.detail b.start b.detail
+  pub place : T (at_lexeme a.number) → (i : ℕ) × Place 0 x.left i a.start a.stop × Place 0 x.right i b.start b.stop × SameDetail a.number a.start a.detail b.start b.detail
   pub trees : a.number ≡ TREE
       → (ts : Trees) × (us : Trees) × Alike ts us × (out ≡ image ts ++ replicate (room - length (image ts)) 0) × (out₁ ≡ image us ++ replicate (room - length (image us)) 0)
 
 -- Where the same is found out about both, the answers and the outputs are the same.
 module _ {s t : List ℕ} (x : SameLexemes s t) (room : ℕ) where
-  same-detail : {n a d b e : ℕ} → SameDetail n a d b e → ¬ (n ≡ ESCAPE) → d ≡ e
-  same-detail (equal h) g = refl
-  same-detail (as-far o) g = absurd (g refl)
+  same_detail : {n a d b e : ℕ} → SameDetail n a d b e → ¬ (n ≡ ESCAPE) → d ≡ e
+  same_detail (equal h) g = refl
+  same_detail (as_far o) g = absurd (g refl)
 
   tree-output : (ts : Trees) → (answer room (tree ts)).number ≡ TREE → output room (tree ts) ≡ image ts ++ replicate (room - length (image ts)) 0
   unfolding answer output
   tree-output ts e = ap (λ (b : Bool). cond b (image ts ++ replicate (room - length (image ts)) 0) (replicate room 0)) (has_room (leb (length (image ts)) room) (sym e))
 
-  no_place : (b : Bool) → T (at-lexeme (cond b 0 12)) → ⊥
-  unfolding at-lexeme
+  no_place : (b : Bool) → T (at_lexeme (cond b 0 12)) → ⊥
+  unfolding at_lexeme
   no_place true h = h
   no_place false h = h
 
-  no-tree : (n : ℕ) → T (at-lexeme n) → n ≡ TREE → ⊥
-  unfolding at-lexeme
-  no-tree n h e = subst (λ (m : ℕ). T (at-lexeme m)) e h
+  no_tree : (n : ℕ) → T (at_lexeme n) → n ≡ TREE → ⊥
+  unfolding at_lexeme
+  no_tree n h e = subst (λ (m : ℕ). T (at_lexeme m)) e h
 
-  same-answers : {v w : Verdict} → SameVerdict x.left x.right v w → SameAnswers x room (answer room v) (answer room w) (output room v) (output room w)
-  unfolding answer output at-lexeme
-  same-answers (trees {ts} {us} a) =
-      let l = alike-length a in
+  same_answers : {v w : Verdict} → SameVerdict x.left x.right v w → SameAnswers x room (answer room v) (answer room w) (output room v) (output room w)
+  unfolding answer output at_lexeme
+  same_answers (trees {ts} {us} a) =
+      let l = alike_length a in
       let n : (answer room (tree ts)).number ≡ (answer room (tree us)).number = ap (λ (k : ℕ). cond (leb k room) 0 12) l in
       record {
         number = n;
@@ -69,9 +69,9 @@ module _ {s t : List ℕ} (x : SameLexemes s t) (room : ℕ) where
         place = λ h. absurd (no_place (leb (length (image ts)) room) h);
         trees = λ e. (ts, us, a, tree-output ts e, tree-output us (sym n ∙ e));
       }
-  same-answers settings = record { number = refl; size = refl; detail = λ h. refl; place = λ h. absurd h; trees = λ e. absurd (omega (arith, e)) }
-  same-answers (refusals {n} {i = i} h p q d) =
-      record { number = refl; size = refl; detail = same-detail d; place = λ g. (i, p, q, d); trees = λ e. absurd (no-tree n h e) }
+  same_answers settings = record { number = refl; size = refl; detail = λ h. refl; place = λ h. absurd h; trees = λ e. absurd (omega (arith, e)) }
+  same_answers (refusals {n} {i = i} h p q d) =
+      record { number = refl; size = refl; detail = same_detail d; place = λ g. (i, p, q, d); trees = λ e. absurd (no_tree n h e) }
 
   told : {a a' b b' : Answer} {o o' p p' : List ℕ} → a ≡ a' → b ≡ b' → o ≡ o' → p ≡ p' → SameAnswers x room a' b' o' p' → SameAnswers x room a b o p
   told {a} {a'} {b} {b'} {o} {o'} {p} {p'} i j k l z =
@@ -80,14 +80,14 @@ module _ {s t : List ℕ} (x : SameLexemes s t) (room : ℕ) where
 
 -- COMMENTS CAN'T MATTER.
 module _ (setting : ℕ) (s t out out₁ : List ℕ) (one-length : length out₁ ≡ length out) (r r₁ : Reading) (out' out₁' : List ℕ) where
-  pub comments-cannot-matter : Utf8 s → Utf8 t → length s ≤ 65000 → length t ≤ 65000 → (x : SameLexemes s t) → Reads setting s out r out' → Reads setting t out₁ r₁ out₁'
+  pub comments_cannot_matter : Utf8 s → Utf8 t → length s ≤ 65000 → length t ≤ 65000 → (x : SameLexemes s t) → Reads setting s out r out' → Reads setting t out₁ r₁ out₁'
       → SameAnswers x (length out) (numbers r) (numbers r₁) out' out₁'
-  comments-cannot-matter u u' h h' x a b =
+  comments_cannot_matter u u' h h' x a b =
       let c = subst (λ (room : ℕ). Reads01 setting t room (numbers r₁) out₁') one-length b in
-      told x (length out) a.answered c.answered a.written c.written (same-answers x (length out) (same-judged x u u' h h' a.judged c.judged))
+      told x (length out) a.answered c.answered a.written c.written (same_answers x (length out) (same_judged x u u' h h' a.judged c.judged))
 
 -- NUMBER 10 IS NEVER ANSWERED, for any setting, source and output.
-pub never-ten : (setting : ℕ) (source out : List ℕ) (reading : Reading) (out' : List ℕ) → Reads setting source out reading out' → (numbers reading).number ≡ 10 → ⊥
+pub never_ten : (setting : ℕ) (source out : List ℕ) (reading : Reading) (out' : List ℕ) → Reads setting source out reading out' → (numbers reading).number ≡ 10 → ⊥
 unfolding fits
-never-ten setting source out reading out' x e =
+never_ten setting source out reading out' x e =
     subst (λ (n : ℕ). T (fits n (numbers reading).start (numbers reading).stop (numbers reading).detail (numbers reading).size)) e (reads_fit x)

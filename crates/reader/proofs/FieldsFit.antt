@@ -1,6 +1,6 @@
 -- EVERY NUMBER AND EVERY SPAN FITS ITS FIELD. In a tree that the rules derive of a source a number is at most the source's length, a span ends by the
 -- source's end, and a byte is one: so with at most 65,000 bytes of source each number and each end fits its two bytes. That a payload's length fits is
--- `payloads-fit` (crates/grammar/proofs/Room.antt).
+-- `payloads_fit` (crates/grammar/proofs/Room.antt).
 -- Assumes nothing.
 use mathlib.Core.Path.{◌≡◌, refl, ap}
 use mathlib.Core.List.{List, [], ◌∷◌, ◌++◌}
@@ -11,14 +11,14 @@ use Rattle.grammar.specs.Trees.{Field, byte, number, span, text, Trees}
 use Rattle.grammar.specs.Trees as trees
 use Rattle.grammar.specs.Records.{Sort, Fits, times, Spans, Has, First, Part, Rest, Name, Method, Form, Obeys}
 use Rattle.grammar.specs.Derived.{Forwards}
-use Rattle.grammar.specs.Answer.{prefix-power}
-use Rattle.grammar.proofs.Obeys.{obeys-length, obeys}
+use Rattle.grammar.specs.Answer.{prefix_power}
+use Rattle.grammar.proofs.Obeys.{obeys_length, obeys}
 use Rattle.grammar.proofs.Spanned.{forwards}
-use Rattle.grammar.proofs.Possible.{kept-worded}
-use Rattle.grammar.proofs.Ranges.{kept-ranged}
+use Rattle.grammar.proofs.Possible.{kept_worded}
+use Rattle.grammar.proofs.Ranges.{kept_ranged}
 use Rattle.reader.proofs.AnswerLaws.{HasTree}
-use Rattle.reader.proofs.RowCounts.{Narrow, rows-narrow}
-use Rattle.reader.proofs.SpanEnds.{Below, stops, Ending, spans-end}
+use Rattle.reader.proofs.RowCounts.{Narrow, rows_narrow}
+use Rattle.reader.proofs.SpanEnds.{Below, stops, Ending, spans_end}
 
 -- ── What fits ─────────────────────────────────────────────────────────────────────────────────────
 
@@ -53,30 +53,30 @@ length-times (suc n) σ = ap suc (length-times n σ)
 behind : (n : ℕ) (σ : Sort) (σs : List Sort) → n ≤ length (times n σ ++ σs)
 behind n σ σs = omega (arith, length-append (times n σ) σs, length-times n σ)
 
-has-flag : {σ : Sort} {h : ℕ} {σs : List Sort} → Has σ h σs → h ≤ 1
-has-flag Has.no = omega arith
-has-flag Has.yes = omega arith
+has_flag : {σ : Sort} {h : ℕ} {σs : List Sort} → Has σ h σs → h ≤ 1
+has_flag Has.no = omega arith
+has_flag Has.yes = omega arith
 
-first-flag : {f : ℕ} {σ : Sort} → First f σ → f ≤ 1
-first-flag First.first = omega arith
-first-flag First.later = omega arith
+first_flag : {f : ℕ} {σ : Sort} → First f σ → f ≤ 1
+first_flag First.first = omega arith
+first_flag First.later = omega arith
 
-part-byte : {q : Spans} {w b a e : ℕ} {σs : List Sort} → Part q w b a e σs → b ≤ w
-part-byte (Part.absent h) = omega arith
-part-byte (Part.present h) = omega arith
+part_byte : {q : Spans} {w b a e : ℕ} {σs : List Sort} → Part q w b a e σs → b ≤ w
+part_byte (Part.absent h) = omega arith
+part_byte (Part.present h) = omega arith
 
-rest-byte : {r m : ℕ} {w : List ℕ} → Rest r m w → r ≤ 2
-rest-byte Rest.whole = omega arith
-rest-byte Rest.dropped = omega arith
-rest-byte (Rest.kept h) = omega arith
+rest_byte : {r m : ℕ} {w : List ℕ} → Rest r m w → r ≤ 2
+rest_byte Rest.whole = omega arith
+rest_byte Rest.dropped = omega arith
+rest_byte (Rest.kept h) = omega arith
 
-name-flag : {c : ℕ} {σ : Sort} → Name c σ → c ≤ 1
-name-flag Name.fixed = omega arith
-name-flag Name.computed = omega arith
+name_flag : {c : ℕ} {σ : Sort} → Name c σ → c ≤ 1
+name_flag Name.fixed = omega arith
+name_flag Name.computed = omega arith
 
-method-flags : {p m n : ℕ} → Method p m n → (p ≤ 1) × (m ≤ 1)
-method-flags (Method.value h) = (h, omega arith)
-method-flags Method.method = (omega arith, omega arith)
+method_flags : {p m n : ℕ} → Method p m n → (p ≤ 1) × (m ≤ 1)
+method_flags (Method.value h) = (h, omega arith)
+method_flags Method.method = (omega arith, omega arith)
 
 counting : {q : Spans} {σ : Sort} {tag : ℕ} {fs : List Field} {ws : List Sort} → Form q σ tag fs ws → Counting (length ws) fs
 counting (Form.r1 h p) = (omega (arith, h), tt)
@@ -103,24 +103,24 @@ counting (Form.r18 {u = u} {n} p h) =
     let x = length-append (times u Sort.expression) (times n Sort.named) in
     (omega (arith, h), (omega (arith, x, length-times u Sort.expression), (omega (arith, x, length-times n Sort.named), tt)))
 counting (Form.r19 h) = tt
-counting (Form.r20 p f h) = (omega (arith, first-flag f), (omega (arith, h), tt))
+counting (Form.r20 p f h) = (omega (arith, first_flag f), (omega (arith, h), tt))
 counting (Form.r21 {n = n} p) = (behind n Sort.param (Sort.expression ∷ []), tt)
-counting (Form.r22 p h) = (omega (arith, has-flag h), tt)
-counting (Form.r23 a b c) = (omega (arith, part-byte a, part-byte b, part-byte c), tt)
-counting Form.r24-value = (omega arith, (omega arith, tt))
-counting (Form.r24-function {n}) = (omega arith, (omega (arith, behind n Sort.param (Sort.expression ∷ [])), tt))
+counting (Form.r22 p h) = (omega (arith, has_flag h), tt)
+counting (Form.r23 a b c) = (omega (arith, part_byte a, part_byte b, part_byte c), tt)
+counting Form.r24_value = (omega arith, (omega arith, tt))
+counting (Form.r24_function {n}) = (omega arith, (omega (arith, behind n Sort.param (Sort.expression ∷ [])), tt))
 counting (Form.r25 p h) = tt
 counting Form.r26 = tt
 counting (Form.r27 {n} {m = m} h) =
     let x = length-append (times n Sort.pattern) (times m Sort.pattern) in
-    (omega (arith, x, length-times n Sort.pattern), (omega (arith, rest-byte h), (omega (arith, x, length-times m Sort.pattern), tt)))
-counting (Form.r28 {n} h) = (omega (arith, length-times n Sort.pattern-field), (omega (arith, rest-byte h), tt))
-counting (Form.r29-bare h p w) = (omega (arith, has-flag h), (omega arith, tt))
-counting (Form.r29-default h p w) = (omega (arith, has-flag h), (omega arith, tt))
-counting (Form.r30 h) = (omega (arith, has-flag h), tt)
+    (omega (arith, x, length-times n Sort.pattern), (omega (arith, rest_byte h), (omega (arith, x, length-times m Sort.pattern), tt)))
+counting (Form.r28 {n} h) = (omega (arith, length-times n Sort.pattern_field), (omega (arith, rest_byte h), tt))
+counting (Form.r29_bare h p w) = (omega (arith, has_flag h), (omega arith, tt))
+counting (Form.r29_default h p w) = (omega (arith, has_flag h), (omega arith, tt))
+counting (Form.r30 h) = (omega (arith, has_flag h), tt)
 counting (Form.r31 {n = n} p c m v) =
-    (omega (arith, name-flag c), (omega (arith, method-flags m), (omega (arith, method-flags m), (omega (arith, behind n Sort.param (Sort.expression ∷ [])), (omega (arith, v), tt)))))
-counting (Form.r32 p h) = (omega (arith, has-flag h), tt)
+    (omega (arith, name_flag c), (omega (arith, method_flags m), (omega (arith, method_flags m), (omega (arith, behind n Sort.param (Sort.expression ∷ [])), (omega (arith, v), tt)))))
+counting (Form.r32 p h) = (omega (arith, has_flag h), tt)
 counting Form.r33 = tt
 counting (Form.r34 p) = tt
 counting (Form.r35 v w) = (omega (arith, v), tt)
@@ -141,14 +141,14 @@ fit (text w ∷ fs) l c f e = fit fs l c f e
 fitting : {n : ℕ} {σs : List Sort} {ts : Trees} → Obeys Spans.forward σs ts → Narrow n ts → Ending n ts → Fitting n ts
 fitting Obeys.none Narrow.none Ending.none = Fitting.none
 fitting (Obeys.node {fields = fs} f g h k) (Narrow.node c w v) (Ending.node e x y) =
-    Fitting.node (fit fs (omega (arith, c, fits-length g, obeys-length h)) (counting f) (forwards f).0 e) (fitting h w x) (fitting k v y)
+    Fitting.node (fit fs (omega (arith, c, fits-length g, obeys_length h)) (counting f) (forwards f).0 e) (fitting h w x) (fitting k v y)
 
 -- OF WHATEVER SOURCE THAT HAS A TREE, under whichever setting.
 pub fields_fit : {setting : ℕ} {source : List ℕ} {ts : Trees} → HasTree setting source ts → Fitting (length source) ts
 fields_fit {setting} d =
-    let o = kept-ranged d.lexemes in
-    fitting (obeys (prefix-power setting) setting o (kept-worded d.utf8 d.lexemes) d.reads).2 (rows-narrow (prefix-power setting) setting o d.reads)
-    (spans-end (prefix-power setting) setting o d.reads)
+    let o = kept_ranged d.lexemes in
+    fitting (obeys (prefix_power setting) setting o (kept_worded d.utf8 d.lexemes) d.reads).2 (rows_narrow (prefix_power setting) setting o d.reads)
+    (spans_end (prefix_power setting) setting o d.reads)
 
 -- That is at most 65,000, so that each number and each end of a span has its two bytes.
 pub two_bytes : {setting : ℕ} {source : List ℕ} {ts : Trees} {n : ℕ} → HasTree setting source ts → n ≤ length source → (n / 256 ≤ 255) × (n % 256 ≤ 255)

@@ -13,27 +13,27 @@ use lib.Dec.{eqb}
 use lib.ListN.{length, take, drop, replicate, length-drop, drop_of_length-le}
 use lib.Seq.{sets, sets-eq, take_at, take_all, length-sets}
 use Rattle.strings.specs.Utf8.{Utf8, ValidTo}
-use Rattle.strings.proofs.CharacterLaws.{valid-whole}
+use Rattle.strings.proofs.CharacterLaws.{valid_whole}
 use Rattle.lexemes.specs.declared.Lexeme.{Lexeme as Range}
 use Rattle.lexemes.specs.Kinds.{EOF}
 use Rattle.lexemes.specs.Lexeme.{lexeme}
 use Rattle.lexemes.specs.Kept.{FirstBad}
 use Rattle.lexemes.specs.Kept as lexemes
-use Rattle.lexemes.proofs.Laws.{lexeme-not-eof}
-use Rattle.lexemes.proofs.KeptLaws.{Rest, next, kept_step, kept-always, first-bad-once}
-use Rattle.grammar.specs.Numbers.{TREE, SETTING, LONG, ENCODING, LEXEME, WANTED, ABSENT, EXPRESSION, MISPLACED, ESCAPE, DEPTH, ROOM, LARGE, met-with}
+use Rattle.lexemes.proofs.Laws.{lexeme_not_eof}
+use Rattle.lexemes.proofs.KeptLaws.{Rest, next, kept_step, kept_always, first_bad_once}
+use Rattle.grammar.specs.Numbers.{TREE, SETTING, LONG, ENCODING, LEXEME, WANTED, ABSENT, EXPRESSION, MISPLACED, ESCAPE, DEPTH, ROOM, LARGE, met_with}
 use Rattle.grammar.specs.Trees.{Trees, none, count as size}
 use Rattle.grammar.specs.Image.{image}
-use Rattle.grammar.specs.Lexemes.{Lexeme as Token, stop-of}
+use Rattle.grammar.specs.Lexemes.{Lexeme as Token, stop_of}
 use Rattle.grammar.specs.Says.{Told}
 use Rattle.grammar.specs.Productions.{end, ◌▸◌, eat, deep, expr, source}
 use Rattle.grammar.specs.Reading.{Outcome, done, broken, Reading as Derivation, ended, eaten, uneaten}
-use Rattle.grammar.specs.Answer.{Answer as Handed, Verdict, refused, tree, verdict, Judged, read, answer, output, valid-setting, document-01}
+use Rattle.grammar.specs.Answer.{Answer as Handed, Verdict, refused, tree, verdict, Judged, read, answer, output, valid_setting, document_01}
 use Rattle.grammar.specs.Source.{Bad, bad, Kept, kept}
-use Rattle.grammar.proofs.Chosen.{true-false, holds}
+use Rattle.grammar.proofs.Chosen.{true_false, holds}
 use Rattle.grammar.proofs.NumberLaws.{refusal as met-in-reading}
-use Rattle.grammar.proofs.Source.{told-always, lexing}
-use Rattle.grammar.proofs.Taken.{tree-kept}
+use Rattle.grammar.proofs.Source.{told_always, lexing}
+use Rattle.grammar.proofs.Taken.{tree_kept}
 use Rattle.leaves.specs.Lexing.{Left, over, more, Stands}
 use Rattle.leaves.specs.Meets.{power, state, Seg, Breaks, Takes}
 use Rattle.reader.specs.Reader.{refusal, numbers, written, Admitted, Met, Parsed, Parses, Finds, Reads}
@@ -45,65 +45,65 @@ use Rattle.reader.specs.declared.Reading.{Reading}
 use Rattle.reader.specs.declared.Reading.TheVariants.{Tree, Setting, Long, Encoding, Lexeme, Wanted, Absent, Expression, Misplaced, Escape, Depth, Room, Large}
 use Rattle.reader.specs.contracts.Reading.{the_type}
 use Rattle.leaves.proofs.LexemeLaws.{sees}
-use Rattle.reader.proofs.AnswerLaws.{fits-answer, fits-output, lacks-answer, lacks-output}
+use Rattle.reader.proofs.AnswerLaws.{fits-answer, fits-output, lacks_answer, lacks_output}
 use Rattle.leaves.proofs.Steps
 
 -- ── The lexemes of a source ───────────────────────────────────────────────────────────────────────
 
 first_rest : {s : List ℕ} {at : ℕ} {l : Range} {ls : List Range} → Rest s at (l ∷ ls) → (l.kind ≡ EOF → ⊥) × lexemes.Kept s l.end ls
-first_rest {s} (next f h g d n r) = (lexeme-not-eof s (omega arith) d, r)
+first_rest {s} (next f h g d n r) = (lexeme_not_eof s (omega arith) d, r)
 
 -- The kept lexemes from a place on, with what they say, are those that are left there.
-pub left-of : {s : List ℕ} {at : ℕ} {ranges : List Range} {xs : List Token} → lexemes.Kept s at ranges → Told s ranges xs → Left s at xs
-left-of k Told.none = over (record { left = []; is-left = k; is-first = refl })
-left-of k (Told.more t ts) = let r = first_rest (kept_step k) in more (record { left = _; is-left = k; is-first = refl }) r.0 t (left-of r.1 ts)
+pub left_of : {s : List ℕ} {at : ℕ} {ranges : List Range} {xs : List Token} → lexemes.Kept s at ranges → Told s ranges xs → Left s at xs
+left_of k Told.none = over (record { left = []; is_left = k; is_first = refl })
+left_of k (Told.more t ts) = let r = first_rest (kept_step k) in more (record { left = _; is_left = k; is_first = refl }) r.0 t (left_of r.1 ts)
 
 -- Every source has some.
-left-always : (s : List ℕ) → (xs : List Token) × Left s 0 xs
-left-always s =
-    let k = kept-always s 0 in
-    let t = told-always s k.0 in
-    (t.0, left-of k.1 t.1)
+left_always : (s : List ℕ) → (xs : List Token) × Left s 0 xs
+left_always s =
+    let k = kept_always s 0 in
+    let t = told_always s k.0 in
+    (t.0, left_of k.1 t.1)
 
 -- Where the first bad lexeme is the end, none is bad.
-end-first : {s : List ℕ} {l : Range} → Utf8 s → FirstBad s l → l.kind ≡ EOF → FirstBad s (lexeme EOF (length s) (length s))
-end-first {s} {l} u b e = by (lexing.lexed s u)
+end_first : {s : List ℕ} {l : Range} → Utf8 s → FirstBad s l → l.kind ≡ EOF → FirstBad s (lexeme EOF (length s) (length s))
+end_first {s} {l} u b e = by (lexing.lexed s u)
   where
     by : ((k : ℕ) × (a : ℕ) × (z : ℕ) × Bad s k a z) ⊎ ((xs : List Token) × Kept s xs) → FirstBad s (lexeme EOF (length s) (length s))
-    by (inl (k, a, z, bad n x)) = absurd (n (sym (ap (λ (y : Range). y.kind) (first-bad-once b x)) ∙ e))
+    by (inl (k, a, z, bad n x)) = absurd (n (sym (ap (λ (y : Range). y.kind) (first_bad_once b x)) ∙ e))
     by (inr (xs, kept x k t)) = x
 
 -- All bytes are valid.
-pub valid-all : {s : List ℕ} {n : ℕ} → ValidTo s n → length s ≤ n → Utf8 s
-valid-all v h = valid-whole v (omega (arith, v.within))
+pub valid_all : {s : List ℕ} {n : ℕ} → ValidTo s n → length s ≤ n → Utf8 s
+valid_all v h = valid_whole v (omega (arith, v.within))
 
 -- What the lexemes of a source are read as is what the phrases make of it.
 met_by : {g : ℕ} {s : List ℕ} {v : Verdict} → ((xs : List Token) → Left s 0 xs → (o : Outcome) × Derivation (power g) g source none 200 0 xs o × (verdict o ≡ v)) → Met g s v
 met_by {s = s} f =
-    let k = kept-always s 0 in
-    let t = told-always s k.0 in
-    let o = f t.0 (left-of k.1 t.1) in
+    let k = kept_always s 0 in
+    let t = told_always s k.0 in
+    let o = f t.0 (left_of k.1 t.1) in
     record { ranges = k.0; tokens = t.0; kept = k.1; told = t.1; outcome = o.0; reads = o.1; so = o.2 }
 
-no-tree : {n a e x : ℕ} {ts : Trees} → refused n a e x ≡ tree ts → ⊥
-no-tree e = let z : ◌≡◌ {A = ℕ} 0 1 = cc in omega arith
+no_tree : {n a e x : ℕ} {ts : Trees} → refused n a e x ≡ tree ts → ⊥
+no_tree e = let z : ◌≡◌ {A = ℕ} 0 1 = cc in omega arith
 
 module _ {g : ℕ} {s : List ℕ} (a : Admitted g s) where
-  judged-kept : {v : Verdict} (m : Met g s v) → Kept s m.tokens → Judged Bad Kept document-01 g s v
-  judged-kept m k = subst (λ (v : Verdict). Judged Bad Kept document-01 g s v) m.so (read a.known a.short a.valid k m.reads)
+  judged_kept : {v : Verdict} (m : Met g s v) → Kept s m.tokens → Judged Bad Kept document_01 g s v
+  judged_kept m k = subst (λ (v : Verdict). Judged Bad Kept document_01 g s v) m.so (read a.known a.short a.valid k m.reads)
 
   -- With no bad lexeme that is what is found out about it.
-  judged-good : {v : Verdict} {l : Range} → FirstBad s l → l.kind ≡ EOF → Met g s v → Judged Bad Kept document-01 g s v
-  judged-good b e m = judged-kept m (kept (end-first a.valid b e) m.kept m.told)
+  judged_good : {v : Verdict} {l : Range} → FirstBad s l → l.kind ≡ EOF → Met g s v → Judged Bad Kept document_01 g s v
+  judged_good b e m = judged_kept m (kept (end_first a.valid b e) m.kept m.told)
 
   -- Where there is a tree there is no bad lexeme.
-  judged-tree : {ts : Trees} → Met g s (tree ts) → Judged Bad Kept document-01 g s (tree ts)
+  judged_tree : {ts : Trees} → Met g s (tree ts) → Judged Bad Kept document_01 g s (tree ts)
   unfolding verdict
-  judged-tree {ts} m = judged-kept m (by m.outcome m.reads m.so)
+  judged_tree {ts} m = judged_kept m (by m.outcome m.reads m.so)
     where
       by : (o : Outcome) → Derivation (power g) g source none 200 0 m.tokens o → verdict o ≡ tree ts → Kept s m.tokens
-      by (done us p ys) z e = tree-kept a.valid m.kept m.told z
-      by (broken n p ys x) z e = absurd (no-tree e)
+      by (done us p ys) z e = tree_kept a.valid m.kept m.told z
+      by (broken n p ys x) z e = absurd (no_tree e)
 
 -- ── What an expression's answer says of the whole source ──────────────────────────────────────────
 
@@ -120,28 +120,28 @@ module _ {g : ℕ} {s out : List ℕ} {c : Cursor} {a : Answer} {out' : List ℕ
     broke : Breaks g s 200 (state source 0 c 0 out) r
     broke = Steps.refused (t.takes (eat EOF ▸ end) 0) q
 
-    refusal-made : Met g s (refused r.number r.place.start r.place.end r.detail)
+    refusal_made : Met g s (refused r.number r.place.start r.place.end r.detail)
     unfolding size verdict
-    refusal-made =
+    refusal_made =
         met_by (λ xs l.
         let b = broke.breaks none xs refl (from_start l) in
         let y = sees broke.stands refl b.kept in (
           _,
           to_start b.reading,
-          ap (λ (n : ℕ). refused r.number n (stop-of r.place.at b.left) r.detail) y.start
+          ap (λ (n : ℕ). refused r.number n (stop_of r.place.at b.left) r.detail) y.start
               ∙ ap (λ (n : ℕ). refused r.number r.place.start n r.detail) y.stop,
         ))
 
-    refusal-met : met-with r.number r.detail ≡ true
+    refusal_met : met_with r.number r.detail ≡ true
     unfolding size
-    refusal-met =
-        let some = left-always s in
+    refusal_met =
+        let some = left_always s in
         let b = broke.breaks none some.0 refl (from_start some.1) in
-        holds (met-with r.number r.detail) (met-in-reading (power g) g (to_start b.reading))
+        holds (met_with r.number r.detail) (met-in-reading (power g) g (to_start b.reading))
 
-    pub parses-broken : Parses g s out a out'
+    pub parses_broken : Parses g s out a out'
     unfolding Parsed
-    parses-broken = record { parsed = subst⁻¹ (λ (y : Answer). Parsed g s out y out') q (refusal-made, refusal-met) }
+    parses_broken = record { parsed = subst⁻¹ (λ (y : Answer). Parsed g s out y out') q (refusal_made, refusal_met) }
 
   -- done, up to a cursor
   module _ {c₁ : Cursor} {w k : ℕ} (q : a ≡ Done c₁ w k) where
@@ -149,53 +149,53 @@ module _ {g : ℕ} {s out : List ℕ} {c : Cursor} {a : Answer} {out' : List ℕ
     whole = Steps.led (t.takes (eat EOF ▸ end) 0) q
 
     -- with a lexeme there
-    more-made : ¬ (c₁.kind ≡ EOF) → Met g s (refused WANTED c₁.start c₁.end EOF)
+    more_made : ¬ (c₁.kind ≡ EOF) → Met g s (refused WANTED c₁.start c₁.end EOF)
     unfolding size verdict
-    more-made n =
+    more_made n =
         met_by (λ xs l.
         let b = whole.run none xs refl (from_start l) in
         let y = sees (whole.stands at.1) refl b.kept in (
           _,
           to_start (b.back _ (uneaten (λ e. n (sym y.kind ∙ e)))),
-          ap (λ (n : ℕ). refused WANTED n (stop-of c₁.at b.left) EOF) y.start ∙ ap (λ (n : ℕ). refused WANTED c₁.start n EOF) y.stop,
+          ap (λ (n : ℕ). refused WANTED n (stop_of c₁.at b.left) EOF) y.start ∙ ap (λ (n : ℕ). refused WANTED c₁.start n EOF) y.stop,
         ))
 
     -- with none
-    tree-made : c₁.kind ≡ EOF → Met g s (tree (whole.trees none))
+    tree_made : c₁.kind ≡ EOF → Met g s (tree (whole.trees none))
     unfolding size verdict
-    tree-made e =
+    tree_made e =
         met_by (λ xs l.
         let b = whole.run none xs refl (from_start l) in
         let y = sees (whole.stands at.1) refl b.kept in
         (_, to_start (b.back _ (eaten (y.kind ∙ e) ended)), refl))
 
-    image-is : image (whole.trees none) ≡ whole.bytes
+    image_is : image (whole.trees none) ≡ whole.bytes
     unfolding image
-    image-is = whole.imaged none
+    image_is = whole.imaged none
 
-    tree-long : w ≡ length (image (whole.trees none))
-    tree-long = let z : w ≡ 0 + length whole.bytes = whole.wrote in omega (arith, z, ap length image-is)
+    tree_long : w ≡ length (image (whole.trees none))
+    tree_long = let z : w ≡ 0 + length whole.bytes = whole.wrote in omega (arith, z, ap length image_is)
 
-    tree-stored : out' ≡ sets out 0 (image (whole.trees none))
-    tree-stored = whole.stored ∙ ap (λ (l : List ℕ). sets out 0 l) (sym image-is)
+    tree_stored : out' ≡ sets out 0 (image (whole.trees none))
+    tree_stored = whole.stored ∙ ap (λ (l : List ℕ). sets out 0 l) (sym image_is)
 
-    pub parses-more : {b : Answer} → ¬ (c₁.kind ≡ EOF) → b ≡ Broken (record { number = WANTED; place = c₁; detail = EOF }) → Parses g s out b out'
-    unfolding Parsed met-with
-    parses-more n e = record { parsed = subst⁻¹ (λ (y : Answer). Parsed g s out y out') e (more-made n, refl) }
+    pub parses_more : {b : Answer} → ¬ (c₁.kind ≡ EOF) → b ≡ Broken (record { number = WANTED; place = c₁; detail = EOF }) → Parses g s out b out'
+    unfolding Parsed met_with
+    parses_more n e = record { parsed = subst⁻¹ (λ (y : Answer). Parsed g s out y out') e (more_made n, refl) }
 
-    pub parses-tree : c₁.kind ≡ EOF → Parses g s out (Done c₁ w k) out'
+    pub parses_tree : c₁.kind ≡ EOF → Parses g s out (Done c₁ w k) out'
     unfolding Parsed
-    parses-tree e = record { parsed = (whole.trees none, tree-made e, tree-long, tree-stored) }
+    parses_tree e = record { parsed = (whole.trees none, tree_made e, tree_long, tree_stored) }
 
 -- ── Settings ──────────────────────────────────────────────────────────────────────────────────────
 
 -- What the code's test `!valid(setting)` tells.
-module _ (setting : ℕ) (t : Bool) (e : t ≡ valid-setting setting) where
-  pub is-setting : not t ≡ false → valid-setting setting ≡ true
-  is-setting n = sym e ∙ not-false t n
+module _ (setting : ℕ) (t : Bool) (e : t ≡ valid_setting setting) where
+  pub is_setting : not t ≡ false → valid_setting setting ≡ true
+  is_setting n = sym e ∙ not-false t n
 
-  pub no-setting : not t ≡ true → valid-setting setting ≡ false
-  no-setting n = sym e ∙ not-true t n
+  pub no_setting : not t ≡ true → valid_setting setting ≡ false
+  no_setting n = sym e ∙ not-true t n
 
 -- ── What is found ─────────────────────────────────────────────────────────────────────────────────
 
@@ -208,72 +208,72 @@ no_size : {n a e x : ℕ} (r : Reading) → numbers r ≡ refusal n a e x → wr
 unfolding written
 no_size {n} r q = ap (λ (y : Handed). cond (eqb y.number TREE) y.size 0) q ∙ either (eqb n TREE)
 
-same-long : (out out' bs : List ℕ) → out' ≡ sets out 0 bs → length out' ≡ length out
-same-long out out' bs e = ap length e ∙ length-sets out 0 bs
+same_long : (out out' bs : List ℕ) → out' ≡ sets out 0 bs → length out' ≡ length out
+same_long out out' bs e = ap length e ∙ length-sets out 0 bs
 
-minus-none : (n : ℕ) → n - 0 ≡ n
-minus-none n = omega arith
+minus_none : (n : ℕ) → n - 0 ≡ n
+minus_none n = omega arith
 
 module _ {g : ℕ} {s out out' : List ℕ} where
   -- a refusal
-  pub finds-refusal : {n a e x : ℕ} {r : Reading} → Judged Bad Kept document-01 g s (refused n a e x) → numbers r ≡ refusal n a e x → Finds g s out r out'
+  pub finds_refusal : {n a e x : ℕ} {r : Reading} → Judged Bad Kept document_01 g s (refused n a e x) → numbers r ≡ refusal n a e x → Finds g s out r out'
   unfolding answer output
-  finds-refusal {n} {r = r} j q =
+  finds_refusal {n} {r = r} j q =
       let z = no_size r q in
       record {
         found = _;
         judged = j;
         told = q;
         room = omega (arith, z);
-        left = ap (λ (n : ℕ). replicate n 0) (sym (minus-none (length out))) ∙ ap (λ (n : ℕ). take n out' ++ replicate (length out - n) 0) (sym z);
+        left = ap (λ (n : ℕ). replicate n 0) (sym (minus_none (length out))) ∙ ap (λ (n : ℕ). take n out' ++ replicate (length out - n) 0) (sym z);
       }
 
   -- what the phrases refuse, and what they have a tree of
   module _ {a : Answer} (ok : Admitted g s) (p : Parses g s out a out') where
-    refused-by : {r : Refusal} → a ≡ Broken r → Parsed g s out (Broken r) out'
-    refused-by q = subst (λ (y : Answer). Parsed g s out y out') q p.parsed
+    refused_by : {r : Refusal} → a ≡ Broken r → Parsed g s out (Broken r) out'
+    refused_by q = subst (λ (y : Answer). Parsed g s out y out') q p.parsed
 
-    pub broken-met : {r : Refusal} → a ≡ Broken r → met-with r.number r.detail ≡ true
+    pub broken_met : {r : Refusal} → a ≡ Broken r → met_with r.number r.detail ≡ true
     unfolding Parsed
-    broken-met q = (refused-by q).1
+    broken_met q = (refused_by q).1
 
-    pub finds-broken : {r : Refusal} {y : Reading} {l : Range} → a ≡ Broken r → FirstBad s l → l.kind ≡ EOF → numbers y ≡ refusal r.number r.place.start r.place.end r.detail → Finds g s out y out'
+    pub finds_broken : {r : Refusal} {y : Reading} {l : Range} → a ≡ Broken r → FirstBad s l → l.kind ≡ EOF → numbers y ≡ refusal r.number r.place.start r.place.end r.detail → Finds g s out y out'
     unfolding Parsed
-    finds-broken q b z e = finds-refusal (judged-good ok b z (refused-by q).0) e
+    finds_broken q b z e = finds_refusal (judged_good ok b z (refused_by q).0) e
 
-    done-by : {c : Cursor} {w k : ℕ} → a ≡ Done c w k → Parsed g s out (Done c w k) out'
-    done-by q = subst (λ (y : Answer). Parsed g s out y out') q p.parsed
+    done_by : {c : Cursor} {w k : ℕ} → a ≡ Done c w k → Parsed g s out (Done c w k) out'
+    done_by q = subst (λ (y : Answer). Parsed g s out y out') q p.parsed
 
     -- without room
-    pub finds-long : {c : Cursor} {w k : ℕ} → a ≡ Done c w k → length out' < w → Finds g s out (Room w) out'
+    pub finds_long : {c : Cursor} {w k : ℕ} → a ≡ Done c w k → length out' < w → Finds g s out (Room w) out'
     unfolding numbers written Parsed
-    finds-long d h =
-        let x = done-by d in
+    finds_long d h =
+        let x = done_by d in
         let ts = x.0 in
         let q = x.2 in
         let e = x.3 in
-        let z : length out < length (image ts) = omega (arith, q, h, same-long out out' (image ts) e) in
+        let z : length out < length (image ts) = omega (arith, q, h, same_long out out' (image ts) e) in
         record {
           found = _;
-          judged = judged-tree ok x.1;
-          told = ap (λ (n : ℕ). numbers (Room n)) q ∙ sym (lacks-answer (length out) ts z);
+          judged = judged_tree ok x.1;
+          told = ap (λ (n : ℕ). numbers (Room n)) q ∙ sym (lacks_answer (length out) ts z);
           room = omega arith;
-          left = lacks-output (length out) ts z ∙ ap (λ (n : ℕ). replicate n 0) (sym (minus-none (length out)));
+          left = lacks_output (length out) ts z ∙ ap (λ (n : ℕ). replicate n 0) (sym (minus_none (length out)));
         }
 
     -- with room
-    pub finds-tree : {c : Cursor} {w k : ℕ} → a ≡ Done c w k → w ≤ length out' → Finds g s out (Tree w) out'
+    pub finds_tree : {c : Cursor} {w k : ℕ} → a ≡ Done c w k → w ≤ length out' → Finds g s out (Tree w) out'
     unfolding numbers written Parsed
-    finds-tree {w = w} d h =
-        let x = done-by d in
+    finds_tree {w = w} d h =
+        let x = done_by d in
         let ts = x.0 in
         let q = x.2 in
         let e = x.3 in
-        let z : length (image ts) ≤ length out = omega (arith, q, h, same-long out out' (image ts) e) in
+        let z : length (image ts) ≤ length out = omega (arith, q, h, same_long out out' (image ts) e) in
         let p : out' ≡ image ts ++ drop (0 + length (image ts)) out = e ∙ sets-eq (image ts) out 0 (omega (arith, z)) in
         record {
           found = _;
-          judged = judged-tree ok x.1;
+          judged = judged_tree ok x.1;
           told = ap (λ (n : ℕ). numbers (Tree n)) q ∙ sym (fits-answer (length out) ts z);
           room = omega (arith, q, z);
           left =
@@ -283,9 +283,9 @@ module _ {g : ℕ} {s out out' : List ℕ} where
         }
 
   -- and what is beyond it cleared
-  pub reads-cleared : {r : Reading} {n : ℕ} {last : List ℕ} → Finds g s out r out' → n ≡ written r → length out' ≡ length out
+  pub reads_cleared : {r : Reading} {n : ℕ} {last : List ℕ} → Finds g s out r out' → n ≡ written r → length out' ≡ length out
       → last ≡ replicate (length (take (length out' - n) (drop n out'))) 0 → Reads g s out r (take n out' ++ (last ++ drop (length out' - n) (drop n out')))
-  reads-cleared {r} {n} {last} f q k e =
+  reads_cleared {r} {n} {last} f q k e =
       record {
         found = f.found;
         judged = f.judged;
@@ -301,44 +301,44 @@ module _ {g : ℕ} {s out out' : List ℕ} where
       long = ap length (take_all (length out' - n) (drop n out') (omega (arith, length-drop n out'))) ∙ length-drop n out' ∙ ap (λ (m : ℕ). m - n) k
 
 -- Only a tree has an image.
-pub no-image : (r : Reading) → OneOf (1 ∷ 2 ∷ 3 ∷ 4 ∷ 5 ∷ 6 ∷ 7 ∷ 8 ∷ 9 ∷ 10 ∷ 11 ∷ 12 ∷ []) (tag_of the_type r) → 0 ≡ written r
+pub no_image : (r : Reading) → OneOf (1 ∷ 2 ∷ 3 ∷ 4 ∷ 5 ∷ 6 ∷ 7 ∷ 8 ∷ 9 ∷ 10 ∷ 11 ∷ 12 ∷ []) (tag_of the_type r) → 0 ≡ written r
 unfolding written numbers
-no-image (Tree n) m = absurd (miss (1 ∷ 2 ∷ 3 ∷ 4 ∷ 5 ∷ 6 ∷ 7 ∷ 8 ∷ 9 ∷ 10 ∷ 11 ∷ 12 ∷ []) 0 tt m)
-no-image Setting m = refl
-no-image Long m = refl
-no-image (Encoding n) m = refl
-no-image (Lexeme a e k) m = refl
-no-image (Wanted a e k) m = refl
-no-image (Absent a e x) m = refl
-no-image (Expression a e) m = refl
-no-image (Misplaced a e x) m = refl
-no-image (Escape a e x) m = refl
-no-image (Depth a e) m = refl
-no-image (Room n) m = refl
-no-image (Large a e) m = refl
+no_image (Tree n) m = absurd (miss (1 ∷ 2 ∷ 3 ∷ 4 ∷ 5 ∷ 6 ∷ 7 ∷ 8 ∷ 9 ∷ 10 ∷ 11 ∷ 12 ∷ []) 0 tt m)
+no_image Setting m = refl
+no_image Long m = refl
+no_image (Encoding n) m = refl
+no_image (Lexeme a e k) m = refl
+no_image (Wanted a e k) m = refl
+no_image (Absent a e x) m = refl
+no_image (Expression a e) m = refl
+no_image (Misplaced a e x) m = refl
+no_image (Escape a e x) m = refl
+no_image (Depth a e) m = refl
+no_image (Room n) m = refl
+no_image (Large a e) m = refl
 
 -- ── Refusals by their numbers ─────────────────────────────────────────────────────────────────────
 
 -- Rows that are not met, then a row, then one that is not: it is that row.
-of-rows : (a b c d e t u v : Bool) → cond a false (cond b false (cond c false (cond d false (cond e false (cond t u (cond v false false)))))) ≡ true → t ≡ true
-of-rows true b c d e t u v h = absurd (true-false (sym h))
-of-rows false true c d e t u v h = absurd (true-false (sym h))
-of-rows false false true d e t u v h = absurd (true-false (sym h))
-of-rows false false false true e t u v h = absurd (true-false (sym h))
-of-rows false false false false true t u v h = absurd (true-false (sym h))
-of-rows false false false false false true u v h = refl
-of-rows false false false false false false u true h = absurd (true-false (sym h))
-of-rows false false false false false false u false h = absurd (true-false (sym h))
+of_rows : (a b c d e t u v : Bool) → cond a false (cond b false (cond c false (cond d false (cond e false (cond t u (cond v false false)))))) ≡ true → t ≡ true
+of_rows true b c d e t u v h = absurd (true_false (sym h))
+of_rows false true c d e t u v h = absurd (true_false (sym h))
+of_rows false false true d e t u v h = absurd (true_false (sym h))
+of_rows false false false true e t u v h = absurd (true_false (sym h))
+of_rows false false false false true t u v h = absurd (true_false (sym h))
+of_rows false false false false false true u v h = refl
+of_rows false false false false false false u true h = absurd (true_false (sym h))
+of_rows false false false false false false u false h = absurd (true_false (sym h))
 
-module _ {n : ℕ} (x : ℕ) (h : met-with n x ≡ true) where
+module _ {n : ℕ} (x : ℕ) (h : met_with n x ≡ true) where
   -- a number whose row has no detail
-  pub no-detail : (k : ℕ) → met-with k x ≡ eqb x 0 → n ≡ k → x ≡ 0
-  no-detail k row e = eqb-true x 0 (sym row ∙ subst (λ (m : ℕ). met-with m x ≡ true) e h)
+  pub no_detail : (k : ℕ) → met_with k x ≡ eqb x 0 → n ≡ k → x ≡ 0
+  no_detail k row e = eqb-true x 0 (sym row ∙ subst (λ (m : ℕ). met_with m x ≡ true) e h)
 
   -- what is none of the others is the depth
-  pub depth-else : ¬ (n ≡ WANTED) → ¬ (n ≡ ABSENT) → ¬ (n ≡ EXPRESSION) → ¬ (n ≡ MISPLACED) → ¬ (n ≡ ESCAPE) → ¬ (n ≡ LARGE) → n ≡ DEPTH
-  unfolding met-with
-  depth-else a b c d e l =
+  pub depth_else : ¬ (n ≡ WANTED) → ¬ (n ≡ ABSENT) → ¬ (n ≡ EXPRESSION) → ¬ (n ≡ MISPLACED) → ¬ (n ≡ ESCAPE) → ¬ (n ≡ LARGE) → n ≡ DEPTH
+  unfolding met_with
+  depth_else a b c d e l =
       eqb-true n DEPTH
-      (of-rows (eqb n TREE) (eqb n SETTING) (eqb n LONG) (eqb n ENCODING) (eqb n LEXEME) (eqb n DEPTH) (eqb x 0) (eqb n ROOM)
+      (of_rows (eqb n TREE) (eqb n SETTING) (eqb n LONG) (eqb n ENCODING) (eqb n LEXEME) (eqb n DEPTH) (eqb x 0) (eqb n ROOM)
       (rw (ne_eqb n WANTED a, ne_eqb n ABSENT b, ne_eqb n EXPRESSION c, ne_eqb n MISPLACED d, ne_eqb n ESCAPE e, ne_eqb n LARGE l) at h))

@@ -5,13 +5,13 @@ use Rattle.std.proofs.lemmas.List.Edits.{sets}
 use Rattle.strings.specs.Utf8.{Utf8}
 use Rattle.lexemes.specs.declared.Lexeme.{Lexeme as Range}
 use Rattle.lexemes.specs.Kept as lexemes
-use Rattle.grammar.specs.Numbers.{TREE, SETTING, LONG, ENCODING, LEXEME, WANTED, ABSENT, EXPRESSION, MISPLACED, ESCAPE, DEPTH, ROOM, LARGE, met-with}
+use Rattle.grammar.specs.Numbers.{TREE, SETTING, LONG, ENCODING, LEXEME, WANTED, ABSENT, EXPRESSION, MISPLACED, ESCAPE, DEPTH, ROOM, LARGE, met_with}
 use Rattle.grammar.specs.Trees.{Trees}
 use Rattle.grammar.specs.Image.{image}
 use Rattle.grammar.specs.Lexemes.{Lexeme as Token}
 use Rattle.grammar.specs.Says.{Told}
 use Rattle.grammar.specs.Reading.{Outcome, Reads as Derived}
-use Rattle.grammar.specs.Answer.{Answer, Verdict, refused, tree, verdict, Judged, answer, output, valid-setting, prefix-power, document-01}
+use Rattle.grammar.specs.Answer.{Answer, Verdict, refused, tree, verdict, Judged, answer, output, valid_setting, prefix_power, document_01}
 use Rattle.grammar.specs.Source.{Bad, Kept, Reads01}
 use Rattle.leaves.specs.declared.Answer.{Answer as Phrased}
 use Rattle.leaves.specs.declared.Answer.TheVariants.{Done, Broken}
@@ -63,7 +63,7 @@ written r = cond (eqb (numbers r).number TREE) (numbers r).size 0
 
 -- R32 to R34. None of 1 to 3 is to be answered.
 pub record Admitted (setting : ℕ) (source : List ℕ) : Type 0 where
-  pub known : valid-setting setting ≡ true
+  pub known : valid_setting setting ≡ true
   pub short : length source ≤ 65000
   pub valid : Utf8 source
 
@@ -74,14 +74,14 @@ pub record Met (setting : ℕ) (source : List ℕ) (found : Verdict) : Type 0 wh
   pub kept : lexemes.Kept source 0 ranges
   pub told : Told source ranges tokens
   pub outcome : Outcome
-  pub reads : Derived (prefix-power setting) setting 200 tokens outcome
+  pub reads : Derived (prefix_power setting) setting 200 tokens outcome
   pub so : verdict outcome ≡ found
 
 -- Their answer: of a tree its image's length, with the image stored as far as there is room; or the refusal.
 unfoldable pub Parsed : ℕ → List ℕ → List ℕ → Phrased → List ℕ → Type 0
 Parsed setting source out (Done c w k) out' = (ts : Trees) × Met setting source (tree ts) × (w ≡ length (image ts)) × (out' ≡ sets out 0 (image ts))
 Parsed setting source out (Broken r) out' =
-    Met setting source (refused r.number r.place.start r.place.end r.detail) × (met-with r.number r.detail ≡ true)
+    Met setting source (refused r.number r.place.start r.place.end r.detail) × (met_with r.number r.detail ≡ true)
 
 pub record Parses (setting : ℕ) (source out : List ℕ) (a : Phrased) (out' : List ℕ) : Type 0 where
   pub parsed : Parsed setting source out a out'
@@ -89,7 +89,7 @@ pub record Parses (setting : ℕ) (source out : List ℕ) (a : Phrased) (out' : 
 -- The answer is found, and beyond the image the output has yet to be cleared.
 pub record Finds (setting : ℕ) (source out : List ℕ) (reading : Reading) (out' : List ℕ) : Type 0 where
   pub found : Verdict
-  pub judged : Judged Bad Kept document-01 setting source found
+  pub judged : Judged Bad Kept document_01 setting source found
   pub told : numbers reading ≡ answer (length out) found
   pub room : written reading ≤ length out
   pub left : output (length out) found ≡ take (written reading) out' ++ replicate (length out - written reading) 0

@@ -1,6 +1,6 @@
 // The reader: a setting, a source, a lent output, and the whole answer of document 01.
 ghost use Rattle.std.specs.Prelude.{◌≡◌, true, length};
-ghost use Rattle.grammar.specs.Numbers.{met-with};
+ghost use Rattle.grammar.specs.Numbers.{met_with};
 ghost use Rattle.reader.specs.Five.{five as five01};
 ghost use Rattle.reader.specs.Reader.{numbers as numbers01, refusal as refusal01, tree_of as tree01, written as written01, answered, Admitted, Parses, Finds, Reads};
 
@@ -37,7 +37,7 @@ const DEPTH: usize = 200;
 
 // A phrase's refusal, by its number.
 fn refused(r: Refusal) -> Reading
-    requires { met-with r.number r.detail ≡ true }
+    requires { met_with r.number r.detail ≡ true }
     ensures { numbers01 result ≡ refusal01 r.number r.place.start r.place.end r.detail }
 {
     let place = r.place;

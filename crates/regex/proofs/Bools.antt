@@ -25,9 +25,9 @@ pub or_left : (a b : Bool) → T a → T (a || b)
 or_left true b p = tt
 or_left false b p = absurd p
 
-pub or_right : (a b : Bool) → T b → T (a || b)
-or_right true b p = tt
-or_right false b p = p
+pub or_right_lem : (a b : Bool) → T b → T (a || b)
+or_right_lem true b p = tt
+or_right_lem false b p = p
 
 pub or_cases : (a b : Bool) → T (a || b) → T a ⊎ T b
 or_cases true b p = inl tt
@@ -51,13 +51,13 @@ is_true a e = subst (λ (x : Bool). T x) (sym e) tt
 pub is_false : (a : Bool) → a ≡ false → T (not a)
 is_false a e = subst (λ (x : Bool). T (not x)) (sym e) tt
 
-pub true-is : (a : Bool) → T a → true ≡ a
-true-is true t = refl
-true-is false t = absurd t
+pub true_is : (a : Bool) → T a → true ≡ a
+true_is true t = refl
+true_is false t = absurd t
 
-pub false-is : (a : Bool) → T (not a) → false ≡ a
-false-is true t = absurd t
-false-is false t = refl
+pub false_is : (a : Bool) → T (not a) → false ≡ a
+false_is true t = absurd t
+false_is false t = refl
 
 -- A list of tests, all of which hold.
 abbrev pub every : List Bool → Bool
@@ -77,10 +77,10 @@ unfoldable pub all : (ℕ → Bool) → ℕ → Bool
 all f zero = true
 all f (suc n) = f n && all f n
 
-pub all-at : (f : ℕ → Bool) (n : ℕ) → T (all f n) → (k : ℕ) → k < n → T (f k)
+pub all_at : (f : ℕ → Bool) (n : ℕ) → T (all f n) → (k : ℕ) → k < n → T (f k)
 unfolding all
-all-at f zero t k h = absurd (omega arith)
-all-at f (suc n) t k h = by (ℕ_discrete k n) (all-at f n (and_right (f n) (all f n) t) k)
+all_at f zero t k h = absurd (omega arith)
+all_at f (suc n) t k h = by (ℕ_discrete k n) (all_at f n (and_right (f n) (all f n) t) k)
   where
     by : Dec (k ≡ n) → (k < n → T (f k)) → T (f k)
     by (yes e) below = subst (λ (x : ℕ). T (f x)) (sym e) (and_left (f n) (all f n) t)
@@ -102,4 +102,4 @@ implies n f g = all (λ l. ask (f l) (λ u. g l)) n
 
 pub implied : (n : ℕ) (f g : ℕ → Bool) → T (implies n f g) → (l : ℕ) → l < n → T (f l) → T (g l)
 unfolding implies
-implied n f g t l h p = asked (f l) (λ u. g l) (all-at (λ l. ask (f l) (λ u. g l)) n t l h) p
+implied n f g t l h p = asked (f l) (λ u. g l) (all_at (λ l. ask (f l) (λ u. g l)) n t l h) p

@@ -9,8 +9,8 @@ use Prim.Native.Nat.{ℕ, zero, suc, ◌+◌, ◌≤◌, ◌<◌}
 use native.Mathlib.Omega.{arith}
 use lib.Dec.{T}
 use Rattle.regex.specs.Regex.{Text, END, Rule, Takes, Longest, Nothing}
-use Rattle.regex.proofs.Bools.{every, Each, each, all, all-at}
-use Rattle.regex.proofs.Tables.{left, accepts, Among, same, same-eq}
+use Rattle.regex.proofs.Bools.{every, Each, each, all, all_at}
+use Rattle.regex.proofs.Tables.{left, accepts, Among, same, same_eq}
 use Rattle.regex.proofs.Longest.{Sound, empty, fail, on, halt}
 
 -- Whether a table is in a list.
@@ -50,16 +50,16 @@ module _ (State : Type 0) (table : State → List Rule) (next : State → List S
     where
       by : (b : Bool) → same S (table y) ≡ b → T (elim b [ true ↦ true | false ↦ among S (map table ys) ]) → (T (among S (map table ys)) → (y : State) × (S ≡ table y))
           → (y : State) × (S ≡ table y)
-      by true e t later = (y, same-eq S (table y) (subst (λ (x : Bool). T x) (sym e) tt))
+      by true e t later = (y, same_eq S (table y) (subst (λ (x : Bool). T x) (sym e) tt))
       by false e t later = later t
 
   goes : (x : State) (l : ℕ) → l ≤ END → (y : State) × (left l (table x) ≡ table y)
   unfolding tests
-  goes x l h = find (left l (table x)) (next x) (all-at (λ l. among (left l (table x)) (map table (next x))) (suc END) (parts x).0 l (omega arith))
+  goes x l h = find (left l (table x)) (next x) (all_at (λ l. among (left l (table x)) (map table (next x))) (suc END) (parts x).0 l (omega arith))
 
   over : (x : State) → left END (table x) ≡ []
   unfolding tests
-  over x = same-eq (left END (table x)) [] (parts x).1.0
+  over x = same_eq (left END (table x)) [] (parts x).1.0
 
   module _ (t : Text) (sound : Sound t) (Beats : ℕ → ℕ → Type 0) where
     -- What is left takes nothing: the match ends here, if one does.

@@ -37,9 +37,9 @@ abbrev pub within : List Range → ℕ → Bool
 within [] l = false
 within (a to b ∷ rs) l = (leb a l && leb l b) || within rs l
 
-abbrev pub inClass : Class → ℕ → Bool
-inClass (only rs) l = ltb l END && within rs l
-inClass (but rs) l = ltb l END && not (within rs l)
+abbrev pub in_class : Class → ℕ → Bool
+in_class (only rs) l = ltb l END && within rs l
+in_class (but rs) l = ltb l END && not (within rs l)
 
 -- R6. Any number of steps.
 pub data Star (R : ℕ → ℕ → Type 0) : ℕ → ℕ → Type 0 where
@@ -50,7 +50,7 @@ pub data Star (R : ℕ → ℕ → Type 0) : ℕ → ℕ → Type 0 where
 unfoldable pub Match : Text → Re → ℕ → ℕ → Type 0
 Match t none i j = ⊥
 Match t eps i j = i ≡ j
-Match t (one c) i j = T (inClass c (t.letter i)) × (j ≡ t.next i)
+Match t (one c) i j = T (in_class c (t.letter i)) × (j ≡ t.next i)
 Match t (a · b) i k = (j : ℕ) × Match t a i j × Match t b j k
 Match t (a ∣ b) i j = Match t a i j ⊎ Match t b i j
 Match t (star a) i j = Star (Match t a) i j
@@ -73,4 +73,4 @@ pub record Longest (Beats : ℕ → ℕ → Type 0) (t : Text) (rules : List Rul
 
 -- R8. No rule takes anything at a place.
 pub record Nothing (t : Text) (rules : List Rule) (at : ℕ) : Type 0 where
-  pub none-takes : (k e : ℕ) → Takes t rules k at e → ⊥
+  pub none_takes : (k e : ℕ) → Takes t rules k at e → ⊥

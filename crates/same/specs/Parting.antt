@@ -11,13 +11,13 @@ module _ (s t : List ℕ) where
   -- R46. Kept lexemes of s and of t, the last before them having ended at p and q. With none left, EOF stands there (`first`), which is no lexeme's kind: so
   -- a source with lexemes left parts from one without.
   pub data Parts : ℕ → ℕ → List Lexeme → List Lexeme → Parting → Type 0 where
-    both-over : {p q : ℕ} → Parts p q [] [] Same
+    both_over : {p q : ℕ} → Parts p q [] [] Same
     on : {p q : ℕ} {l m : Lexeme} {ls ms : List Lexeme} {r : Parting} → SameLexeme s t l m → Parts l.end m.end ls ms r → Parts p q (l ∷ ls) (m ∷ ms) r
     here : {p q : ℕ} {ls ms : List Lexeme} → (SameLexeme s t (first p ls) (first q ms) → ⊥) → Parts p q ls ms (Apart (first p ls) (first q ms))
 
   pub record FirstDifference (r : Parting) : Type 0 where
     pub left : List Lexeme
     pub right : List Lexeme
-    pub kept-left : Kept s 0 left
-    pub kept-right : Kept t 0 right
+    pub kept_left : Kept s 0 left
+    pub kept_right : Kept t 0 right
     pub parts : Parts 0 0 left right r

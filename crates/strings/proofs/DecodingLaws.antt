@@ -21,23 +21,23 @@ pub cleared :
 cleared out out' n f eo = rw eo (refused f)
 
 -- Where at most one text is meant, or else one fault told, there is one answer, and one content of the output.
-pub decoding-once :
+pub decoding_once :
     {Means : List ℕ → Type 0} {Fault : ℕ → Type 0} {out o o' : List ℕ} {r r' : Decoded} →
     ((t t' : List ℕ) → Means t → Means t' → t ≡ t') → ((n n' : ℕ) → Fault n → Fault n' → n ≡ n') → ((t : List ℕ) (n : ℕ) → Means t → Fault n → ⊥) →
     Decoding Means Fault out r o → Decoding Means Fault out r' o' → (r ≡ r') × (o ≡ o')
-decoding-once one same not-both (text m) (text m') = let e = one _ _ m m' in (cc, cc)
-decoding-once one same not-both (text m) (refused f) = absurd (not-both _ _ m f)
-decoding-once one same not-both (refused f) (text m) = absurd (not-both _ _ m f)
-decoding-once one same not-both (refused f) (refused f') = (ap Refused (same _ _ f f'), refl)
+decoding_once one same not_both (text m) (text m') = let e = one _ _ m m' in (cc, cc)
+decoding_once one same not_both (text m) (refused f) = absurd (not_both _ _ m f)
+decoding_once one same not_both (refused f) (text m) = absurd (not_both _ _ m f)
+decoding_once one same not_both (refused f) (refused f') = (ap Refused (same _ _ f f'), refl)
 
 -- So it is of a decoder that tells no more than that there is no text.
-pub missing-once :
+pub missing_once :
     {Means : List ℕ → Type 0} {out o o' : List ℕ} {r r' : Decoded} → ((t t' : List ℕ) → Means t → Means t' → t ≡ t') →
     Decoding Means (Missing Means) out r o → Decoding Means (Missing Means) out r' o' → (r ≡ r') × (o ≡ o')
-missing-once {Means} one d d' = decoding-once one alike not-both d d'
+missing_once {Means} one d d' = decoding_once one alike not_both d d'
   where
     alike : (n n' : ℕ) → Missing Means n → Missing Means n' → n ≡ n'
     alike n n' (missing f) (missing g) = refl
 
-    not-both : (t : List ℕ) (n : ℕ) → Means t → Missing Means n → ⊥
-    not-both t n m (missing f) = f t m
+    not_both : (t : List ℕ) (n : ℕ) → Means t → Missing Means n → ⊥
+    not_both t n m (missing f) = f t m

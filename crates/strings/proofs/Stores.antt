@@ -13,24 +13,24 @@ pub drop-next : (s : List ℕ) (i : ℕ) → i < length s → drop i s ≡ get_o
 drop-next s i h = rw add-one (drop-cons s i 0 h)
 
 -- A run of stores, and then another from where it ended, is one run.
-pub sets-append : (l : List ℕ) (n k : ℕ) (vs ws : List ℕ) → k ≡ n + length vs → sets (sets l n vs) k ws ≡ sets l n (vs ++ ws)
-sets-append l n k [] ws e = ap (λ (j : ℕ). sets l j ws) (omega arith)
-sets-append l n k (v ∷ vs) ws e = sets-append (set l n v) (suc n) k vs ws (omega arith)
+pub sets_append : (l : List ℕ) (n k : ℕ) (vs ws : List ℕ) → k ≡ n + length vs → sets (sets l n vs) k ws ≡ sets l n (vs ++ ws)
+sets_append l n k [] ws e = ap (λ (j : ℕ). sets l j ws) (omega arith)
+sets_append l n k (v ∷ vs) ws e = sets_append (set l n v) (suc n) k vs ws (omega arith)
 
 -- zeros below i, and from i on what came in
 unfoldable pub Zeroed : List ℕ → ℕ → List ℕ → Type 0
 Zeroed out₀ i out = out ≡ replicate i 0 ++ drop i out₀
 
-pub zeroed-next : (out₀ : List ℕ) (i : ℕ) (out : List ℕ) → i < length out₀ → Zeroed out₀ i out → Zeroed out₀ (i + 1) (set out i 0)
+pub zeroed_next : (out₀ : List ℕ) (i : ℕ) (out : List ℕ) → i < length out₀ → Zeroed out₀ i out → Zeroed out₀ (i + 1) (set out i 0)
 unfolding Zeroed
-zeroed-next out₀ i out h e =
+zeroed_next out₀ i out h e =
     ap (λ (l : List ℕ). set l i 0) (e ∙ ap (λ (l : List ℕ). replicate i 0 ++ l) (drop-cons out₀ i 0 h))
     ∙ set_at (replicate i 0) _ (drop (suc i) out₀) 0 i (length-replicate i 0)
     ∙ sym (append_assoc (replicate i 0) (0 ∷ []) (drop (suc i) out₀))
     ∙ ap (λ (l : List ℕ). l ++ drop (suc i) out₀) (replicate-append-replicate i 1 0)
     ∙ ap (λ (k : ℕ). replicate (i + 1) 0 ++ drop k out₀) (sym (add-one i))
 
-pub zeroed-all : (out₀ : List ℕ) (i : ℕ) (out : List ℕ) → i ≡ length out₀ → Zeroed out₀ i out → out ≡ replicate (length out₀) 0
+pub zeroed_all : (out₀ : List ℕ) (i : ℕ) (out : List ℕ) → i ≡ length out₀ → Zeroed out₀ i out → out ≡ replicate (length out₀) 0
 unfolding Zeroed
-zeroed-all out₀ i out h e =
+zeroed_all out₀ i out h e =
     e ∙ ap (λ (l : List ℕ). replicate i 0 ++ l) (drop_of_length-le out₀ {i = i} (omega arith)) ∙ append-nil (replicate i 0) ∙ ap (λ (k : ℕ). replicate k 0) h

@@ -9,7 +9,7 @@ use lib.ListN.{length, drop, replicate, length-append, drop_of_length-le}
 use lib.Seq.{sets, length-sets, drop-cons}
 use Rattle.strings.specs.Decoding.{Decoding, text, refused}
 use Rattle.strings.specs.declared.Decoded.TheVariants.{Text, Refused}
-use Rattle.strings.proofs.Stores.{sets-append}
+use Rattle.strings.proofs.Stores.{sets_append}
 
 -- The first i bytes of s are read, and what they mean is stored: `Means` of the rest goes on to `Means` of the whole, and a `Fault` of the rest is
 -- one of the whole, i bytes further on.
@@ -45,7 +45,7 @@ module _ (Means : List ℕ → List ℕ → Type 0) (Fault : List ℕ → ℕ �
         record {
           done = w.done ++ piece;
           count = omega (arith, w.count, length-append w.done piece);
-          stored = e ∙ ap (λ (l : List ℕ). sets l n piece) w.stored ∙ sets-append out₀ 0 n w.done piece (omega (arith, w.count));
+          stored = e ∙ ap (λ (l : List ℕ). sets l n piece) w.stored ∙ sets_append out₀ 0 n w.done piece (omega (arith, w.count));
           short = omega (arith, w.short);
           within = in-s;
           onward = λ t x. rw append_assoc (w.onward (piece ++ t) (go t x));

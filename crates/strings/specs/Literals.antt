@@ -21,8 +21,8 @@ pub data Letter : ℕ → ℕ → Type 0 where
   double : Letter 0x22 0x22
   single : Letter 0x27 0x27
   backspace : Letter 0x62 0x08
-  form-feed : Letter 0x66 0x0C
-  line-feed : Letter 0x6E 0x0A
+  form_feed : Letter 0x66 0x0C
+  line_feed : Letter 0x6E 0x0A
   return : Letter 0x72 0x0D
   tab : Letter 0x74 0x09
 
@@ -53,8 +53,8 @@ pub data Quoted : List ℕ → List ℕ → Type 0 where
 -- escapes. An inside has one exactly where it has no text, and one only (proofs/LiteralLaws.antt).
 pub data BadEscape : List ℕ → ℕ → Type 0 where
   here : {s : List ℕ} → ((c : ℕ) (r : List ℕ) → Escape s c r → ⊥) → BadEscape (0x5C ∷ s) 0
-  past-plain : {b n : ℕ} {s : List ℕ} → (b ≡ 0x5C → ⊥) → BadEscape s n → BadEscape (b ∷ s) (suc n)
-  past-escape : (k : ℕ) {s r : List ℕ} {c n : ℕ} → Escape s c r → length s ≡ k + length r → BadEscape r n → BadEscape (0x5C ∷ s) (suc (k + n))
+  past_plain : {b n : ℕ} {s : List ℕ} → (b ≡ 0x5C → ⊥) → BadEscape s n → BadEscape (b ∷ s) (suc n)
+  past_escape : (k : ℕ) {s r : List ℕ} {c n : ℕ} → Escape s c r → length s ≡ k + length r → BadEscape r n → BadEscape (0x5C ∷ s) (suc (k + n))
 
 -- The list begins with the byte.
 abbrev pub Begins : ℕ → List ℕ → Type 0

@@ -10,15 +10,15 @@ Tail = In 0x80 0xBF
 
 -- R34. The bytes begin with one character, and the second list is what follows it: table 3-7, row by row.
 pub data Character : List ℕ → List ℕ → Type 0 where
-  row-00-7F : {a : ℕ} {r : List ℕ} → In 0x00 0x7F a → Character (a ∷ r) r
-  row-C2-DF : {a b : ℕ} {r : List ℕ} → In 0xC2 0xDF a → Tail b → Character (a ∷ b ∷ r) r
-  row-E0 : {a b c : ℕ} {r : List ℕ} → In 0xE0 0xE0 a → In 0xA0 0xBF b → Tail c → Character (a ∷ b ∷ c ∷ r) r
-  row-E1-EC : {a b c : ℕ} {r : List ℕ} → In 0xE1 0xEC a → Tail b → Tail c → Character (a ∷ b ∷ c ∷ r) r
-  row-ED : {a b c : ℕ} {r : List ℕ} → In 0xED 0xED a → In 0x80 0x9F b → Tail c → Character (a ∷ b ∷ c ∷ r) r
-  row-EE-EF : {a b c : ℕ} {r : List ℕ} → In 0xEE 0xEF a → Tail b → Tail c → Character (a ∷ b ∷ c ∷ r) r
-  row-F0 : {a b c d : ℕ} {r : List ℕ} → In 0xF0 0xF0 a → In 0x90 0xBF b → Tail c → Tail d → Character (a ∷ b ∷ c ∷ d ∷ r) r
-  row-F1-F3 : {a b c d : ℕ} {r : List ℕ} → In 0xF1 0xF3 a → Tail b → Tail c → Tail d → Character (a ∷ b ∷ c ∷ d ∷ r) r
-  row-F4 : {a b c d : ℕ} {r : List ℕ} → In 0xF4 0xF4 a → In 0x80 0x8F b → Tail c → Tail d → Character (a ∷ b ∷ c ∷ d ∷ r) r
+  row_00_7_f : {a : ℕ} {r : List ℕ} → In 0x00 0x7F a → Character (a ∷ r) r
+  row_C2_DF : {a b : ℕ} {r : List ℕ} → In 0xC2 0xDF a → Tail b → Character (a ∷ b ∷ r) r
+  row_E0 : {a b c : ℕ} {r : List ℕ} → In 0xE0 0xE0 a → In 0xA0 0xBF b → Tail c → Character (a ∷ b ∷ c ∷ r) r
+  row_E1_EC : {a b c : ℕ} {r : List ℕ} → In 0xE1 0xEC a → Tail b → Tail c → Character (a ∷ b ∷ c ∷ r) r
+  row_ED : {a b c : ℕ} {r : List ℕ} → In 0xED 0xED a → In 0x80 0x9F b → Tail c → Character (a ∷ b ∷ c ∷ r) r
+  row_EE_EF : {a b c : ℕ} {r : List ℕ} → In 0xEE 0xEF a → Tail b → Tail c → Character (a ∷ b ∷ c ∷ r) r
+  row_F0 : {a b c d : ℕ} {r : List ℕ} → In 0xF0 0xF0 a → In 0x90 0xBF b → Tail c → Tail d → Character (a ∷ b ∷ c ∷ d ∷ r) r
+  row_F1_F3 : {a b c d : ℕ} {r : List ℕ} → In 0xF1 0xF3 a → Tail b → Tail c → Tail d → Character (a ∷ b ∷ c ∷ d ∷ r) r
+  row_F4 : {a b c d : ℕ} {r : List ℕ} → In 0xF4 0xF4 a → In 0x80 0x8F b → Tail c → Tail d → Character (a ∷ b ∷ c ∷ d ∷ r) r
 
 -- R34. How many bytes the character has with which the list begins; 0 where it begins with none.
 pub data CharacterLength : List ℕ → ℕ → Type 0 where

@@ -5,38 +5,38 @@ use borrow.Author.Rules.{rules}
 use Rattle.all_lexemes.proofs.print_all.Statement.{statement}
 use Rattle.all_lexemes.proofs.print_all.Tie as tie
 
-abbrev invariant-loop : tie.invariant-loop
-invariant-loop length count sum₀ n₀ t5 sum n = Unit {0}
+abbrev invariant_loop : tie.invariant-loop
+invariant_loop length count sum₀ n₀ t5 sum n = Unit {0}
 
-abbrev decreases-loop : tie.decreases-loop
-decreases-loop length count sum₀ n₀ t5 sum n = count - n
+abbrev decreases_loop : tie.decreases-loop
+decreases_loop length count sum₀ n₀ t5 sum n = count - n
 
-loop-holds : tie.Need-loop-init invariant-loop decreases-loop
-loop-holds c = search rules
+loop_holds : tie.Need-loop-init invariant_loop decreases_loop
+loop_holds c = search rules
 
-fed-source-requires : tie.Need-fed-source-requires invariant-loop decreases-loop
-fed-source-requires c κs = search rules
+fed_source_requires : tie.Need-fed-source-requires invariant_loop decreases_loop
+fed_source_requires c κs = search rules
 
-add-n : tie.Need-overflow-add-n invariant-loop decreases-loop
-add-n c = search rules
+add_n : tie.Need-overflow-add-n invariant_loop decreases_loop
+add_n c = search rules
 
-loop-less : tie.Need-loop-smaller invariant-loop decreases-loop
-loop-less c = search rules
+loop_less : tie.Need-loop-smaller invariant_loop decreases_loop
+loop_less c = search rules
 
-loop-again : tie.Need-loop-preserved invariant-loop decreases-loop
-loop-again c = search rules
+loop_again : tie.Need-loop-preserved invariant_loop decreases_loop
+loop_again c = search rules
 
-slice-aggregate-write-all : tie.Need-slice-aggregate-write-all invariant-loop decreases-loop
-slice-aggregate-write-all c = search rules
+slice_aggregate_write_all : tie.Need-slice-aggregate-write-all invariant_loop decreases_loop
+slice_aggregate_write_all c = search rules
 
-write-all-requires : tie.Need-write-all-requires invariant-loop decreases-loop
-write-all-requires c κs = search rules
+write_all_requires : tie.Need-write-all-requires invariant_loop decreases_loop
+write_all_requires c κs = search rules
 
-report-requires : tie.Need-report-requires invariant-loop decreases-loop
-report-requires c κs = search rules
+report_requires : tie.Need-report-requires invariant_loop decreases_loop
+report_requires c κs = search rules
 
-returns : tie.Need-returns invariant-loop decreases-loop
+returns : tie.Need-returns invariant_loop decreases_loop
 returns c = search rules
 
-pub print-all-spec : {M : Type 1} → statement M
-print-all-spec = tie.close (tie.spec invariant-loop decreases-loop loop-holds fed-source-requires add-n loop-less loop-again slice-aggregate-write-all write-all-requires report-requires returns)
+pub print_all_spec : {M : Type 1} → statement M
+print_all_spec = tie.close (tie.spec invariant_loop decreases_loop loop_holds fed_source_requires add_n loop_less loop_again slice_aggregate_write_all write_all_requires report_requires returns)

@@ -5,32 +5,32 @@ use borrow.Author.Rules.{rules}
 use Rattle.all_sources.proofs.main.Statement.{statement}
 use Rattle.all_sources.proofs.main.Tie as tie
 
-abbrev invariant-loop : tie.invariant-loop
-invariant-loop setting₀ setting = Unit {0}
+abbrev invariant_loop : tie.invariant-loop
+invariant_loop setting₀ setting = Unit {0}
 
-abbrev decreases-loop : tie.decreases-loop
-decreases-loop setting₀ setting = 16 - setting
+abbrev decreases_loop : tie.decreases-loop
+decreases_loop setting₀ setting = 16 - setting
 
-read-all-requires : tie.Need-read-all-requires invariant-loop decreases-loop
-read-all-requires c κs = search rules
+read_all_requires : tie.Need-read-all-requires invariant_loop decreases_loop
+read_all_requires c κs = search rules
 
-loop-holds : tie.Need-loop-init invariant-loop decreases-loop
-loop-holds c = search rules
+loop_holds : tie.Need-loop-init invariant_loop decreases_loop
+loop_holds c = search rules
 
-print-sums-requires : tie.Need-print-sums-requires invariant-loop decreases-loop
-print-sums-requires c κs = search rules
+print_sums_requires : tie.Need-print-sums-requires invariant_loop decreases_loop
+print_sums_requires c κs = search rules
 
-add-setting : tie.Need-overflow-add-setting invariant-loop decreases-loop
-add-setting c = search rules
+add_setting : tie.Need-overflow-add-setting invariant_loop decreases_loop
+add_setting c = search rules
 
-loop-less : tie.Need-loop-smaller invariant-loop decreases-loop
-loop-less c = search rules
+loop_less : tie.Need-loop-smaller invariant_loop decreases_loop
+loop_less c = search rules
 
-loop-again : tie.Need-loop-preserved invariant-loop decreases-loop
-loop-again c = search rules
+loop_again : tie.Need-loop-preserved invariant_loop decreases_loop
+loop_again c = search rules
 
-returns : tie.Need-returns invariant-loop decreases-loop
+returns : tie.Need-returns invariant_loop decreases_loop
 returns c = search rules
 
 pub main_spec : {M : Type 1} → statement M
-main_spec = tie.close (tie.spec invariant-loop decreases-loop read-all-requires loop-holds print-sums-requires add-setting loop-less loop-again returns)
+main_spec = tie.close (tie.spec invariant_loop decreases_loop read_all_requires loop_holds print_sums_requires add_setting loop_less loop_again returns)

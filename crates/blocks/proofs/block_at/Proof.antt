@@ -5,14 +5,14 @@ use Rattle.blocks.proofs.Whole.{walked_block}
 use Rattle.blocks.proofs.block_at.Statement.{statement}
 use Rattle.blocks.proofs.block_at.Tie as tie
 
-slice-aggregate-lex-str-block : tie.Need-slice-aggregate-lex-str-block
-slice-aggregate-lex-str-block c = search rules
+slice_aggregate_lex_str_block : tie.Need-slice-aggregate-lex-str-block
+slice_aggregate_lex_str_block c = search rules
 
-lex-str-block-requires : tie.Need-lex-str-block-requires
-lex-str-block-requires c κs = tt
+lex_str_block_requires : tie.Need-lex-str-block-requires
+lex_str_block_requires c κs = tt
 
 returns : tie.Need-returns
 returns c = walked_block c.before.lex-str-block.ensures
 
-pub block-at-spec : {M : Type 1} → statement M
-block-at-spec = tie.close (tie.spec slice-aggregate-lex-str-block lex-str-block-requires returns)
+pub block_at_spec : {M : Type 1} → statement M
+block_at_spec = tie.close (tie.spec slice_aggregate_lex_str_block lex_str_block_requires returns)

@@ -12,18 +12,18 @@ use Rattle.strings.proofs.DecodingLaws.{cleared}
 use Rattle.blocks.specs.declared.Block.{Block}
 use Rattle.blocks.specs.declared.Block.TheVariants.{Good}
 use Rattle.blocks.specs.contracts.Block.{the_type}
-use Rattle.blocks.proofs.Whole.{walked-good, walked-bad}
+use Rattle.blocks.proofs.Whole.{walked_good, walked_bad}
 use Rattle.blocks.proofs.block_text.Statement.{statement}
 use Rattle.blocks.proofs.block_text.Tie as tie
 
-lex-str-block-requires : tie.Need-lex-str-block-requires
-lex-str-block-requires c κs = tt
+lex_str_block_requires : tie.Need-lex-str-block-requires
+lex_str_block_requires c κs = tt
 
 enum_told : tie.Need-enum-told
 enum_told c = search rules
 
-clear-requires : tie.Need-clear-requires
-clear-requires c κs = tt
+clear_requires : tie.Need-clear-requires
+clear_requires c κs = tt
 
 same_length : tie.Need-same-length
 same_length c = search rules
@@ -36,15 +36,15 @@ returns : tie.Need-returns
 returns c =
     let walk = c.before.before.before.before.before.before.before.lex-str-block in
     let start = c.before.before.before.before.before.before.before.before.before.before.before in
-    let none = walked-bad walk.ensures (λ e. not_good walk.result.block e c.before.before.before.before.match.keys2) in
+    let none = walked_bad walk.ensures (λ e. not_good walk.result.block e c.before.before.before.before.match.keys2) in
     let zero = c.before.before.clear.ensures ∙ ap (λ (n : ℕ). replicate n 0) walk.auto.1.1.0 in
     cleared start.args.out.now _ 0 (missing none) zero
 
-same-length-2 : tie.Need-same-length-2
-same-length-2 c = search rules
+same_length_2 : tie.Need-same-length-2
+same_length_2 c = search rules
 
-returns-2 : tie.Need-returns-2
-returns-2 c = let told = c.enum_told.given in walked-good c.before.before.before.before.lex-str-block.ensures told.1
+returns_2 : tie.Need-returns-2
+returns_2 c = let told = c.enum_told.given in walked_good c.before.before.before.before.lex-str-block.ensures told.1
 
-pub block-text-spec : {M : Type 1} → statement M
-block-text-spec = tie.close (tie.spec lex-str-block-requires enum_told clear-requires same_length returns same-length-2 returns-2)
+pub block_text_spec : {M : Type 1} → statement M
+block_text_spec = tie.close (tie.spec lex_str_block_requires enum_told clear_requires same_length returns same_length_2 returns_2)

@@ -7,87 +7,87 @@ use lib.Seq.{sets}
 use borrow.Author.Rules.{rules}
 use borrow.Author.Tests.{not-true, not-false}
 use Rattle.blocks.specs.Inside.{feeds, failing}
-use Rattle.blocks.proofs.Places.{are-bars, no-bars}
-use Rattle.blocks.proofs.Readings.{closed-by}
+use Rattle.blocks.proofs.Places.{are_bars, no_bars}
+use Rattle.blocks.proofs.Readings.{closed_by}
 use Rattle.blocks.proofs.close.Statement.{statement}
 use Rattle.blocks.proofs.close.Tie as tie
 
-bars-at-requires : tie.Need-bars-at-requires
-bars-at-requires c κs = search rules
+bars_at_requires : tie.Need-bars-at-requires
+bars_at_requires c κs = search rules
 
-eat-error-requires : tie.Need-eat-error-requires
-eat-error-requires c κs = search rules
+eat_error_requires : tie.Need-eat-error-requires
+eat_error_requires c κs = search rules
 
 returns : tie.Need-returns
 returns c =
     let bars = c.before.before.bars-at in
-    failing (no-bars bars.ensures (not-true bars.result c.before.if1.true)) c.eat-error.ensures
+    failing (no_bars bars.ensures (not-true bars.result c.before.if1.true)) c.eat-error.ensures
 
-sub-put-feeds : tie.Need-overflow-sub-put-feeds
-sub-put-feeds c = search rules
+sub_put_feeds : tie.Need-overflow-sub-put-feeds
+sub_put_feeds c = search rules
 
-sub-put-feeds-2 : tie.Need-overflow-sub-put-feeds-2
-sub-put-feeds-2 c = search rules
+sub_put_feeds_2 : tie.Need-overflow-sub-put-feeds-2
+sub_put_feeds_2 c = search rules
 
-put-feeds-requires : tie.Need-put-feeds-requires
-put-feeds-requires c κs = let start = c.before.before.before.before.before.before in omega (arith, start.requires, start.well-formed)
+put_feeds_requires : tie.Need-put-feeds-requires
+put_feeds_requires c κs = let start = c.before.before.before.before.before.before in omega (arith, start.requires, start.well-formed)
 
-add-t16 : tie.Need-overflow-add-t16
-add-t16 c =
+add_t16 : tie.Need-overflow-add-t16
+add_t16 c =
     let found = c.before.before.before.before.before in
     let bars = found.before.bars-at in
-    omega (arith, (are-bars bars.ensures (not-false bars.result found.if1.false)).0)
+    omega (arith, (are_bars bars.ensures (not-false bars.result found.if1.false)).0)
 
 same_length : tie.Need-same-length
 same_length c = search rules
 
-returns-2 : tie.Need-returns-2
-returns-2 c =
+returns_2 : tie.Need-returns-2
+returns_2 c =
     let tested = c.before.before.before.before in
     let bars = tested.before.before.bars-at in
     let put = c.before.before.put-feeds.ensures in
     let args = tested.before.before.before.before.before.args in
     let less : args.next - args.lf - 1 ≡ args.next - 1 - args.lf = omega arith in
-    closed-by (are-bars bars.ensures (not-false bars.result tested.before.if1.false)) tested.if2.true (put.1 ∙ ap (λ (n : ℕ). args.w + n) less)
+    closed_by (are_bars bars.ensures (not-false bars.result tested.before.if1.false)) tested.if2.true (put.1 ∙ ap (λ (n : ℕ). args.w + n) less)
     (put.0 ∙ ap (λ (n : ℕ). sets args.out.now args.w (feeds n)) less)
 
-sub-put-feeds-3 : tie.Need-overflow-sub-put-feeds-3
-sub-put-feeds-3 c = search rules
+sub_put_feeds_3 : tie.Need-overflow-sub-put-feeds-3
+sub_put_feeds_3 c = search rules
 
-put-feeds-requires-2 : tie.Need-put-feeds-requires-2
-put-feeds-requires-2 c κs = let start = c.before.before.before.before.before.before in omega (arith, start.requires, start.well-formed)
+put_feeds_requires_2 : tie.Need-put-feeds-requires-2
+put_feeds_requires_2 c κs = let start = c.before.before.before.before.before.before in omega (arith, start.requires, start.well-formed)
 
-add-t21 : tie.Need-overflow-add-t21
-add-t21 c =
+add_t21 : tie.Need-overflow-add-t21
+add_t21 c =
     let found = c.before.before.before.before.before in
     let bars = found.before.bars-at in
-    omega (arith, (are-bars bars.ensures (not-false bars.result found.if1.false)).0)
+    omega (arith, (are_bars bars.ensures (not-false bars.result found.if1.false)).0)
 
-same-length-2 : tie.Need-same-length-2
-same-length-2 c = search rules
+same_length_2 : tie.Need-same-length-2
+same_length_2 c = search rules
 
-returns-3 : tie.Need-returns-3
-returns-3 c =
+returns_3 : tie.Need-returns-3
+returns_3 c =
     let tested = c.before.before.before.before in
     let bars = tested.before.before.bars-at in
     let put = c.before.before.put-feeds2.ensures in
-    closed-by (are-bars bars.ensures (not-false bars.result tested.before.if1.false)) tested.if2.false put.1 put.0
+    closed_by (are_bars bars.ensures (not-false bars.result tested.before.if1.false)) tested.if2.false put.1 put.0
 
 pub close_spec : {M : Type 1} → statement M
 close_spec =
     tie.close
     (tie.spec
-    bars-at-requires
-    eat-error-requires
+    bars_at_requires
+    eat_error_requires
     returns
-    sub-put-feeds
-    sub-put-feeds-2
-    put-feeds-requires
-    add-t16
+    sub_put_feeds
+    sub_put_feeds_2
+    put_feeds_requires
+    add_t16
     same_length
-    returns-2
-    sub-put-feeds-3
-    put-feeds-requires-2
-    add-t21
-    same-length-2
-    returns-3)
+    returns_2
+    sub_put_feeds_3
+    put_feeds_requires_2
+    add_t21
+    same_length_2
+    returns_3)

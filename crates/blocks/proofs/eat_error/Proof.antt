@@ -3,42 +3,42 @@
 use Prim.Native.Nat.{◌-◌}
 use native.Mathlib.Omega.{arith}
 use lib.ListN.{length}
-use Rattle.blocks.proofs.Runs.{Seeking, seeking-none, seeking-more, seeking-bars, seeking-end}
-use Rattle.blocks.proofs.Places.{are-bars, no-bars}
+use Rattle.blocks.proofs.Runs.{Seeking, seeking_none, seeking_more, seeking_bars, seeking_end}
+use Rattle.blocks.proofs.Places.{are_bars, no_bars}
 use Rattle.blocks.proofs.eat_error.Statement.{statement}
 use Rattle.blocks.proofs.eat_error.Tie as tie
 
-abbrev invariant-loop : tie.invariant-loop
-invariant-loop source from i₀ i = Seeking source from i
+abbrev invariant_loop : tie.invariant-loop
+invariant_loop source from i₀ i = Seeking source from i
 
-abbrev decreases-loop : tie.decreases-loop
-decreases-loop source from i₀ i = length source - i
+abbrev decreases_loop : tie.decreases-loop
+decreases_loop source from i₀ i = length source - i
 
-loop-holds : tie.Need-loop-init invariant-loop decreases-loop
-loop-holds c = seeking-none c.before.requires
+loop_holds : tie.Need-loop-init invariant_loop decreases_loop
+loop_holds c = seeking_none c.before.requires
 
-bars-at-requires : tie.Need-bars-at-requires invariant-loop decreases-loop
-bars-at-requires c κs = c.before.loop.invariant.within
+bars_at_requires : tie.Need-bars-at-requires invariant_loop decreases_loop
+bars_at_requires c κs = c.before.loop.invariant.within
 
-add-result : tie.Need-overflow-add-result invariant-loop decreases-loop
-add-result c = omega (arith, (are-bars c.before.bars-at.ensures c.if1.true).0)
+add_result : tie.Need-overflow-add-result invariant_loop decreases_loop
+add_result c = omega (arith, (are_bars c.before.bars-at.ensures c.if1.true).0)
 
-returns : tie.Need-returns invariant-loop decreases-loop
-returns c = let found = are-bars c.before.bars-at.ensures c.if1.true in seeking-bars c.before.before.before.loop.invariant found.0 found.1
+returns : tie.Need-returns invariant_loop decreases_loop
+returns c = let found = are_bars c.before.bars-at.ensures c.if1.true in seeking_bars c.before.before.before.loop.invariant found.0 found.1
 
-add-i : tie.Need-overflow-add-i invariant-loop decreases-loop
-add-i c = omega arith
+add_i : tie.Need-overflow-add-i invariant_loop decreases_loop
+add_i c = omega arith
 
-loop-less : tie.Need-loop-smaller invariant-loop decreases-loop
-loop-less c = omega arith
+loop_less : tie.Need-loop-smaller invariant_loop decreases_loop
+loop_less c = omega arith
 
-loop-again : tie.Need-loop-preserved invariant-loop decreases-loop
-loop-again c =
-    seeking-more c.before.before.before.loop.invariant c.before.before.loop-test.true (no-bars c.before.bars-at.ensures c.if1.false)
+loop_again : tie.Need-loop-preserved invariant_loop decreases_loop
+loop_again c =
+    seeking_more c.before.before.before.loop.invariant c.before.before.loop-test.true (no_bars c.before.bars-at.ensures c.if1.false)
 
-returns-2 : tie.Need-returns-2 invariant-loop decreases-loop
-returns-2 c = seeking-end c.before.loop.invariant c.loop-test.false
+returns_2 : tie.Need-returns-2 invariant_loop decreases_loop
+returns_2 c = seeking_end c.before.loop.invariant c.loop-test.false
 
-pub eat-error-spec : {M : Type 1} → statement M
-eat-error-spec =
-    tie.close (tie.spec invariant-loop decreases-loop loop-holds bars-at-requires add-result returns add-i loop-less loop-again returns-2)
+pub eat_error_spec : {M : Type 1} → statement M
+eat_error_spec =
+    tie.close (tie.spec invariant_loop decreases_loop loop_holds bars_at_requires add_result returns add_i loop_less loop_again returns_2)

@@ -8,14 +8,14 @@ use Rattle.blocks.proofs.is_header_blank.Tie as tie
 returns : tie.Need-returns
 returns c = holds (inl c.match.keys1)
 
-returns-2 : tie.Need-returns-2
-returns-2 c = holds (inr (inl c.match.keys2))
+returns_2 : tie.Need-returns-2
+returns_2 c = holds (inr (inl c.match.keys2))
 
-returns-3 : tie.Need-returns-3
-returns-3 c = holds (inr (inr c.match.keys3))
+returns_3 : tie.Need-returns-3
+returns_3 c = holds (inr (inr c.match.keys3))
 
-returns-4 : tie.Need-returns-4
-returns-4 c = fails (⊎_elim c.match.rest.0.0.1 (⊎_elim c.match.rest.0.1 c.match.rest.1))
+returns_4 : tie.Need-returns-4
+returns_4 c = fails (⊎_elim c.match.rest.0.0.1 (⊎_elim c.match.rest.0.1 c.match.rest.1))
 
-pub is-header-blank-spec : {M : Type 1} → statement M
-is-header-blank-spec = tie.close (tie.spec returns returns-2 returns-3 returns-4)
+pub is_header_blank_spec : {M : Type 1} → statement M
+is_header_blank_spec = tie.close (tie.spec returns returns_2 returns_3 returns_4)

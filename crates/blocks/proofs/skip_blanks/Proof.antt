@@ -6,57 +6,57 @@ use lib.ListN.{length}
 use borrow.Author.Rules.{rules}
 use borrow.Author.Tests.{not-true, not-false}
 use Rattle.blocks.specs.Blocks.{Blank}
-use Rattle.blocks.proofs.Runs.{Passed, passed_none, passed-more, passed-stop, passed-end}
+use Rattle.blocks.proofs.Runs.{Passed, passed_none, passed_more, passed_stop, passed_end}
 use Rattle.blocks.proofs.Places.{said, denied}
 use Rattle.blocks.proofs.skip_blanks.Statement.{statement}
 use Rattle.blocks.proofs.skip_blanks.Tie as tie
 
-abbrev invariant-loop : tie.invariant-loop
-invariant-loop source from i₀ i = Passed Blank source from i
+abbrev invariant_loop : tie.invariant-loop
+invariant_loop source from i₀ i = Passed Blank source from i
 
-abbrev decreases-loop : tie.decreases-loop
-decreases-loop source from i₀ i = length source - i
+abbrev decreases_loop : tie.decreases-loop
+decreases_loop source from i₀ i = length source - i
 
-loop-holds : tie.Need-loop-init invariant-loop decreases-loop
-loop-holds c = passed_none c.before.requires
+loop_holds : tie.Need-loop-init invariant_loop decreases_loop
+loop_holds c = passed_none c.before.requires
 
-shared-slice-read-is-blank : tie.Need-shared-slice-read-is-blank invariant-loop decreases-loop
-shared-slice-read-is-blank c = search rules
+shared_slice_read_is_blank : tie.Need-shared-slice-read-is-blank invariant_loop decreases_loop
+shared_slice_read_is_blank c = search rules
 
-is-blank-requires : tie.Need-is-blank-requires invariant-loop decreases-loop
-is-blank-requires c κs = tt
+is_blank_requires : tie.Need-is-blank-requires invariant_loop decreases_loop
+is_blank_requires c κs = tt
 
-returns : tie.Need-returns invariant-loop decreases-loop
+returns : tie.Need-returns invariant_loop decreases_loop
 returns c =
     let test = c.before.is-blank in
-    passed-stop c.before.before.before.before.loop.invariant (denied test.ensures (not-true test.result c.if1.true))
+    passed_stop c.before.before.before.before.loop.invariant (denied test.ensures (not-true test.result c.if1.true))
 
-add-i : tie.Need-overflow-add-i invariant-loop decreases-loop
-add-i c = omega arith
+add_i : tie.Need-overflow-add-i invariant_loop decreases_loop
+add_i c = omega arith
 
-loop-less : tie.Need-loop-smaller invariant-loop decreases-loop
-loop-less c = omega arith
+loop_less : tie.Need-loop-smaller invariant_loop decreases_loop
+loop_less c = omega arith
 
-loop-again : tie.Need-loop-preserved invariant-loop decreases-loop
-loop-again c =
+loop_again : tie.Need-loop-preserved invariant_loop decreases_loop
+loop_again c =
     let test = c.before.is-blank in
-    passed-more c.before.before.before.before.loop.invariant c.before.before.before.loop-test.true
+    passed_more c.before.before.before.before.loop.invariant c.before.before.before.loop-test.true
     (said test.ensures (not-false test.result c.if1.false))
 
-returns-2 : tie.Need-returns-2 invariant-loop decreases-loop
-returns-2 c = passed-end c.before.loop.invariant c.loop-test.false
+returns_2 : tie.Need-returns-2 invariant_loop decreases_loop
+returns_2 c = passed_end c.before.loop.invariant c.loop-test.false
 
-pub skip-blanks-spec : {M : Type 1} → statement M
-skip-blanks-spec =
+pub skip_blanks_spec : {M : Type 1} → statement M
+skip_blanks_spec =
     tie.close
     (tie.spec
-    invariant-loop
-    decreases-loop
-    loop-holds
-    shared-slice-read-is-blank
-    is-blank-requires
+    invariant_loop
+    decreases_loop
+    loop_holds
+    shared_slice_read_is_blank
+    is_blank_requires
     returns
-    add-i
-    loop-less
-    loop-again
-    returns-2)
+    add_i
+    loop_less
+    loop_again
+    returns_2)

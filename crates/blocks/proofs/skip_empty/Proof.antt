@@ -5,37 +5,37 @@ use native.Mathlib.Omega.{arith}
 use lib.ListN.{length}
 use borrow.Author.Rules.{rules}
 use Rattle.blocks.specs.Blocks.{LineFeed}
-use Rattle.blocks.proofs.Runs.{Passed, passed_none, passed-more, passed-stop, passed-end}
+use Rattle.blocks.proofs.Runs.{Passed, passed_none, passed_more, passed_stop, passed_end}
 use Rattle.blocks.proofs.skip_empty.Statement.{statement}
 use Rattle.blocks.proofs.skip_empty.Tie as tie
 
-abbrev invariant-loop : tie.invariant-loop
-invariant-loop source from i₀ i = Passed LineFeed source from i
+abbrev invariant_loop : tie.invariant-loop
+invariant_loop source from i₀ i = Passed LineFeed source from i
 
-abbrev decreases-loop : tie.decreases-loop
-decreases-loop source from i₀ i = length source - i
+abbrev decreases_loop : tie.decreases-loop
+decreases_loop source from i₀ i = length source - i
 
-loop-holds : tie.Need-loop-init invariant-loop decreases-loop
-loop-holds c = passed_none c.requires
+loop_holds : tie.Need-loop-init invariant_loop decreases_loop
+loop_holds c = passed_none c.requires
 
-shared-slice-read-if1 : tie.Need-shared-slice-read-if1 invariant-loop decreases-loop
-shared-slice-read-if1 c = search rules
+shared_slice_read_if1 : tie.Need-shared-slice-read-if1 invariant_loop decreases_loop
+shared_slice_read_if1 c = search rules
 
-returns : tie.Need-returns invariant-loop decreases-loop
-returns c = passed-stop c.before.before.before.loop.invariant (λ h. omega arith)
+returns : tie.Need-returns invariant_loop decreases_loop
+returns c = passed_stop c.before.before.before.loop.invariant (λ h. omega arith)
 
-add-i : tie.Need-overflow-add-i invariant-loop decreases-loop
-add-i c = omega arith
+add_i : tie.Need-overflow-add-i invariant_loop decreases_loop
+add_i c = omega arith
 
-loop-less : tie.Need-loop-smaller invariant-loop decreases-loop
-loop-less c = omega arith
+loop_less : tie.Need-loop-smaller invariant_loop decreases_loop
+loop_less c = omega arith
 
-loop-again : tie.Need-loop-preserved invariant-loop decreases-loop
-loop-again c = passed-more c.before.before.before.loop.invariant c.before.before.loop-test.true (omega arith)
+loop_again : tie.Need-loop-preserved invariant_loop decreases_loop
+loop_again c = passed_more c.before.before.before.loop.invariant c.before.before.loop-test.true (omega arith)
 
-returns-2 : tie.Need-returns-2 invariant-loop decreases-loop
-returns-2 c = passed-end c.before.loop.invariant c.loop-test.false
+returns_2 : tie.Need-returns-2 invariant_loop decreases_loop
+returns_2 c = passed_end c.before.loop.invariant c.loop-test.false
 
-pub skip-empty-spec : {M : Type 1} → statement M
-skip-empty-spec =
-    tie.close (tie.spec invariant-loop decreases-loop loop-holds shared-slice-read-if1 returns add-i loop-less loop-again returns-2)
+pub skip_empty_spec : {M : Type 1} → statement M
+skip_empty_spec =
+    tie.close (tie.spec invariant_loop decreases_loop loop_holds shared_slice_read_if1 returns add_i loop_less loop_again returns_2)

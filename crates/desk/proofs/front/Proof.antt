@@ -9,11 +9,11 @@ use Rattle.desk.proofs.front.Tie as tie
 returns : tie.Need-returns
 returns c = search rules
 
-slice-aggregate-result : tie.Need-slice-aggregate-result
-slice-aggregate-result c = simp length-take (omega arith)
+slice_aggregate_result : tie.Need-slice-aggregate-result
+slice_aggregate_result c = simp length-take (omega arith)
 
-returns-2 : tie.Need-returns-2
-returns-2 c = search rules
+returns_2 : tie.Need-returns-2
+returns_2 c = search rules
 
-pub front-spec : {M : Type 1} → statement M
-front-spec = tie.close (tie.spec returns slice-aggregate-result returns-2)
+pub front_spec : {M : Type 1} → statement M
+front_spec = tie.close (tie.spec returns slice_aggregate_result returns_2)

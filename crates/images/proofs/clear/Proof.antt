@@ -5,52 +5,52 @@ use Prim.Native.Nat.{◌≤◌, ◌<◌, ◌-◌}
 use native.Mathlib.Omega.{arith}
 use lib.ListN.{length, length-set}
 use borrow.Author.Rules.{rules}
-use Rattle.strings.proofs.Stores.{Zeroed, zeroed-next, zeroed-all}
+use Rattle.strings.proofs.Stores.{Zeroed, zeroed_next, zeroed_all}
 use Rattle.images.proofs.clear.Statement.{statement}
 use Rattle.images.proofs.clear.Tie as tie
 
-abbrev invariant-loop : tie.invariant-loop
-invariant-loop links₀ i₀ links i = (i ≤ length links₀) × (length links ≡ length links₀) × Zeroed links₀ i links
+abbrev invariant_loop : tie.invariant-loop
+invariant_loop links₀ i₀ links i = (i ≤ length links₀) × (length links ≡ length links₀) × Zeroed links₀ i links
 
-abbrev decreases-loop : tie.decreases-loop
-decreases-loop links₀ i₀ links i = length links₀ - i
+abbrev decreases_loop : tie.decreases-loop
+decreases_loop links₀ i₀ links i = length links₀ - i
 
-loop-holds : tie.Need-loop-init invariant-loop decreases-loop
+loop_holds : tie.Need-loop-init invariant_loop decreases_loop
 unfolding Zeroed
-loop-holds c = (search rules, refl, refl)
+loop_holds c = (search rules, refl, refl)
 
-mul-links : tie.Need-overflow-mul-links invariant-loop decreases-loop
-mul-links c = search rules
+mul_links : tie.Need-overflow-mul-links invariant_loop decreases_loop
+mul_links c = search rules
 
-slice-write-links : tie.Need-slice-write-links invariant-loop decreases-loop
-slice-write-links c = search rules
+slice_write_links : tie.Need-slice-write-links invariant_loop decreases_loop
+slice_write_links c = search rules
 
-add-i : tie.Need-overflow-add-i invariant-loop decreases-loop
-add-i c = search rules
+add_i : tie.Need-overflow-add-i invariant_loop decreases_loop
+add_i c = search rules
 
-loop-less : tie.Need-loop-smaller invariant-loop decreases-loop
-loop-less c = omega arith
+loop_less : tie.Need-loop-smaller invariant_loop decreases_loop
+loop_less c = omega arith
 
-loop-again : tie.Need-loop-preserved invariant-loop decreases-loop
-loop-again c = let h = c.before.loop.invariant in let below : c.before.loop.i < length c.before.before.args.links.now = omega arith in (omega arith, simp length-set (omega arith), zeroed-next _ _ _ below h.2)
+loop_again : tie.Need-loop-preserved invariant_loop decreases_loop
+loop_again c = let h = c.before.loop.invariant in let below : c.before.loop.i < length c.before.before.args.links.now = omega arith in (omega arith, simp length-set (omega arith), zeroed_next _ _ _ below h.2)
 
-same_length : tie.Need-same-length invariant-loop decreases-loop
+same_length : tie.Need-same-length invariant_loop decreases_loop
 same_length c = c.before.loop.invariant.1
 
-returns : tie.Need-returns invariant-loop decreases-loop
-returns c = zeroed-all _ _ _ (omega arith) c.before.loop.invariant.2
+returns : tie.Need-returns invariant_loop decreases_loop
+returns c = zeroed_all _ _ _ (omega arith) c.before.loop.invariant.2
 
 pub clear_spec : {M : Type 1} → statement M
 clear_spec =
     tie.close
     (tie.spec
-    invariant-loop
-    decreases-loop
-    loop-holds
-    mul-links
-    slice-write-links
-    add-i
-    loop-less
-    loop-again
+    invariant_loop
+    decreases_loop
+    loop_holds
+    mul_links
+    slice_write_links
+    add_i
+    loop_less
+    loop_again
     same_length
     returns)

@@ -7,25 +7,25 @@ use borrow.Author.Rules.{rules}
 use Rattle.json.proofs.broken.Statement.{statement}
 use Rattle.json.proofs.broken.Tie as tie
 
-enum-known-fault : tie.Need-enum-known-fault
-enum-known-fault c = search rules
+enum_known_fault : tie.Need-enum-known-fault
+enum_known_fault c = search rules
 
-enum-known-fault-2 : tie.Need-enum-known-fault-2
-enum-known-fault-2 c = search rules
+enum_known_fault_2 : tie.Need-enum-known-fault-2
+enum_known_fault_2 c = search rules
 
-enum-known-fault-3 : tie.Need-enum-known-fault-3
-enum-known-fault-3 c = search rules
+enum_known_fault_3 : tie.Need-enum-known-fault-3
+enum_known_fault_3 c = search rules
 
 returns : tie.Need-returns
 returns c = sym (ap (λ (f : Fault). importing f) c.before.fault.given.1)
 
-returns-2 : tie.Need-returns-2
-returns-2 c = sym (ap (λ (f : Fault). importing f) c.before.fault2.given.1)
+returns_2 : tie.Need-returns-2
+returns_2 c = sym (ap (λ (f : Fault). importing f) c.before.fault2.given.1)
 
-returns-3 : tie.Need-returns-3
-returns-3 c = sym (ap (λ (f : Fault). importing f) c.before.fault3.given.1)
+returns_3 : tie.Need-returns-3
+returns_3 c = sym (ap (λ (f : Fault). importing f) c.before.fault3.given.1)
 
-pub broken-spec : {M : Type 1} → statement M
-broken-spec =
+pub broken_spec : {M : Type 1} → statement M
+broken_spec =
     tie.close
-    (tie.spec enum-known-fault enum-known-fault-2 enum-known-fault-3 returns returns-2 returns-3)
+    (tie.spec enum_known_fault enum_known_fault_2 enum_known_fault_3 returns returns_2 returns_3)

@@ -7,16 +7,16 @@ use native.Mathlib.Omega.{arith}
 use lib.ListN.{length-set}
 use Rattle.grammar.specs.Tags.{FIELD}
 use Rattle.grammar.specs.Image.{payload, entry}
-use Rattle.json.proofs.NextPlaces.{field-long, then-byte}
+use Rattle.json.proofs.NextPlaces.{field_long, then_byte}
 use borrow.Author.Rules.{rules}
 use Rattle.json.proofs.put_field.Statement.{statement}
 use Rattle.json.proofs.put_field.Tie as tie
 
-add-end : tie.Need-overflow-add-end
-add-end c = search rules
+add_end : tie.Need-overflow-add-end
+add_end c = search rules
 
-put-field-requires : tie.Need-put-field-requires
-put-field-requires c κs = search rules
+put_field_requires : tie.Need-put-field-requires
+put_field_requires c κs = search rules
 
 same_length : tie.Need-same-length
 same_length c = search rules
@@ -24,141 +24,141 @@ same_length c = search rules
 returns : tie.Need-returns
 returns c = search rules
 
-slice-write-out : tie.Need-slice-write-out
-slice-write-out c = search rules
+slice_write_out : tie.Need-slice-write-out
+slice_write_out c = search rules
 
-add-out : tie.Need-overflow-add-out
-add-out c = search rules
+add_out : tie.Need-overflow-add-out
+add_out c = search rules
 
-slice-write-out-2 : tie.Need-slice-write-out-2
-slice-write-out-2 c = simp length-set (omega arith)
+slice_write_out_2 : tie.Need-slice-write-out-2
+slice_write_out_2 c = simp length-set (omega arith)
 
-add-out-2 : tie.Need-overflow-add-out-2
-add-out-2 c = search rules
+add_out_2 : tie.Need-overflow-add-out-2
+add_out_2 c = search rules
 
-slice-write-out-3 : tie.Need-slice-write-out-3
-slice-write-out-3 c = simp length-set (omega arith)
+slice_write_out_3 : tie.Need-slice-write-out-3
+slice_write_out_3 c = simp length-set (omega arith)
 
-cast-out : tie.Need-overflow-cast-out
-cast-out c = search rules
+cast_out : tie.Need-overflow-cast-out
+cast_out c = search rules
 
-add-out-3 : tie.Need-overflow-add-out-3
-add-out-3 c = search rules
+add_out_3 : tie.Need-overflow-add-out-3
+add_out_3 c = search rules
 
-slice-write-out-4 : tie.Need-slice-write-out-4
-slice-write-out-4 c = simp length-set (omega arith)
+slice_write_out_4 : tie.Need-slice-write-out-4
+slice_write_out_4 c = simp length-set (omega arith)
 
-cast-out-2 : tie.Need-overflow-cast-out-2
-cast-out-2 c = search rules
+cast_out_2 : tie.Need-overflow-cast-out-2
+cast_out_2 c = search rules
 
-add-out-4 : tie.Need-overflow-add-out-4
-add-out-4 c = search rules
+add_out_4 : tie.Need-overflow-add-out-4
+add_out_4 c = search rules
 
-slice-write-out-5 : tie.Need-slice-write-out-5
-slice-write-out-5 c = simp length-set (omega arith)
+slice_write_out_5 : tie.Need-slice-write-out-5
+slice_write_out_5 c = simp length-set (omega arith)
 
-cast-out-3 : tie.Need-overflow-cast-out-3
-cast-out-3 c = search rules
+cast_out_3 : tie.Need-overflow-cast-out-3
+cast_out_3 c = search rules
 
-add-out-5 : tie.Need-overflow-add-out-5
-add-out-5 c = search rules
+add_out_5 : tie.Need-overflow-add-out-5
+add_out_5 c = search rules
 
-slice-write-out-6 : tie.Need-slice-write-out-6
-slice-write-out-6 c = simp length-set (omega arith)
+slice_write_out_6 : tie.Need-slice-write-out-6
+slice_write_out_6 c = simp length-set (omega arith)
 
-cast-out-4 : tie.Need-overflow-cast-out-4
-cast-out-4 c = search rules
+cast_out_4 : tie.Need-overflow-cast-out-4
+cast_out_4 c = search rules
 
-add-out-6 : tie.Need-overflow-add-out-6
-add-out-6 c = search rules
+add_out_6 : tie.Need-overflow-add-out-6
+add_out_6 c = search rules
 
-slice-write-out-7 : tie.Need-slice-write-out-7
-slice-write-out-7 c = simp length-set (omega arith)
+slice_write_out_7 : tie.Need-slice-write-out-7
+slice_write_out_7 c = simp length-set (omega arith)
 
-add-out-7 : tie.Need-overflow-add-out-7
-add-out-7 c = search rules
+add_out_7 : tie.Need-overflow-add-out-7
+add_out_7 c = search rules
 
-slice-write-out-8 : tie.Need-slice-write-out-8
-slice-write-out-8 c = simp length-set (omega arith)
+slice_write_out_8 : tie.Need-slice-write-out-8
+slice_write_out_8 c = simp length-set (omega arith)
 
-add-out-8 : tie.Need-overflow-add-out-8
-add-out-8 c = search rules
+add_out_8 : tie.Need-overflow-add-out-8
+add_out_8 c = search rules
 
-slice-write-out-9 : tie.Need-slice-write-out-9
-slice-write-out-9 c = simp length-set (omega arith)
+slice_write_out_9 : tie.Need-slice-write-out-9
+slice_write_out_9 c = simp length-set (omega arith)
 
-add-out-9 : tie.Need-overflow-add-out-9
-add-out-9 c = search rules
+add_out_9 : tie.Need-overflow-add-out-9
+add_out_9 c = search rules
 
-slice-write-out-10 : tie.Need-slice-write-out-10
-slice-write-out-10 c = simp length-set (omega arith)
+slice_write_out_10 : tie.Need-slice-write-out-10
+slice_write_out_10 c = simp length-set (omega arith)
 
-add-out-10 : tie.Need-overflow-add-out-10
-add-out-10 c = search rules
+add_out_10 : tie.Need-overflow-add-out-10
+add_out_10 c = search rules
 
-slice-write-out-11 : tie.Need-slice-write-out-11
-slice-write-out-11 c = simp length-set (omega arith)
+slice_write_out_11 : tie.Need-slice-write-out-11
+slice_write_out_11 c = simp length-set (omega arith)
 
-add-out-11 : tie.Need-overflow-add-out-11
-add-out-11 c = search rules
+add_out_11 : tie.Need-overflow-add-out-11
+add_out_11 c = search rules
 
-slice-write-out-12 : tie.Need-slice-write-out-12
-slice-write-out-12 c = simp length-set (omega arith)
+slice_write_out_12 : tie.Need-slice-write-out-12
+slice_write_out_12 c = simp length-set (omega arith)
 
-add-out-12 : tie.Need-overflow-add-out-12
-add-out-12 c = search rules
+add_out_12 : tie.Need-overflow-add-out-12
+add_out_12 c = search rules
 
-slice-write-out-13 : tie.Need-slice-write-out-13
-slice-write-out-13 c = simp length-set (omega arith)
+slice_write_out_13 : tie.Need-slice-write-out-13
+slice_write_out_13 c = simp length-set (omega arith)
 
-same-length-2 : tie.Need-same-length-2
-same-length-2 c = simp length-set
+same_length_2 : tie.Need-same-length-2
+same_length_2 c = simp length-set
 
-returns-2 : tie.Need-returns-2
+returns_2 : tie.Need-returns-2
 unfolding entry payload
-returns-2 c =
+returns_2 c =
     let out = c.before.before.args.out.now in
     let w = c.before.before.args.w in
     let a = c.before.before.args.a in
     let e = c.before.before.args.e in
-    record { to = omega (arith, field-long a e); stored = then-byte out w (FIELD ∷ 0 ∷ 10 ∷ a / 256 ∷ a % 256 ∷ e / 256 ∷ e % 256 ∷ 0 ∷ 0 ∷ 0 ∷ 0 ∷ 0 ∷ []) 0 (then-byte out w (FIELD ∷ 0 ∷ 10 ∷ a / 256 ∷ a % 256 ∷ e / 256 ∷ e % 256 ∷ 0 ∷ 0 ∷ 0 ∷ 0 ∷ []) 0 (then-byte out w (FIELD ∷ 0 ∷ 10 ∷ a / 256 ∷ a % 256 ∷ e / 256 ∷ e % 256 ∷ 0 ∷ 0 ∷ 0 ∷ []) 0 (then-byte out w (FIELD ∷ 0 ∷ 10 ∷ a / 256 ∷ a % 256 ∷ e / 256 ∷ e % 256 ∷ 0 ∷ 0 ∷ []) 0 (then-byte out w (FIELD ∷ 0 ∷ 10 ∷ a / 256 ∷ a % 256 ∷ e / 256 ∷ e % 256 ∷ 0 ∷ []) 0 (then-byte out w (FIELD ∷ 0 ∷ 10 ∷ a / 256 ∷ a % 256 ∷ e / 256 ∷ e % 256 ∷ []) 0 (then-byte out w (FIELD ∷ 0 ∷ 10 ∷ a / 256 ∷ a % 256 ∷ e / 256 ∷ []) (e % 256) (then-byte out w (FIELD ∷ 0 ∷ 10 ∷ a / 256 ∷ a % 256 ∷ []) (e / 256) (then-byte out w (FIELD ∷ 0 ∷ 10 ∷ a / 256 ∷ []) (a % 256) (then-byte out w (FIELD ∷ 0 ∷ 10 ∷ []) (a / 256) (then-byte out w (FIELD ∷ 0 ∷ []) 10 (then-byte out w (FIELD ∷ []) 0 refl (omega arith)) (omega arith)) (omega arith)) (omega arith)) (omega arith)) (omega arith)) (omega arith)) (omega arith)) (omega arith)) (omega arith)) (omega arith)) (omega arith) }
+    record { to = omega (arith, field_long a e); stored = then_byte out w (FIELD ∷ 0 ∷ 10 ∷ a / 256 ∷ a % 256 ∷ e / 256 ∷ e % 256 ∷ 0 ∷ 0 ∷ 0 ∷ 0 ∷ 0 ∷ []) 0 (then_byte out w (FIELD ∷ 0 ∷ 10 ∷ a / 256 ∷ a % 256 ∷ e / 256 ∷ e % 256 ∷ 0 ∷ 0 ∷ 0 ∷ 0 ∷ []) 0 (then_byte out w (FIELD ∷ 0 ∷ 10 ∷ a / 256 ∷ a % 256 ∷ e / 256 ∷ e % 256 ∷ 0 ∷ 0 ∷ 0 ∷ []) 0 (then_byte out w (FIELD ∷ 0 ∷ 10 ∷ a / 256 ∷ a % 256 ∷ e / 256 ∷ e % 256 ∷ 0 ∷ 0 ∷ []) 0 (then_byte out w (FIELD ∷ 0 ∷ 10 ∷ a / 256 ∷ a % 256 ∷ e / 256 ∷ e % 256 ∷ 0 ∷ []) 0 (then_byte out w (FIELD ∷ 0 ∷ 10 ∷ a / 256 ∷ a % 256 ∷ e / 256 ∷ e % 256 ∷ []) 0 (then_byte out w (FIELD ∷ 0 ∷ 10 ∷ a / 256 ∷ a % 256 ∷ e / 256 ∷ []) (e % 256) (then_byte out w (FIELD ∷ 0 ∷ 10 ∷ a / 256 ∷ a % 256 ∷ []) (e / 256) (then_byte out w (FIELD ∷ 0 ∷ 10 ∷ a / 256 ∷ []) (a % 256) (then_byte out w (FIELD ∷ 0 ∷ 10 ∷ []) (a / 256) (then_byte out w (FIELD ∷ 0 ∷ []) 10 (then_byte out w (FIELD ∷ []) 0 refl (omega arith)) (omega arith)) (omega arith)) (omega arith)) (omega arith)) (omega arith)) (omega arith)) (omega arith)) (omega arith)) (omega arith)) (omega arith)) (omega arith) }
 
-pub put-field-spec : {M : Type 1} → statement M
-put-field-spec =
+pub put_field_spec : {M : Type 1} → statement M
+put_field_spec =
     tie.close
     (tie.spec
-    add-end
-    put-field-requires
+    add_end
+    put_field_requires
     same_length
     returns
-    slice-write-out
-    add-out
-    slice-write-out-2
-    add-out-2
-    slice-write-out-3
-    cast-out
-    add-out-3
-    slice-write-out-4
-    cast-out-2
-    add-out-4
-    slice-write-out-5
-    cast-out-3
-    add-out-5
-    slice-write-out-6
-    cast-out-4
-    add-out-6
-    slice-write-out-7
-    add-out-7
-    slice-write-out-8
-    add-out-8
-    slice-write-out-9
-    add-out-9
-    slice-write-out-10
-    add-out-10
-    slice-write-out-11
-    add-out-11
-    slice-write-out-12
-    add-out-12
-    slice-write-out-13
-    same-length-2
-    returns-2)
+    slice_write_out
+    add_out
+    slice_write_out_2
+    add_out_2
+    slice_write_out_3
+    cast_out
+    add_out_3
+    slice_write_out_4
+    cast_out_2
+    add_out_4
+    slice_write_out_5
+    cast_out_3
+    add_out_5
+    slice_write_out_6
+    cast_out_4
+    add_out_6
+    slice_write_out_7
+    add_out_7
+    slice_write_out_8
+    add_out_8
+    slice_write_out_9
+    add_out_9
+    slice_write_out_10
+    add_out_10
+    slice_write_out_11
+    add_out_11
+    slice_write_out_12
+    add_out_12
+    slice_write_out_13
+    same_length_2
+    returns_2)

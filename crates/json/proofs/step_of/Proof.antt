@@ -7,17 +7,17 @@ use borrow.Author.Rules.{rules}
 use Rattle.json.proofs.step_of.Statement.{statement}
 use Rattle.json.proofs.step_of.Tie as tie
 
-enum-known-leaf : tie.Need-enum-known-leaf
-enum-known-leaf c = search rules
+enum_known_leaf : tie.Need-enum-known-leaf
+enum_known_leaf c = search rules
 
-enum-known-leaf-2 : tie.Need-enum-known-leaf-2
-enum-known-leaf-2 c = search rules
+enum_known_leaf_2 : tie.Need-enum-known-leaf-2
+enum_known_leaf_2 c = search rules
 
 returns : tie.Need-returns
 returns c = sym (ap (λ (l : Leaf). stepped l) c.before.leaf.given.1)
 
-returns-2 : tie.Need-returns-2
-returns-2 c = sym (ap (λ (l : Leaf). stepped l) c.before.leaf2.given.1)
+returns_2 : tie.Need-returns-2
+returns_2 c = sym (ap (λ (l : Leaf). stepped l) c.before.leaf2.given.1)
 
-pub step-of-spec : {M : Type 1} → statement M
-step-of-spec = tie.close (tie.spec enum-known-leaf enum-known-leaf-2 returns returns-2)
+pub step_of_spec : {M : Type 1} → statement M
+step_of_spec = tie.close (tie.spec enum_known_leaf enum_known_leaf_2 returns returns_2)

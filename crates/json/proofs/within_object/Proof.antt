@@ -3,30 +3,30 @@
 use mathlib.Core.Path.{sym, ◌∙◌}
 use native.Mathlib.Omega.{arith}
 use Rattle.json.proofs.Places.{byte_inside}
-use Rattle.json.proofs.NextPlaces.{object-again, object-cut, object-closed, object-stuck}
+use Rattle.json.proofs.NextPlaces.{object_again, object_cut, object-closed, object_stuck}
 use borrow.Author.Rules.{rules}
 use Rattle.json.proofs.within_object.Statement.{statement}
 use Rattle.json.proofs.within_object.Tie as tie
 
-peek-requires : tie.Need-peek-requires
-peek-requires c κs = search rules
+peek_requires : tie.Need-peek-requires
+peek_requires c κs = search rules
 
-add-blanks : tie.Need-overflow-add-blanks
-add-blanks c = search rules
+add_blanks : tie.Need-overflow-add-blanks
+add_blanks c = search rules
 
-blanks-requires : tie.Need-blanks-requires
-blanks-requires c κs =
+blanks_requires : tie.Need-blanks-requires
+blanks_requires c κs =
     let at = c.before.before.before.before.before.args in
     omega (arith, byte_inside at.text.now at.at (λ z. omega (arith, z, c.before.before.peek.ensures, c.before.if1.true)))
 
-named-requires : tie.Need-named-requires
-named-requires c κs = search rules
+named_requires : tie.Need-named-requires
+named_requires c κs = search rules
 
-enum-known-next : tie.Need-enum-known-next
-enum-known-next c = search rules
+enum_known_next : tie.Need-enum-known-next
+enum_known_next c = search rules
 
-enum-known-next-2 : tie.Need-enum-known-next-2
-enum-known-next-2 c = search rules
+enum_known_next_2 : tie.Need-enum-known-next-2
+enum_known_next_2 c = search rules
 
 same_length : tie.Need-same-length
 same_length c = search rules
@@ -35,52 +35,52 @@ returns : tie.Need-returns
 returns c =
     let called = c.before.before.before.before.before in
     let peek = called.before.before.before.before.peek in
-    object-again called.before.before.before.before.before.before.before.requires (sym peek.ensures ∙ called.before.before.before.if1.true) called.before.blanks.ensures
+    object_again called.before.before.before.before.before.before.before.requires (sym peek.ensures ∙ called.before.before.before.if1.true) called.before.blanks.ensures
     (rw c.before.next.given.1 at called.named.ensures)
 
-same-length-2 : tie.Need-same-length-2
-same-length-2 c = search rules
+same_length_2 : tie.Need-same-length-2
+same_length_2 c = search rules
 
-returns-2 : tie.Need-returns-2
-returns-2 c =
+returns_2 : tie.Need-returns-2
+returns_2 c =
     let called = c.before.before.before.before.before in
     let peek = called.before.before.before.before.peek in
-    object-cut called.before.before.before.before.before.before.before.requires (sym peek.ensures ∙ called.before.before.before.if1.true) called.before.blanks.ensures
+    object_cut called.before.before.before.before.before.before.before.requires (sym peek.ensures ∙ called.before.before.before.if1.true) called.before.blanks.ensures
     (rw c.before.next2.given.1 at called.named.ensures)
 
-returns-3 : tie.Need-returns-3
-returns-3 c = object-stuck c.before.before.before.before.before.requires (λ z. c.before.if1.false (c.before.before.peek.ensures ∙ z)) (λ z. c.if2.true (c.before.before.peek.ensures ∙ z))
+returns_3 : tie.Need-returns-3
+returns_3 c = object_stuck c.before.before.before.before.before.requires (λ z. c.before.if1.false (c.before.before.peek.ensures ∙ z)) (λ z. c.if2.true (c.before.before.peek.ensures ∙ z))
 
-add-t19 : tie.Need-overflow-add-t19
-add-t19 c = search rules
+add_t19 : tie.Need-overflow-add-t19
+add_t19 c = search rules
 
-put-count-requires : tie.Need-put-count-requires
-put-count-requires c κs = search rules
+put_count_requires : tie.Need-put-count-requires
+put_count_requires c κs = search rules
 
-same-length-3 : tie.Need-same-length-3
-same-length-3 c = search rules
+same_length_3 : tie.Need-same-length-3
+same_length_3 c = search rules
 
-returns-4 : tie.Need-returns-4
-returns-4 c =
+returns_4 : tie.Need-returns-4
+returns_4 c =
     let peek = c.before.before.before.before.before.before.peek in
     object-closed c.before.before.before.before.before.before.before.before.before.requires (sym peek.ensures ∙ c.before.before.before.before.if2.false) c.before.before.put_count.ensures
 
-pub within-object-spec : {M : Type 1} → statement M
-within-object-spec =
+pub within_object_spec : {M : Type 1} → statement M
+within_object_spec =
     tie.close
     (tie.spec
-    peek-requires
-    add-blanks
-    blanks-requires
-    named-requires
-    enum-known-next
-    enum-known-next-2
+    peek_requires
+    add_blanks
+    blanks_requires
+    named_requires
+    enum_known_next
+    enum_known_next_2
     same_length
     returns
-    same-length-2
-    returns-2
-    returns-3
-    add-t19
-    put-count-requires
-    same-length-3
-    returns-4)
+    same_length_2
+    returns_2
+    returns_3
+    add_t19
+    put_count_requires
+    same_length_3
+    returns_4)

@@ -8,11 +8,11 @@ use Rattle.leaves.proofs.Steps
 use Rattle.leaves.proofs.array_close.Statement.{statement}
 use Rattle.leaves.proofs.array_close.Tie as tie
 
-eat-requires : tie.Need-eat-requires
-eat-requires c κs = search rules
+eat_requires : tie.Need-eat-requires
+eat_requires c κs = search rules
 
-enum-known-a : tie.Need-enum-known-a
-enum-known-a c = search rules
+enum_known_a : tie.Need-enum-known-a
+enum_known_a c = search rules
 
 enum_told : tie.Need-enum-told
 enum_told c = search rules
@@ -21,10 +21,10 @@ returns : tie.Need-returns
 returns c =
     let eat' = c.before.before.eat in
     let matched' = c.before.match in
-    record { ends = λ g d n. Steps.passed (Steps.eats-broken eat'.ensures matched'.keys2) Steps.here }
+    record { ends = λ g d n. Steps.passed (Steps.eats_broken eat'.ensures matched'.keys2) Steps.here }
 
-put-count-requires : tie.Need-put-count-requires
-put-count-requires c κs =
+put_count_requires : tie.Need-put-count-requires
+put_count_requires c κs =
     let eat' = c.before.before.before.before.eat in
     let a' = c.before.before.a in
     let pre' = c.before.before.before.before.before.before.before.requires in
@@ -34,15 +34,15 @@ put-count-requires c κs =
 same_length : tie.Need-same-length
 same_length c = search rules
 
-returns-2 : tie.Need-returns-2
+returns_2 : tie.Need-returns-2
 unfolding entry payload
-returns-2 c =
+returns_2 c =
     let put-count' = c.before.before.put_count in
     let eat' = c.before.before.before.before.before.before.before.eat in
     let a' = c.before.before.before.before.before.a in
     record { ends = λ g d n. Steps.ends (omega arith) (Steps.closed 5 (omega arith) put-count'.ensures (Steps.ate eat'.ensures a'.given.1 Steps.here)) }
 
-pub array-close-spec : {M : Type 1} → statement M
-array-close-spec =
+pub array_close_spec : {M : Type 1} → statement M
+array_close_spec =
     tie.close
-    (tie.spec eat-requires enum-known-a enum_told returns put-count-requires same_length returns-2)
+    (tie.spec eat_requires enum_known_a enum_told returns put_count_requires same_length returns_2)

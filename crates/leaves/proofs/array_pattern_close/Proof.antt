@@ -6,8 +6,8 @@ use Rattle.grammar.specs.Image.{entry, payload}
 use Rattle.grammar.specs.Productions.{◌▸◌, close, eat, end}
 use Rattle.grammar.specs.Trees.{byte, number, text}
 use Rattle.leaves.proofs.LeafLaws.{few, fits}
-use Rattle.leaves.proofs.LeafRules.{array-pattern-closes}
-use Rattle.leaves.proofs.PartLaws.{lent-short, wrote-lent}
+use Rattle.leaves.proofs.LeafRules.{array_pattern_closes}
+use Rattle.leaves.proofs.PartLaws.{lent_short, wrote_lent}
 use lib.Seq.{length-slice, slice}
 use mathlib.Core.List.{List, [], ◌∷◌}
 use mathlib.Core.Path.{refl}
@@ -16,11 +16,11 @@ use Rattle.leaves.proofs.Steps
 use Rattle.leaves.proofs.array_pattern_close.Statement.{statement}
 use Rattle.leaves.proofs.array_pattern_close.Tie as tie
 
-eat-requires : tie.Need-eat-requires
-eat-requires c κs = search rules
+eat_requires : tie.Need-eat-requires
+eat_requires c κs = search rules
 
-enum-known-a : tie.Need-enum-known-a
-enum-known-a c = search rules
+enum_known_a : tie.Need-enum-known-a
+enum_known_a c = search rules
 
 enum_told : tie.Need-enum-told
 enum_told c = search rules
@@ -36,40 +36,40 @@ returns c =
     let body = eat 24 ▸ close 27 (number args'.n ∷ byte args'.rest ∷ number args'.m ∷ text name ∷ []) ▸ end in
     record {
       ends = λ g d.
-          Steps.passed (Steps.eats-broken eat'.ensures matched'.keys2)
-          (Steps.known body pre'.0.stands refl (λ xs t. array-pattern-closes g args'.c xs args'.n args'.m args'.rest name args'.c.kind t) Steps.here);
+          Steps.passed (Steps.eats_broken eat'.ensures matched'.keys2)
+          (Steps.known body pre'.0.stands refl (λ xs t. array_pattern_closes g args'.c xs args'.n args'.m args'.rest name args'.c.kind t) Steps.here);
     }
 
-cast-put-array-pattern : tie.Need-overflow-cast-put-array-pattern
-cast-put-array-pattern c = search rules
+cast_put_array_pattern : tie.Need-overflow-cast-put-array-pattern
+cast_put_array_pattern c = search rules
 
-cast-put-array-pattern-2 : tie.Need-overflow-cast-put-array-pattern-2
-cast-put-array-pattern-2 c = search rules
+cast_put_array_pattern_2 : tie.Need-overflow-cast-put-array-pattern-2
+cast_put_array_pattern_2 c = search rules
 
-sub-put-array-pattern : tie.Need-overflow-sub-put-array-pattern
-sub-put-array-pattern c = search rules
+sub_put_array_pattern : tie.Need-overflow-sub-put-array-pattern
+sub_put_array_pattern c = search rules
 
-part-put-array-pattern-start : tie.Need-slice-bounds-put-array-pattern-start
-part-put-array-pattern-start c = search rules
+part_put_array_pattern_start : tie.Need-slice-bounds-put-array-pattern-start
+part_put_array_pattern_start c = search rules
 
-part-put-array-pattern-end : tie.Need-slice-bounds-put-array-pattern-end
-part-put-array-pattern-end c = search rules
+part_put_array_pattern_end : tie.Need-slice-bounds-put-array-pattern-end
+part_put_array_pattern_end c = search rules
 
-put-array-pattern-requires : tie.Need-put-array-pattern-requires
-put-array-pattern-requires c κs =
+put_array_pattern_requires : tie.Need-put-array-pattern-requires
+put_array_pattern_requires c κs =
     let eat' = c.before.before.before.before.before.eat in
     let a' = c.before.before.before.a in
     let pre' = c.before.before.before.before.before.before.before.before.requires in
     let args' = c.before.before.before.before.before.before.before.before.args in
     let moved = eat'.ensures.moved _ _ _ a'.given.1 in
-    (omega (arith, moved.1, fits pre'.0), few pre'.0 pre'.1, few pre'.0 pre'.2, omega (arith, lent-short args'.src.now args'.name.start args'.name.end pre'.0.stands.short pre'.4))
+    (omega (arith, moved.1, fits pre'.0), few pre'.0 pre'.1, few pre'.0 pre'.2, omega (arith, lent_short args'.src.now args'.name.start args'.name.end pre'.0.stands.short pre'.4))
 
 same_length : tie.Need-same-length
 same_length c = search rules
 
-returns-2 : tie.Need-returns-2
+returns_2 : tie.Need-returns-2
 unfolding entry payload
-returns-2 c =
+returns_2 c =
     let args' = c.before.before.before.before.before.before.before.before.before.before.before.args in
     let pre' = c.before.before.before.before.before.before.before.before.before.before.before.requires in
     let put-array-pattern' = c.before.before.put-array-pattern in
@@ -79,13 +79,13 @@ returns-2 c =
     let name = slice args'.name.start args'.name.end src in
     let body = eat 24 ▸ close 27 (number args'.n ∷ byte args'.rest ∷ number args'.m ∷ text name ∷ []) ▸ end in
     let size = length-slice args'.name.start args'.name.end src pre'.4 in
-    let written = wrote-lent 27 (λ (l : List ℕ). number args'.n ∷ byte args'.rest ∷ number args'.m ∷ text l ∷ []) src args'.name.start args'.name.end put-array-pattern'.ensures in
+    let written = wrote_lent 27 (λ (l : List ℕ). number args'.n ∷ byte args'.rest ∷ number args'.m ∷ text l ∷ []) src args'.name.start args'.name.end put-array-pattern'.ensures in
     record {
       ends = λ g d.
-          let there = Steps.known body pre'.0.stands refl (λ xs t. array-pattern-closes g args'.c xs args'.n args'.m args'.rest name args'.c.kind t) Steps.here in
+          let there = Steps.known body pre'.0.stands refl (λ xs t. array_pattern_closes g args'.c xs args'.n args'.m args'.rest name args'.c.kind t) Steps.here in
           Steps.owes (omega arith)
           (Steps.closed (8 + (args'.name.end - args'.name.start)) (omega (arith, size)) written (Steps.ate eat'.ensures a'.given.1 there));
     }
 
-pub array-pattern-close-spec : {M : Type 1} → statement M
-array-pattern-close-spec = tie.close (tie.spec eat-requires enum-known-a enum_told returns cast-put-array-pattern cast-put-array-pattern-2 sub-put-array-pattern part-put-array-pattern-start part-put-array-pattern-end put-array-pattern-requires same_length returns-2)
+pub array_pattern_close_spec : {M : Type 1} → statement M
+array_pattern_close_spec = tie.close (tie.spec eat_requires enum_known_a enum_told returns cast_put_array_pattern cast_put_array_pattern_2 sub_put_array_pattern part_put_array_pattern_start part_put_array_pattern_end put_array_pattern_requires same_length returns_2)

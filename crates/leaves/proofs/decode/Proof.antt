@@ -2,93 +2,93 @@
 -- Assumes nothing.
 use borrow.Author.Rules.{rules}
 use Rattle.leaves.proofs.LexemeLaws.{lies}
-use Rattle.leaves.proofs.TextLaws.{decodes-block, decodes-double-verbatim, decodes-quoted, decodes-single-verbatim, plainly-quoted, quoted-long}
+use Rattle.leaves.proofs.TextLaws.{decodes_block, decodes_double_verbatim, decodes_quoted, decodes_single_verbatim, plainly_quoted, quoted_long}
 use native.Mathlib.Omega.{arith}
 use Rattle.leaves.proofs.decode.Statement.{statement}
 use Rattle.leaves.proofs.decode.Tie as tie
 
-cast-start : tie.Need-overflow-cast-start
-cast-start c = search rules
+cast_start : tie.Need-overflow-cast-start
+cast_start c = search rules
 
-cast-end : tie.Need-overflow-cast-end
-cast-end c = search rules
+cast_end : tie.Need-overflow-cast-end
+cast_end c = search rules
 
-add-block-text : tie.Need-overflow-add-block-text
-add-block-text c =
+add_block_text : tie.Need-overflow-add-block-text
+add_block_text c =
     let pre' = c.before.before.before.before.before.requires in
     let matched' = c.match in
     let literal = lies pre'.0 in
     omega (arith, literal.block matched'.keys1, literal.within)
 
-block-text-requires : tie.Need-block-text-requires
-block-text-requires c κs = search rules
+block_text_requires : tie.Need-block-text-requires
+block_text_requires c κs = search rules
 
-add-verbatim : tie.Need-overflow-add-verbatim
-add-verbatim c =
+add_verbatim : tie.Need-overflow-add-verbatim
+add_verbatim c =
     let pre' = c.before.before.before.before.before.requires in
     let matched' = c.match in
     let literal = lies pre'.0 in
     omega (arith, literal.raw matched'.keys2, literal.within)
 
-sub-verbatim : tie.Need-overflow-sub-verbatim
-sub-verbatim c =
+sub_verbatim : tie.Need-overflow-sub-verbatim
+sub_verbatim c =
     let pre' = c.before.before.before.before.before.requires in
     let matched' = c.match in
     let literal = lies pre'.0 in
     omega (arith, literal.raw matched'.keys2, literal.within)
 
-verbatim-requires : tie.Need-verbatim-requires
-verbatim-requires c κs =
+verbatim_requires : tie.Need-verbatim-requires
+verbatim_requires c κs =
     let pre' = c.before.before.before.before.before.before.requires in
     let matched' = c.before.match in
     let literal = lies pre'.0 in
     (omega (arith, literal.raw matched'.keys2), omega (arith, literal.within))
 
-add-verbatim-2 : tie.Need-overflow-add-verbatim-2
-add-verbatim-2 c =
+add_verbatim_2 : tie.Need-overflow-add-verbatim-2
+add_verbatim_2 c =
     let pre' = c.before.before.before.before.before.requires in
     let matched' = c.match in
     let literal = lies pre'.0 in
     omega (arith, literal.raw' matched'.keys3, literal.within)
 
-sub-verbatim-2 : tie.Need-overflow-sub-verbatim-2
-sub-verbatim-2 c =
+sub_verbatim_2 : tie.Need-overflow-sub-verbatim-2
+sub_verbatim_2 c =
     let pre' = c.before.before.before.before.before.requires in
     let matched' = c.match in
     let literal = lies pre'.0 in
     omega (arith, literal.raw' matched'.keys3, literal.within)
 
-verbatim-requires-2 : tie.Need-verbatim-requires-2
-verbatim-requires-2 c κs =
+verbatim_requires_2 : tie.Need-verbatim-requires-2
+verbatim_requires_2 c κs =
     let pre' = c.before.before.before.before.before.before.requires in
     let matched' = c.before.match in
     let literal = lies pre'.0 in
     (omega (arith, literal.raw' matched'.keys3), omega (arith, literal.within))
 
-add-quoted : tie.Need-overflow-add-quoted
-add-quoted c =
+add_quoted : tie.Need-overflow-add-quoted
+add_quoted c =
     let pre' = c.before.before.before.before.before.requires in
     let matched' = c.match in
-    let kind = plainly-quoted pre'.1 (λ z. omega (arith, z, matched'.rest)) (λ z. omega (arith, z, matched'.rest)) (λ z. omega (arith, z, matched'.rest)) in
-    let long = quoted-long pre'.0 kind in
+    let kind = plainly_quoted pre'.1 (λ z. omega (arith, z, matched'.rest)) (λ z. omega (arith, z, matched'.rest)) (λ z. omega (arith, z, matched'.rest)) in
+    let long = quoted_long pre'.0 kind in
     let literal = lies pre'.0 in
     omega (arith, long, literal.within)
 
-sub-quoted : tie.Need-overflow-sub-quoted
-sub-quoted c =
+sub_quoted : tie.Need-overflow-sub-quoted
+sub_quoted c =
     let pre' = c.before.before.before.before.before.requires in
     let matched' = c.match in
-    let kind = plainly-quoted pre'.1 (λ z. omega (arith, z, matched'.rest)) (λ z. omega (arith, z, matched'.rest)) (λ z. omega (arith, z, matched'.rest)) in
-    let long = quoted-long pre'.0 kind in
+    let kind = plainly_quoted pre'.1 (λ z. omega (arith, z, matched'.rest)) (λ z. omega (arith, z, matched'.rest)) (λ z. omega (arith, z, matched'.rest)) in
+    let long = quoted_long pre'.0 kind in
     let literal = lies pre'.0 in
     omega (arith, long, literal.within)
 
-quoted-requires : tie.Need-quoted-requires
-quoted-requires c κs =
+quoted_requires : tie.Need-quoted-requires
+quoted_requires c κs =
     let pre' = c.before.before.before.before.before.before.requires in
     let matched' = c.before.match in
-    let kind = plainly-quoted pre'.1 (λ z. omega (arith, z, matched'.rest)) (λ z. omega (arith, z, matched'.rest)) (λ z. omega (arith, z, matched'.rest)) in
-    let long = quoted-long pre'.0 kind in
+    let kind = plainly_quoted pre'.1 (λ z. omega (arith, z, matched'.rest)) (λ z. omega (arith, z, matched'.rest)) (λ z. omega (arith, z, matched'.rest)) in
+    let long = quoted_long pre'.0 kind in
     let literal = lies pre'.0 in
     (omega (arith, long), omega (arith, literal.within))
 
@@ -100,36 +100,36 @@ returns c =
     let pre' = c.before.before.before.before.before.before.before.before.before.requires in
     let matched' = c.before.before.before.before.match in
     let block-text' = c.before.before.block-text in
-    decodes-block matched'.keys1 ((lies pre'.0).block' matched'.keys1) block-text'.ensures
+    decodes_block matched'.keys1 ((lies pre'.0).block' matched'.keys1) block-text'.ensures
 
-same-length-2 : tie.Need-same-length-2
-same-length-2 c = search rules
+same_length_2 : tie.Need-same-length-2
+same_length_2 c = search rules
 
-returns-2 : tie.Need-returns-2
-returns-2 c =
+returns_2 : tie.Need-returns-2
+returns_2 c =
     let matched' = c.before.before.before.before.match in
     let verbatim' = c.before.before.verbatim in
-    decodes-double-verbatim matched'.keys2 verbatim'.ensures
+    decodes_double_verbatim matched'.keys2 verbatim'.ensures
 
-same-length-3 : tie.Need-same-length-3
-same-length-3 c = search rules
+same_length_3 : tie.Need-same-length-3
+same_length_3 c = search rules
 
-returns-3 : tie.Need-returns-3
-returns-3 c =
+returns_3 : tie.Need-returns-3
+returns_3 c =
     let matched' = c.before.before.before.before.match in
     let verbatim2' = c.before.before.verbatim2 in
-    decodes-single-verbatim matched'.keys3 verbatim2'.ensures
+    decodes_single_verbatim matched'.keys3 verbatim2'.ensures
 
-same-length-4 : tie.Need-same-length-4
-same-length-4 c = search rules
+same_length_4 : tie.Need-same-length-4
+same_length_4 c = search rules
 
-returns-4 : tie.Need-returns-4
-returns-4 c =
+returns_4 : tie.Need-returns-4
+returns_4 c =
     let pre' = c.before.before.before.before.before.before.before.before.before.requires in
     let matched' = c.before.before.before.before.match in
     let quoted' = c.before.before.quoted in
-    let kind = plainly-quoted pre'.1 (λ z. omega (arith, z, matched'.rest)) (λ z. omega (arith, z, matched'.rest)) (λ z. omega (arith, z, matched'.rest)) in
-    decodes-quoted kind quoted'.ensures
+    let kind = plainly_quoted pre'.1 (λ z. omega (arith, z, matched'.rest)) (λ z. omega (arith, z, matched'.rest)) (λ z. omega (arith, z, matched'.rest)) in
+    decodes_quoted kind quoted'.ensures
 
-pub decode-spec : {M : Type 1} → statement M
-decode-spec = tie.close (tie.spec cast-start cast-end add-block-text block-text-requires add-verbatim sub-verbatim verbatim-requires add-verbatim-2 sub-verbatim-2 verbatim-requires-2 add-quoted sub-quoted quoted-requires same_length returns same-length-2 returns-2 same-length-3 returns-3 same-length-4 returns-4)
+pub decode_spec : {M : Type 1} → statement M
+decode_spec = tie.close (tie.spec cast_start cast_end add_block_text block_text_requires add_verbatim sub_verbatim verbatim_requires add_verbatim_2 sub_verbatim_2 verbatim_requires_2 add_quoted sub_quoted quoted_requires same_length returns same_length_2 returns_2 same_length_3 returns_3 same_length_4 returns_4)

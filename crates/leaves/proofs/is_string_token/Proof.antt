@@ -1,41 +1,41 @@
 -- `is_string_token` meets its contract.
 -- Assumes nothing.
-use Rattle.leaves.proofs.LeafLaws.{a-string, no-string}
+use Rattle.leaves.proofs.LeafLaws.{a_string, no_string}
 use native.Mathlib.Omega.{arith}
-use Rattle.leaves.specs.Lexing.{double, single, double-verbatim, single-verbatim, block}
+use Rattle.leaves.specs.Lexing.{double, single, double_verbatim, single_verbatim, block}
 use Rattle.leaves.proofs.is_string_token.Statement.{statement}
 use Rattle.leaves.proofs.is_string_token.Tie as tie
 
 returns : tie.Need-returns
 returns c =
     let matched' = c.match in
-    a-string double matched'.keys1
+    a_string double matched'.keys1
 
-returns-2 : tie.Need-returns-2
-returns-2 c =
+returns_2 : tie.Need-returns-2
+returns_2 c =
     let matched' = c.match in
-    a-string single matched'.keys2
+    a_string single matched'.keys2
 
-returns-3 : tie.Need-returns-3
-returns-3 c =
+returns_3 : tie.Need-returns-3
+returns_3 c =
     let matched' = c.match in
-    a-string double-verbatim matched'.keys3
+    a_string double_verbatim matched'.keys3
 
-returns-4 : tie.Need-returns-4
-returns-4 c =
+returns_4 : tie.Need-returns-4
+returns_4 c =
     let matched' = c.match in
-    a-string single-verbatim matched'.keys4
+    a_string single_verbatim matched'.keys4
 
-returns-5 : tie.Need-returns-5
-returns-5 c =
+returns_5 : tie.Need-returns-5
+returns_5 c =
     let matched' = c.match in
-    a-string block matched'.keys5
+    a_string block matched'.keys5
 
-returns-6 : tie.Need-returns-6
-returns-6 c =
+returns_6 : tie.Need-returns-6
+returns_6 c =
     let matched' = c.match in
-    no-string (λ z. omega (arith, z, matched'.rest)) (λ z. omega (arith, z, matched'.rest)) (λ z. omega (arith, z, matched'.rest)) (λ z. omega (arith, z, matched'.rest)) (λ z. omega (arith, z, matched'.rest))
+    no_string (λ z. omega (arith, z, matched'.rest)) (λ z. omega (arith, z, matched'.rest)) (λ z. omega (arith, z, matched'.rest)) (λ z. omega (arith, z, matched'.rest)) (λ z. omega (arith, z, matched'.rest))
 
-pub is-string-token-spec : {M : Type 1} → statement M
-is-string-token-spec =
-    tie.close (tie.spec returns returns-2 returns-3 returns-4 returns-5 returns-6)
+pub is_string_token_spec : {M : Type 1} → statement M
+is_string_token_spec =
+    tie.close (tie.spec returns returns_2 returns_3 returns_4 returns_5 returns_6)

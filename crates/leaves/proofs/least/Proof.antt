@@ -10,9 +10,9 @@ returns : tie.Need-returns
 returns c =
     (omega arith, inl refl)
 
-returns-2 : tie.Need-returns-2
-returns-2 c =
+returns_2 : tie.Need-returns-2
+returns_2 c =
     (omega arith, inr (refl, omega arith))
 
-pub least-spec : {M : Type 1} → statement M
-least-spec = tie.close (tie.spec returns returns-2)
+pub least_spec : {M : Type 1} → statement M
+least_spec = tie.close (tie.spec returns returns_2)

@@ -7,8 +7,8 @@ use Rattle.leaves.proofs.Steps
 use Rattle.leaves.proofs.members_close.Statement.{statement}
 use Rattle.leaves.proofs.members_close.Tie as tie
 
-put-count-requires : tie.Need-put-count-requires
-put-count-requires c κs = search rules
+put_count_requires : tie.Need-put-count-requires
+put_count_requires c κs = search rules
 
 same_length : tie.Need-same-length
 same_length c = search rules
@@ -19,5 +19,5 @@ returns c =
     let put-count' = c.before.before.put_count in
     record { ends = λ s. record { ends = λ g d n. Steps.owes (omega arith) (Steps.closed 5 (omega arith) put-count'.ensures Steps.here) } }
 
-pub members-close-spec : {M : Type 1} → statement M
-members-close-spec = tie.close (tie.spec put-count-requires same_length returns)
+pub members_close_spec : {M : Type 1} → statement M
+members_close_spec = tie.close (tie.spec put_count_requires same_length returns)

@@ -4,11 +4,11 @@ use borrow.Author.Rules.{rules}
 use Prim.Native.Nat.{◌-◌, ◌<◌, ℕ}
 use Rattle.grammar.specs.Productions.{◌▸◌, end, leaf}
 use Rattle.grammar.specs.Trees.{text}
-use Rattle.leaves.proofs.LeafLaws.{any-size, bytes-short, fits}
-use Rattle.leaves.proofs.LeafRules.{a-number}
+use Rattle.leaves.proofs.LeafLaws.{any_size, bytes_short, fits}
+use Rattle.leaves.proofs.LeafRules.{a_number}
 use Rattle.leaves.proofs.LexemeLaws.{lies}
-use Rattle.leaves.proofs.PartLaws.{lent, sets-rest, text-wrote}
-use Rattle.leaves.proofs.TextLaws.{meaning, means-short}
+use Rattle.leaves.proofs.PartLaws.{lent, sets-rest, text_wrote}
+use Rattle.leaves.proofs.TextLaws.{meaning, means_short}
 use Rattle.leaves.specs.Lexing.{same}
 use lib.Dec.{lit<}
 use lib.ListN.{drop, length, take}
@@ -23,20 +23,20 @@ use Rattle.lexemes.specs.Texts.{plain}
 use Rattle.leaves.proofs.number_in_range.Statement.{statement}
 use Rattle.leaves.proofs.number_in_range.Tie as tie
 
-add-least : tie.Need-overflow-add-least
-add-least c = search rules
+add_least : tie.Need-overflow-add-least
+add_least c = search rules
 
-least-requires : tie.Need-least-requires
-least-requires c κs = search rules
+least_requires : tie.Need-least-requires
+least_requires c κs = search rules
 
-cast-plain : tie.Need-overflow-cast-plain
-cast-plain c = search rules
+cast_plain : tie.Need-overflow-cast-plain
+cast_plain c = search rules
 
-cast-plain-2 : tie.Need-overflow-cast-plain-2
-cast-plain-2 c = search rules
+cast_plain_2 : tie.Need-overflow-cast-plain-2
+cast_plain_2 c = search rules
 
-sub-plain : tie.Need-overflow-sub-plain
-sub-plain c =
+sub_plain : tie.Need-overflow-sub-plain
+sub_plain c =
     let pre' = c.before.before.before.requires in
     let st = pre'.0.stands in
     (lies st).on
@@ -47,28 +47,28 @@ part-plain-start c =
     let st = pre'.0.stands in
     (lies st).on
 
-part-plain-end : tie.Need-slice-bounds-plain-end
-part-plain-end c =
+part_plain_end : tie.Need-slice-bounds-plain-end
+part_plain_end c =
     let pre' = c.before.before.before.requires in
     let st = pre'.0.stands in
     (lies st).within
 
-sub-plain-2 : tie.Need-overflow-sub-plain-2
-sub-plain-2 c = search rules
+sub_plain_2 : tie.Need-overflow-sub-plain-2
+sub_plain_2 c = search rules
 
-part-plain-start-2 : tie.Need-slice-bounds-plain-start-2
-part-plain-start-2 c = search rules
+part_plain_start_2 : tie.Need-slice-bounds-plain-start-2
+part_plain_start_2 c = search rules
 
-part-plain-end-2 : tie.Need-slice-bounds-plain-end-2
-part-plain-end-2 c = search rules
+part_plain_end_2 : tie.Need-slice-bounds-plain-end-2
+part_plain_end_2 c = search rules
 
-plain-requires : tie.Need-plain-requires
-plain-requires c κs =
+plain_requires : tie.Need-plain-requires
+plain_requires c κs =
     let pre' = c.before.before.before.before.before.requires in
-    omega (arith, bytes-short pre'.0)
+    omega (arith, bytes_short pre'.0)
 
-put-head-requires : tie.Need-put-head-requires
-put-head-requires c κs =
+put_head_requires : tie.Need-put-head-requires
+put_head_requires c κs =
     let args' = c.before.before.before.before.before.before.before.before.before.args in
     let plain' = c.before.before.before.plain in
     let pre' = c.before.before.before.before.before.before.before.before.before.requires in
@@ -77,14 +77,14 @@ put-head-requires c κs =
     let count = plain'.ensures.0 ∙ ap length same in
     let digits = plain (slice args'.c.start args'.c.end src) in
     let st = pre'.0.stands in
-    let short = means-short {t = digits} st pre'.1 (means-number pre'.2) in
+    let short = means_short {t = digits} st pre'.1 (means-number pre'.2) in
     (omega (arith, fits pre'.0), omega (arith, count, short, (lies st).within, pre'.0.stands.short))
 
-eat-any-requires : tie.Need-eat-any-requires
-eat-any-requires c κs = search rules
+eat_any_requires : tie.Need-eat-any-requires
+eat_any_requires c κs = search rules
 
-add-t10 : tie.Need-overflow-add-t10
-add-t10 c =
+add_t10 : tie.Need-overflow-add-t10
+add_t10 c =
     let args' = c.before.before.before.before.before.before.before.before.before.before.before.before.before.args in
     let plain' = c.before.before.before.before.before.before.before.plain in
     let pre' = c.before.before.before.before.before.before.before.before.before.before.before.before.before.requires in
@@ -94,7 +94,7 @@ add-t10 c =
     let count = plain'.ensures.0 ∙ ap length same in
     let digits = plain (slice args'.c.start args'.c.end src) in
     let st = pre'.0.stands in
-    let short = means-short {t = digits} st pre'.1 (means-number pre'.2) in
+    let short = means_short {t = digits} st pre'.1 (means-number pre'.2) in
     omega (arith, count, short, (lies st).within, pre'.0.stands.short, fits pre'.0, put-head'.ensures.to)
 
 same_length : tie.Need-same-length
@@ -113,17 +113,17 @@ returns c =
     let digits = plain (slice args'.c.start args'.c.end src) in
     let count = plain'.ensures.0 ∙ ap length same in
     let st = pre'.0.stands in
-    let short = means-short {t = digits} st pre'.1 (means-number pre'.2) in
+    let short = means_short {t = digits} st pre'.1 (means-number pre'.2) in
     let some : 1 < args'.c.kind = omega (arith, pre'.1) in
     let stored = plain'.ensures.1 ∙ ap (λ (l : List ℕ). sets (take (length args'.out.now - least'.result) (drop least'.result args'.out.now)) 0 l) same in
     let written =
-    text-wrote 4 args'.out.now args'.w least'.result digits count (sets-rest args'.out.now _ digits least'.result stored)
+    text_wrote 4 args'.out.now args'.w least'.result digits count (sets-rest args'.out.now _ digits least'.result stored)
     (⊎_elim (λ e. inl e) (λ e. inr e) least'.ensures.1) put-head'.ensures in
     record {
       ends = λ g d.
-          let there = meaning (leaf 4 (text digits ∷ []) ▸ end) st pre'.1 (lit< tt) (means-number pre'.2) (λ xs. a-number g args'.c xs 0 digits) Steps.here in
-          Steps.ends (omega arith) (Steps.leaved st eat-any'.ensures some (any-size 4 st digits short) written there);
+          let there = meaning (leaf 4 (text digits ∷ []) ▸ end) st pre'.1 (lit< tt) (means-number pre'.2) (λ xs. a_number g args'.c xs 0 digits) Steps.here in
+          Steps.ends (omega arith) (Steps.leaved st eat-any'.ensures some (any_size 4 st digits short) written there);
     }
 
-pub number-in-range-spec : {M : Type 1} → statement M
-number-in-range-spec = tie.close (tie.spec add-least least-requires cast-plain cast-plain-2 sub-plain part-plain-start part-plain-end sub-plain-2 part-plain-start-2 part-plain-end-2 plain-requires put-head-requires eat-any-requires add-t10 same_length returns)
+pub number_in_range_spec : {M : Type 1} → statement M
+number_in_range_spec = tie.close (tie.spec add_least least_requires cast_plain cast_plain_2 sub_plain part-plain-start part_plain_end sub_plain_2 part_plain_start_2 part_plain_end_2 plain_requires put_head_requires eat_any_requires add_t10 same_length returns)

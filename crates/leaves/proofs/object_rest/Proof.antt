@@ -2,9 +2,9 @@
 -- Assumes nothing.
 use borrow.Author.Rules.{rules}
 use Prim.Native.Nat.{◌-◌}
-use Rattle.grammar.specs.Productions.{◌▸◌, eat, goto, object-rest-end}
-use Rattle.leaves.proofs.LeafLaws.{moved_on, onward, past-comma, past-stands}
-use Rattle.leaves.proofs.LeafRules.{rest-bare, rest-named}
+use Rattle.grammar.specs.Productions.{◌▸◌, eat, goto, object_rest_end}
+use Rattle.leaves.proofs.LeafLaws.{moved_on, onward, past_comma, past_stands}
+use Rattle.leaves.proofs.LeafRules.{rest_bare, rest_named}
 use Rattle.leaves.proofs.LexemeLaws.{lies}
 use Rattle.leaves.specs.Lexing.{named}
 use lib.Seq.{slice}
@@ -15,19 +15,19 @@ use Rattle.leaves.proofs.Steps
 use Rattle.leaves.proofs.object_rest.Statement.{statement}
 use Rattle.leaves.proofs.object_rest.Tie as tie
 
-eat-any-requires : tie.Need-eat-any-requires
-eat-any-requires c κs = search rules
+eat_any_requires : tie.Need-eat-any-requires
+eat_any_requires c κs = search rules
 
-past-comma-requires : tie.Need-past-comma-requires
-past-comma-requires c κs = search rules
+past_comma_requires : tie.Need-past-comma-requires
+past_comma_requires c κs = search rules
 
-object-pattern-close-requires : tie.Need-object-pattern-close-requires
-object-pattern-close-requires c κs =
+object_pattern_close_requires : tie.Need-object-pattern-close-requires
+object_pattern_close_requires c κs =
     let pre' = c.before.before.before.before.before.before.before.requires in
     let eat-any' = c.before.before.eat-any in
-    let past-comma' = c.before.past-comma in
+    let past-comma' = c.before.past_comma in
     let st = pre'.0.stands in
-    let next = past-stands eat-any'.ensures.stands past-comma'.ensures in
+    let next = past_stands eat-any'.ensures.stands past-comma'.ensures in
     let on = moved_on st eat-any'.ensures in
     let word = lies st in
     (onward pre'.0 next.0 (omega (arith, on, next.1)), omega (arith, pre'.1, on, next.1), word.on, word.within)
@@ -41,35 +41,35 @@ returns c =
     let args' = c.before.before.before.before.before.before.before.before.before.before.args in
     let if1' = c.before.before.before.before.before.before.if1 in
     let eat-any' = c.before.before.before.before.before.eat-any in
-    let object-pattern-close' = c.before.before.object-pattern-close in
-    let past-comma' = c.before.before.before.before.past-comma in
+    let object-pattern-close' = c.before.before.object_pattern_close in
+    let past-comma' = c.before.before.before.before.past_comma in
     let st = pre'.0.stands in
     let src = args'.src.now in
     let name = slice args'.c.start args'.c.end src in
     let word = lies st in
     record {
       ends = λ g d.
-          let there = Steps.called (eat 55 ▸ goto (object-rest-end 2 name)) st if1'.true (λ xs. rest-named g args'.c xs args'.n name) Steps.here in
+          let there = Steps.called (eat 55 ▸ goto (object_rest_end 2 name)) st if1'.true (λ xs. rest_named g args'.c xs args'.n name) Steps.here in
           let named = Steps.taken_of (args'.c.end - args'.c.at) (omega arith) st eat-any'.ensures if1'.true there in
-          Steps.tail (omega (arith, word.from, word.on)) (object-pattern-close'.ensures.ends g d) (past-comma eat-any'.ensures.stands past-comma'.ensures named);
+          Steps.tail (omega (arith, word.from, word.on)) (object-pattern-close'.ensures.ends g d) (past_comma eat-any'.ensures.stands past-comma'.ensures named);
     }
 
-past-comma-requires-2 : tie.Need-past-comma-requires-2
-past-comma-requires-2 c κs = search rules
+past_comma_requires_2 : tie.Need-past-comma-requires-2
+past_comma_requires_2 c κs = search rules
 
-object-pattern-close-requires-2 : tie.Need-object-pattern-close-requires-2
-object-pattern-close-requires-2 c κs =
+object_pattern_close_requires_2 : tie.Need-object-pattern-close-requires-2
+object_pattern_close_requires_2 c κs =
     let pre' = c.before.before.before.before.before.before.requires in
     let past-comma2' = c.before.past-comma2 in
     let st = pre'.0.stands in
-    let next = past-stands st past-comma2'.ensures in
+    let next = past_stands st past-comma2'.ensures in
     (onward pre'.0 next.0 next.1, omega (arith, pre'.1, next.1), omega arith, omega arith)
 
-same-length-2 : tie.Need-same-length-2
-same-length-2 c = search rules
+same_length_2 : tie.Need-same-length-2
+same_length_2 c = search rules
 
-returns-2 : tie.Need-returns-2
-returns-2 c =
+returns_2 : tie.Need-returns-2
+returns_2 c =
     let pre' = c.before.before.before.before.before.before.before.before.before.requires in
     let args' = c.before.before.before.before.before.before.before.before.before.args in
     let if1' = c.before.before.before.before.before.if1 in
@@ -78,9 +78,9 @@ returns-2 c =
     let st = pre'.0.stands in
     record {
       ends = λ g d.
-          let bare = Steps.known (goto (object-rest-end 1 [])) st refl (λ xs t. rest-bare g args'.c xs args'.n args'.c.kind t if1'.false) Steps.here in
-          Steps.tail (omega arith) (object-pattern-close2'.ensures.ends g d) (past-comma st past-comma2'.ensures bare);
+          let bare = Steps.known (goto (object_rest_end 1 [])) st refl (λ xs t. rest_bare g args'.c xs args'.n args'.c.kind t if1'.false) Steps.here in
+          Steps.tail (omega arith) (object-pattern-close2'.ensures.ends g d) (past_comma st past-comma2'.ensures bare);
     }
 
-pub object-rest-spec : {M : Type 1} → statement M
-object-rest-spec = tie.close (tie.spec eat-any-requires past-comma-requires object-pattern-close-requires same_length returns past-comma-requires-2 object-pattern-close-requires-2 same-length-2 returns-2)
+pub object_rest_spec : {M : Type 1} → statement M
+object_rest_spec = tie.close (tie.spec eat_any_requires past_comma_requires object_pattern_close_requires same_length returns past_comma_requires_2 object_pattern_close_requires_2 same_length_2 returns_2)

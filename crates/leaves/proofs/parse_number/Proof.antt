@@ -1,52 +1,52 @@
 -- `parse_number` meets its contract: a literal that is too large says nothing, and is refused where it stands.
 -- Assumes nothing.
 use borrow.Author.Rules.{rules}
-use Rattle.leaves.proofs.LeafLaws.{large-answer}
+use Rattle.leaves.proofs.LeafLaws.{large_answer}
 use Rattle.leaves.proofs.LexemeLaws.{lies}
-use Rattle.leaves.proofs.Underscores.{judged-large, judged-in-range}
+use Rattle.leaves.proofs.Underscores.{judged_large, judged_in_range}
 use Rattle.leaves.proofs.parse_number.Statement.{statement}
 use Rattle.leaves.proofs.parse_number.Tie as tie
 
-cast-too-large : tie.Need-overflow-cast-too-large
-cast-too-large c = search rules
+cast_too_large : tie.Need-overflow-cast-too-large
+cast_too_large c = search rules
 
-cast-too-large-2 : tie.Need-overflow-cast-too-large-2
-cast-too-large-2 c = search rules
+cast_too_large_2 : tie.Need-overflow-cast-too-large-2
+cast_too_large_2 c = search rules
 
-sub-too-large : tie.Need-overflow-sub-too-large
-sub-too-large c = (lies c.before.before.requires.0.stands).on
+sub_too_large : tie.Need-overflow-sub-too-large
+sub_too_large c = (lies c.before.before.requires.0.stands).on
 
-part-too-large-start : tie.Need-slice-bounds-too-large-start
-part-too-large-start c = (lies c.before.before.requires.0.stands).on
+part_too_large_start : tie.Need-slice-bounds-too-large-start
+part_too_large_start c = (lies c.before.before.requires.0.stands).on
 
-part-too-large-end : tie.Need-slice-bounds-too-large-end
-part-too-large-end c = (lies c.before.before.requires.0.stands).within
+part_too_large_end : tie.Need-slice-bounds-too-large-end
+part_too_large_end c = (lies c.before.before.requires.0.stands).within
 
-too-large-requires : tie.Need-too-large-requires
-too-large-requires c κs = search rules
+too_large_requires : tie.Need-too-large-requires
+too_large_requires c κs = search rules
 
-error-requires : tie.Need-error-requires
-error-requires c κs = search rules
+error_requires : tie.Need-error-requires
+error_requires c κs = search rules
 
 returns : tie.Need-returns
 returns c =
     let start = c.before.before.before.before.before.before in
     let at = start.args.c in
-    let large = judged-large start.args.src.now at.start at.end c.before.before.too_large.ensures c.before.if1.true in
-    record { ends = λ g d. large-answer start.requires.0.stands start.requires.1 large c.error.ensures }
+    let large = judged_large start.args.src.now at.start at.end c.before.before.too_large.ensures c.before.if1.true in
+    record { ends = λ g d. large_answer start.requires.0.stands start.requires.1 large c.error.ensures }
 
-number-in-range-requires : tie.Need-number-in-range-requires
-number-in-range-requires c κs =
+number_in_range_requires : tie.Need-number-in-range-requires
+number_in_range_requires c κs =
     let start = c.before.before.before.before.before.before in
     let at = start.args.c in
-    (start.requires.0, start.requires.1, judged-in-range start.args.src.now at.start at.end c.before.before.too_large.ensures c.before.if1.false)
+    (start.requires.0, start.requires.1, judged_in_range start.args.src.now at.start at.end c.before.before.too_large.ensures c.before.if1.false)
 
 same_length : tie.Need-same-length
 same_length c = search rules
 
-returns-2 : tie.Need-returns-2
-returns-2 c = search rules
+returns_2 : tie.Need-returns-2
+returns_2 c = search rules
 
-pub parse-number-spec : {M : Type 1} → statement M
-parse-number-spec =
-    tie.close (tie.spec cast-too-large cast-too-large-2 sub-too-large part-too-large-start part-too-large-end too-large-requires error-requires returns number-in-range-requires same_length returns-2)
+pub parse_number_spec : {M : Type 1} → statement M
+parse_number_spec =
+    tie.close (tie.spec cast_too_large cast_too_large_2 sub_too_large part_too_large_start part_too_large_end too_large_requires error_requires returns number_in_range_requires same_length returns_2)

@@ -6,8 +6,8 @@ use mathlib.Core.Path.{refl}
 use Rattle.leaves.proofs.past_comma.Statement.{statement}
 use Rattle.leaves.proofs.past_comma.Tie as tie
 
-eat-any-requires : tie.Need-eat-any-requires
-eat-any-requires c κs = search rules
+eat_any_requires : tie.Need-eat-any-requires
+eat_any_requires c κs = search rules
 
 returns : tie.Need-returns
 returns c =
@@ -15,10 +15,10 @@ returns c =
     let eat-any' = c.eat-any in
     past if1'.true eat-any'.ensures
 
-returns-2 : tie.Need-returns-2
-returns-2 c =
+returns_2 : tie.Need-returns-2
+returns_2 c =
     let if1' = c.if1 in
     same if1'.false refl
 
-pub past-comma-spec : {M : Type 1} → statement M
-past-comma-spec = tie.close (tie.spec eat-any-requires returns returns-2)
+pub past_comma_spec : {M : Type 1} → statement M
+past_comma_spec = tie.close (tie.spec eat_any_requires returns returns_2)

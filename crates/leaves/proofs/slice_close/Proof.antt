@@ -8,11 +8,11 @@ use Rattle.leaves.proofs.Steps
 use Rattle.leaves.proofs.slice_close.Statement.{statement}
 use Rattle.leaves.proofs.slice_close.Tie as tie
 
-eat-requires : tie.Need-eat-requires
-eat-requires c κs = search rules
+eat_requires : tie.Need-eat-requires
+eat_requires c κs = search rules
 
-enum-known-a : tie.Need-enum-known-a
-enum-known-a c = search rules
+enum_known_a : tie.Need-enum-known-a
+enum_known_a c = search rules
 
 enum_told : tie.Need-enum-told
 enum_told c = search rules
@@ -21,10 +21,10 @@ returns : tie.Need-returns
 returns c =
     let eat' = c.before.before.eat in
     let matched' = c.before.match in
-    record { tells = λ g d n. Steps.passed-telling (Steps.eats-broken eat'.ensures matched'.keys2) Steps.here }
+    record { tells = λ g d n. Steps.passed_telling (Steps.eats_broken eat'.ensures matched'.keys2) Steps.here }
 
-put-slice-requires : tie.Need-put-slice-requires
-put-slice-requires c κs =
+put_slice_requires : tie.Need-put-slice-requires
+put_slice_requires c κs =
     let eat' = c.before.before.before.before.eat in
     let a' = c.before.before.a in
     let pre' = c.before.before.before.before.before.before.before.requires in
@@ -34,15 +34,15 @@ put-slice-requires c κs =
 same_length : tie.Need-same-length
 same_length c = search rules
 
-returns-2 : tie.Need-returns-2
+returns_2 : tie.Need-returns-2
 unfolding entry payload
-returns-2 c =
+returns_2 c =
     let put-slice' = c.before.before.put-slice in
     let eat' = c.before.before.before.before.before.before.before.eat in
     let a' = c.before.before.before.before.before.a in
     record { tells = λ g d n. Steps.says_on (omega arith) (omega arith) (Steps.closed 16 (omega arith) put-slice'.ensures (Steps.ate eat'.ensures a'.given.1 Steps.here)) }
 
-pub slice-close-spec : {M : Type 1} → statement M
-slice-close-spec =
+pub slice_close_spec : {M : Type 1} → statement M
+slice_close_spec =
     tie.close
-    (tie.spec eat-requires enum-known-a enum_told returns put-slice-requires same_length returns-2)
+    (tie.spec eat_requires enum_known_a enum_told returns put_slice_requires same_length returns_2)

@@ -1,7 +1,7 @@
 -- `visibility` meets its contract.
 -- Assumes nothing.
 use borrow.Author.Rules.{rules}
-use Rattle.leaves.specs.Lexing.{none_more, one_more, two-more}
+use Rattle.leaves.specs.Lexing.{none_more, one_more, two_more}
 use Rattle.leaves.proofs.visibility.Statement.{statement}
 use Rattle.leaves.proofs.visibility.Tie as tie
 
@@ -10,27 +10,27 @@ returns c =
     let if1' = c.if1 in
     none_more if1'.true
 
-eat-any-requires : tie.Need-eat-any-requires
-eat-any-requires c κs = search rules
+eat_any_requires : tie.Need-eat-any-requires
+eat_any_requires c κs = search rules
 
-returns-2 : tie.Need-returns-2
-returns-2 c =
+returns_2 : tie.Need-returns-2
+returns_2 c =
     let if1' = c.before.before.before.if1 in
     let eat-any' = c.before.before.eat-any in
     let if2' = c.if2 in
     one_more if1'.false eat-any'.ensures if2'.true
 
-eat-any-requires-2 : tie.Need-eat-any-requires-2
-eat-any-requires-2 c κs = search rules
+eat_any_requires_2 : tie.Need-eat-any-requires-2
+eat_any_requires_2 c κs = search rules
 
-returns-3 : tie.Need-returns-3
-returns-3 c =
+returns_3 : tie.Need-returns-3
+returns_3 c =
     let if1' = c.before.before.before.before.if1 in
     let eat-any' = c.before.before.before.eat-any in
     let if2' = c.before.if2 in
     let eat-any2' = c.eat-any2 in
-    two-more if1'.false eat-any'.ensures if2'.false eat-any2'.ensures
+    two_more if1'.false eat-any'.ensures if2'.false eat-any2'.ensures
 
-pub visibility-spec : {M : Type 1} → statement M
-visibility-spec =
-    tie.close (tie.spec returns eat-any-requires returns-2 eat-any-requires-2 returns-3)
+pub visibility_spec : {M : Type 1} → statement M
+visibility_spec =
+    tie.close (tie.spec returns eat_any_requires returns_2 eat_any_requires_2 returns_3)

@@ -1,6 +1,6 @@
 -- `with_assert` meets its contract.
 -- Assumes nothing.
-use Rattle.grammar.specs.Productions.{with-assert}
+use Rattle.grammar.specs.Productions.{with_assert}
 use borrow.Author.Tests.{eq-eqb, ne_eqb}
 use mathlib.Core.Path.{refl}
 use native.Mathlib.Omega.{arith}
@@ -8,18 +8,18 @@ use Rattle.leaves.proofs.with_assert.Statement.{statement}
 use Rattle.leaves.proofs.with_assert.Tie as tie
 
 returns : tie.Need-returns
-unfolding with-assert
+unfolding with_assert
 returns c =
     let args' = c.before.args in
     let if1' = c.if1 in
-    (rw (eq-eqb args'.fault 2 if1'.true, with-assert) refl, omega arith)
+    (rw (eq-eqb args'.fault 2 if1'.true, with_assert) refl, omega arith)
 
-returns-2 : tie.Need-returns-2
-unfolding with-assert
-returns-2 c =
+returns_2 : tie.Need-returns-2
+unfolding with_assert
+returns_2 c =
     let args' = c.before.args in
     let if1' = c.if1 in
-    (rw (ne_eqb args'.fault 2 if1'.false, with-assert) refl, omega arith)
+    (rw (ne_eqb args'.fault 2 if1'.false, with_assert) refl, omega arith)
 
-pub with-assert-spec : {M : Type 1} → statement M
-with-assert-spec = tie.close (tie.spec returns returns-2)
+pub with_assert_spec : {M : Type 1} → statement M
+with_assert_spec = tie.close (tie.spec returns returns_2)

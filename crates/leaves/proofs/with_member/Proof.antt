@@ -2,32 +2,32 @@
 -- Assumes nothing.
 use mathlib.Core.Path.{◌∙◌}
 use borrow.Author.Rules.{rules}
-use Rattle.leaves.proofs.FoundLaws.{local-fault, assert-member-fault, field-member-fault}
+use Rattle.leaves.proofs.FoundLaws.{local_fault, assert_member_fault, field_member_fault}
 use Rattle.leaves.proofs.with_member.Statement.{statement}
 use Rattle.leaves.proofs.with_member.Tie as tie
 
 returns : tie.Need-returns
-returns c = let start = c.before in (local-fault start.args.fault start.args.kind c.if1.true, start.requires)
+returns c = let start = c.before in (local_fault start.args.fault start.args.kind c.if1.true, start.requires)
 
-with-assert-requires : tie.Need-with-assert-requires
-with-assert-requires c κs = search rules
+with_assert_requires : tie.Need-with-assert-requires
+with_assert_requires c κs = search rules
 
-returns-2 : tie.Need-returns-2
-returns-2 c =
-    let found = c.with-assert.ensures in
+returns_2 : tie.Need-returns-2
+returns_2 c =
+    let found = c.with_assert.ensures in
     let at-assert = c.before in
     let args' = at-assert.before.before.args in
-    (found.0 ∙ assert-member-fault args'.fault args'.kind at-assert.if2.true, found.1)
+    (found.0 ∙ assert_member_fault args'.fault args'.kind at-assert.if2.true, found.1)
 
-with-field-requires : tie.Need-with-field-requires
-with-field-requires c κs = search rules
+with_field_requires : tie.Need-with-field-requires
+with_field_requires c κs = search rules
 
-returns-3 : tie.Need-returns-3
-returns-3 c =
-    let found = c.with-field.ensures in
+returns_3 : tie.Need-returns-3
+returns_3 c =
+    let found = c.with_field.ensures in
     let neither = c.before in
     let args' = neither.before.before.args in
-    (found.0 ∙ field-member-fault args'.fault args'.kind neither.before.if1.false neither.if2.false, found.1)
+    (found.0 ∙ field_member_fault args'.fault args'.kind neither.before.if1.false neither.if2.false, found.1)
 
-pub with-member-spec : {M : Type 1} → statement M
-with-member-spec = tie.close (tie.spec returns with-assert-requires returns-2 with-field-requires returns-3)
+pub with_member_spec : {M : Type 1} → statement M
+with_member_spec = tie.close (tie.spec returns with_assert_requires returns_2 with_field_requires returns_3)

@@ -6,50 +6,50 @@ use borrow.Author.Rules.{rules}
 use Rattle.lists.proofs.field.Statement.{statement}
 use Rattle.lists.proofs.field.Tie as tie
 
-abbrev invariant-loop : tie.invariant-loop
-invariant-loop line n from₀ left₀ from left = from ≤ length line
+abbrev invariant_loop : tie.invariant-loop
+invariant_loop line n from₀ left₀ from left = from ≤ length line
 
-abbrev decreases-loop : tie.decreases-loop
-decreases-loop line n from₀ left₀ from left = left
+abbrev decreases_loop : tie.decreases-loop
+decreases_loop line n from₀ left₀ from left = left
 
-loop-holds : tie.Need-loop-init invariant-loop decreases-loop
-loop-holds c = search rules
+loop_holds : tie.Need-loop-init invariant_loop decreases_loop
+loop_holds c = search rules
 
-run-end-requires : tie.Need-run-end-requires invariant-loop decreases-loop
-run-end-requires c κs = search rules
+run_end_requires : tie.Need-run-end-requires invariant_loop decreases_loop
+run_end_requires c κs = search rules
 
-slice-aggregate-result : tie.Need-slice-aggregate-result invariant-loop decreases-loop
-slice-aggregate-result c = search rules
+slice_aggregate_result : tie.Need-slice-aggregate-result invariant_loop decreases_loop
+slice_aggregate_result c = search rules
 
-returns : tie.Need-returns invariant-loop decreases-loop
+returns : tie.Need-returns invariant_loop decreases_loop
 returns c = search rules
 
-add-from : tie.Need-overflow-add-from invariant-loop decreases-loop
-add-from c = search rules
+add_from : tie.Need-overflow-add-from invariant_loop decreases_loop
+add_from c = search rules
 
-sub-left : tie.Need-overflow-sub-left invariant-loop decreases-loop
-sub-left c = search rules
+sub_left : tie.Need-overflow-sub-left invariant_loop decreases_loop
+sub_left c = search rules
 
-loop-less : tie.Need-loop-smaller invariant-loop decreases-loop
-loop-less c = search rules
+loop_less : tie.Need-loop-smaller invariant_loop decreases_loop
+loop_less c = search rules
 
-loop-again : tie.Need-loop-preserved invariant-loop decreases-loop
-loop-again c = search rules
+loop_again : tie.Need-loop-preserved invariant_loop decreases_loop
+loop_again c = search rules
 
-run-end-requires-2 : tie.Need-run-end-requires-2 invariant-loop decreases-loop
-run-end-requires-2 c κs = search rules
+run_end_requires_2 : tie.Need-run-end-requires-2 invariant_loop decreases_loop
+run_end_requires_2 c κs = search rules
 
-sub-result : tie.Need-overflow-sub-result invariant-loop decreases-loop
-sub-result c = search rules
+sub_result : tie.Need-overflow-sub-result invariant_loop decreases_loop
+sub_result c = search rules
 
-part-result-start : tie.Need-slice-bounds-result-start invariant-loop decreases-loop
-part-result-start c = search rules
+part_result_start : tie.Need-slice-bounds-result-start invariant_loop decreases_loop
+part_result_start c = search rules
 
-part-result-end : tie.Need-slice-bounds-result-end invariant-loop decreases-loop
-part-result-end c = search rules
+part_result_end : tie.Need-slice-bounds-result-end invariant_loop decreases_loop
+part_result_end c = search rules
 
-returns-2 : tie.Need-returns-2 invariant-loop decreases-loop
-returns-2 c = search rules
+returns_2 : tie.Need-returns-2 invariant_loop decreases_loop
+returns_2 c = search rules
 
-pub field-spec : {M : Type 1} → statement M
-field-spec = tie.close (tie.spec invariant-loop decreases-loop loop-holds run-end-requires slice-aggregate-result returns add-from sub-left loop-less loop-again run-end-requires-2 sub-result part-result-start part-result-end returns-2)
+pub field_spec : {M : Type 1} → statement M
+field_spec = tie.close (tie.spec invariant_loop decreases_loop loop_holds run_end_requires slice_aggregate_result returns add_from sub_left loop_less loop_again run_end_requires_2 sub_result part_result_start part_result_end returns_2)

@@ -11,64 +11,64 @@ use Rattle.mass.proofs.store.Tie as tie
 returns : tie.Need-returns
 returns c = record { long = refl; stored = λ h. absurd (omega arith) }
 
-mul-i : tie.Need-overflow-mul-i
-mul-i c = search rules
+mul_i : tie.Need-overflow-mul-i
+mul_i c = search rules
 
-mul-list : tie.Need-overflow-mul-list
-mul-list c = search rules
+mul_list : tie.Need-overflow-mul-list
+mul_list c = search rules
 
-slice-write-list : tie.Need-slice-write-list
-slice-write-list c = search rules
+slice_write_list : tie.Need-slice-write-list
+slice_write_list c = search rules
 
-add-list : tie.Need-overflow-add-list
-add-list c = search rules
+add_list : tie.Need-overflow-add-list
+add_list c = search rules
 
-mul-list-2 : tie.Need-overflow-mul-list-2
-mul-list-2 c = search rules
+mul_list_2 : tie.Need-overflow-mul-list-2
+mul_list_2 c = search rules
 
-slice-write-list-2 : tie.Need-slice-write-list-2
-slice-write-list-2 c = simp length-set (omega arith)
+slice_write_list_2 : tie.Need-slice-write-list-2
+slice_write_list_2 c = simp length-set (omega arith)
 
-add-list-2 : tie.Need-overflow-add-list-2
-add-list-2 c = search rules
+add_list_2 : tie.Need-overflow-add-list-2
+add_list_2 c = search rules
 
-mul-list-3 : tie.Need-overflow-mul-list-3
-mul-list-3 c = search rules
+mul_list_3 : tie.Need-overflow-mul-list-3
+mul_list_3 c = search rules
 
-slice-write-list-3 : tie.Need-slice-write-list-3
-slice-write-list-3 c = simp length-set (omega arith)
+slice_write_list_3 : tie.Need-slice-write-list-3
+slice_write_list_3 c = simp length-set (omega arith)
 
-add-list-3 : tie.Need-overflow-add-list-3
-add-list-3 c = search rules
+add_list_3 : tie.Need-overflow-add-list-3
+add_list_3 c = search rules
 
-mul-list-4 : tie.Need-overflow-mul-list-4
-mul-list-4 c = search rules
+mul_list_4 : tie.Need-overflow-mul-list-4
+mul_list_4 c = search rules
 
-slice-write-list-4 : tie.Need-slice-write-list-4
-slice-write-list-4 c = simp length-set (omega arith)
+slice_write_list_4 : tie.Need-slice-write-list-4
+slice_write_list_4 c = simp length-set (omega arith)
 
 same_length : tie.Need-same-length
 same_length c = search rules
 
-returns-2 : tie.Need-returns-2
-returns-2 c = stores _ _ _ _ _ _
+returns_2 : tie.Need-returns-2
+returns_2 c = stores _ _ _ _ _ _
 
 pub store_spec : {M : Type 1} → statement M
 store_spec =
     tie.close
     (tie.spec
     returns
-    mul-i
-    mul-list
-    slice-write-list
-    add-list
-    mul-list-2
-    slice-write-list-2
-    add-list-2
-    mul-list-3
-    slice-write-list-3
-    add-list-3
-    mul-list-4
-    slice-write-list-4
+    mul_i
+    mul_list
+    slice_write_list
+    add_list
+    mul_list_2
+    slice_write_list_2
+    add_list_2
+    mul_list_3
+    slice_write_list_3
+    add_list_3
+    mul_list_4
+    slice_write_list_4
     same_length
-    returns-2)
+    returns_2)

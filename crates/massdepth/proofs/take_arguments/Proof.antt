@@ -7,95 +7,95 @@ use borrow.Author.Rules.{rules}
 use Rattle.massdepth.proofs.take_arguments.Statement.{statement}
 use Rattle.massdepth.proofs.take_arguments.Tie as tie
 
-abbrev invariant-loop : tie.invariant-loop
-invariant-loop source₀ output₀ places₀ links₀ list₀ count turn₀ i₀ source output places links list turn i = (length source ≡ length source₀) × (length output ≡ length output₀) × (length places ≡ length places₀) × (length links ≡ length links₀) × (length list ≡ length list₀)
+abbrev invariant_loop : tie.invariant-loop
+invariant_loop source₀ output₀ places₀ links₀ list₀ count turn₀ i₀ source output places links list turn i = (length source ≡ length source₀) × (length output ≡ length output₀) × (length places ≡ length places₀) × (length links ≡ length links₀) × (length list ≡ length list₀)
 
-abbrev decreases-loop : tie.decreases-loop
-decreases-loop source₀ output₀ places₀ links₀ list₀ count turn₀ i₀ source output places links list turn i = count - i
+abbrev decreases_loop : tie.decreases-loop
+decreases_loop source₀ output₀ places₀ links₀ list₀ count turn₀ i₀ source output places links list turn i = count - i
 
-arg-count-requires : tie.Need-arg-count-requires invariant-loop decreases-loop
-arg-count-requires c κs = search rules
+arg_count_requires : tie.Need-arg-count-requires invariant_loop decreases_loop
+arg_count_requires c κs = search rules
 
-new-requires : tie.Need-new-requires invariant-loop decreases-loop
-new-requires c κs = search rules
+new_requires : tie.Need-new-requires invariant_loop decreases_loop
+new_requires c κs = search rules
 
-first-argument-requires : tie.Need-first-argument-requires invariant-loop decreases-loop
-first-argument-requires c κs = search rules
+first_argument_requires : tie.Need-first-argument-requires invariant_loop decreases_loop
+first_argument_requires c κs = search rules
 
-loop-holds : tie.Need-loop-init invariant-loop decreases-loop
-loop-holds c = search rules
+loop_holds : tie.Need-loop-init invariant_loop decreases_loop
+loop_holds c = search rules
 
-take-argument-requires : tie.Need-take-argument-requires invariant-loop decreases-loop
-take-argument-requires c κs = search rules
+take_argument_requires : tie.Need-take-argument-requires invariant_loop decreases_loop
+take_argument_requires c κs = search rules
 
-same_length : tie.Need-same-length invariant-loop decreases-loop
+same_length : tie.Need-same-length invariant_loop decreases_loop
 same_length c = search rules
 
-same-length-2 : tie.Need-same-length-2 invariant-loop decreases-loop
-same-length-2 c = search rules
+same_length_2 : tie.Need-same-length-2 invariant_loop decreases_loop
+same_length_2 c = search rules
 
-same-length-3 : tie.Need-same-length-3 invariant-loop decreases-loop
-same-length-3 c = search rules
+same_length_3 : tie.Need-same-length-3 invariant_loop decreases_loop
+same_length_3 c = search rules
 
-same-length-4 : tie.Need-same-length-4 invariant-loop decreases-loop
-same-length-4 c = search rules
+same_length_4 : tie.Need-same-length-4 invariant_loop decreases_loop
+same_length_4 c = search rules
 
-same-length-5 : tie.Need-same-length-5 invariant-loop decreases-loop
-same-length-5 c = search rules
+same_length_5 : tie.Need-same-length-5 invariant_loop decreases_loop
+same_length_5 c = search rules
 
-returns : tie.Need-returns invariant-loop decreases-loop
+returns : tie.Need-returns invariant_loop decreases_loop
 returns c = search rules
 
-add-i : tie.Need-overflow-add-i invariant-loop decreases-loop
-add-i c = search rules
+add_i : tie.Need-overflow-add-i invariant_loop decreases_loop
+add_i c = search rules
 
-loop-less : tie.Need-loop-smaller invariant-loop decreases-loop
-loop-less c = search rules
+loop_less : tie.Need-loop-smaller invariant_loop decreases_loop
+loop_less c = search rules
 
-loop-again : tie.Need-loop-preserved invariant-loop decreases-loop
-loop-again c = search rules
+loop_again : tie.Need-loop-preserved invariant_loop decreases_loop
+loop_again c = search rules
 
-same-length-6 : tie.Need-same-length-6 invariant-loop decreases-loop
-same-length-6 c = search rules
+same_length_6 : tie.Need-same-length-6 invariant_loop decreases_loop
+same_length_6 c = search rules
 
-same-length-7 : tie.Need-same-length-7 invariant-loop decreases-loop
-same-length-7 c = search rules
+same_length_7 : tie.Need-same-length-7 invariant_loop decreases_loop
+same_length_7 c = search rules
 
-same-length-8 : tie.Need-same-length-8 invariant-loop decreases-loop
-same-length-8 c = search rules
+same_length_8 : tie.Need-same-length-8 invariant_loop decreases_loop
+same_length_8 c = search rules
 
-same-length-9 : tie.Need-same-length-9 invariant-loop decreases-loop
-same-length-9 c = search rules
+same_length_9 : tie.Need-same-length-9 invariant_loop decreases_loop
+same_length_9 c = search rules
 
-same-length-10 : tie.Need-same-length-10 invariant-loop decreases-loop
-same-length-10 c = search rules
+same_length_10 : tie.Need-same-length-10 invariant_loop decreases_loop
+same_length_10 c = search rules
 
-returns-2 : tie.Need-returns-2 invariant-loop decreases-loop
-returns-2 c = search rules
+returns_2 : tie.Need-returns-2 invariant_loop decreases_loop
+returns_2 c = search rules
 
-pub take-arguments-spec : {M : Type 1} → statement M
-take-arguments-spec =
+pub take_arguments_spec : {M : Type 1} → statement M
+take_arguments_spec =
     tie.close
     (tie.spec
-    invariant-loop
-    decreases-loop
-    arg-count-requires
-    new-requires
-    first-argument-requires
-    loop-holds
-    take-argument-requires
+    invariant_loop
+    decreases_loop
+    arg_count_requires
+    new_requires
+    first_argument_requires
+    loop_holds
+    take_argument_requires
     same_length
-    same-length-2
-    same-length-3
-    same-length-4
-    same-length-5
+    same_length_2
+    same_length_3
+    same_length_4
+    same_length_5
     returns
-    add-i
-    loop-less
-    loop-again
-    same-length-6
-    same-length-7
-    same-length-8
-    same-length-9
-    same-length-10
-    returns-2)
+    add_i
+    loop_less
+    loop_again
+    same_length_6
+    same_length_7
+    same_length_8
+    same_length_9
+    same_length_10
+    returns_2)

@@ -4,11 +4,11 @@ use borrow.Author.Rules.{rules}
 use Rattle.matigelo.proofs.matigelo_back.Statement.{statement}
 use Rattle.matigelo.proofs.matigelo_back.Tie as tie
 
-back-requires : tie.Need-back-requires
-back-requires c κs = search rules
+back_requires : tie.Need-back-requires
+back_requires c κs = search rules
 
-numbers-requires : tie.Need-numbers-requires
-numbers-requires c κs = search rules
+numbers_requires : tie.Need-numbers-requires
+numbers_requires c κs = search rules
 
 same_length : tie.Need-same-length
 same_length c = search rules
@@ -18,5 +18,5 @@ returns c =
     let back = c.before.before.before.back in
     record { answer = back.result; reads = back.ensures; told = c.numbers.ensures }
 
-pub matigelo-back-spec : {M : Type 1} → statement M
-matigelo-back-spec = tie.close (tie.spec back-requires numbers-requires same_length returns)
+pub matigelo_back_spec : {M : Type 1} → statement M
+matigelo_back_spec = tie.close (tie.spec back_requires numbers_requires same_length returns)

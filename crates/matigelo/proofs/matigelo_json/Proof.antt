@@ -8,11 +8,11 @@ use Rattle.json.specs.Json.{ReadsJson}
 use Rattle.matigelo.proofs.matigelo_json.Statement.{statement}
 use Rattle.matigelo.proofs.matigelo_json.Tie as tie
 
-read-json-requires : tie.Need-read-json-requires
-read-json-requires c κs = search rules
+read_json_requires : tie.Need-read-json-requires
+read_json_requires c κs = search rules
 
-five-requires : tie.Need-five-requires
-five-requires c κs = search rules
+five_requires : tie.Need-five-requires
+five_requires c κs = search rules
 
 same_length : tie.Need-same-length
 same_length c = search rules
@@ -23,5 +23,5 @@ returns c =
     let read' = c.before.before.before.read-json in
     subst⁻¹ (λ (a : Answer). ReadsJson args'.text.now (length args'.output.now) a read'.new.1.0) c.five.ensures.1 read'.ensures
 
-pub matigelo-json-spec : {M : Type 1} → statement M
-matigelo-json-spec = tie.close (tie.spec read-json-requires five-requires same_length returns)
+pub matigelo_json_spec : {M : Type 1} → statement M
+matigelo_json_spec = tie.close (tie.spec read_json_requires five_requires same_length returns)

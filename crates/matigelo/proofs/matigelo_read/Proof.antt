@@ -8,11 +8,11 @@ use Rattle.grammar.specs.Source.{Reads01}
 use Rattle.matigelo.proofs.matigelo_read.Statement.{statement}
 use Rattle.matigelo.proofs.matigelo_read.Tie as tie
 
-read-requires : tie.Need-read-requires
-read-requires c κs = search rules
+read_requires : tie.Need-read-requires
+read_requires c κs = search rules
 
-five-requires : tie.Need-five-requires
-five-requires c κs = search rules
+five_requires : tie.Need-five-requires
+five_requires c κs = search rules
 
 same_length : tie.Need-same-length
 same_length c = search rules
@@ -23,5 +23,5 @@ returns c =
     let read' = c.before.before.before.read in
     subst⁻¹ (λ (a : Answer). Reads01 args'.setting args'.source.now (length args'.output.now) a read'.new.1.1.0) c.five.ensures.1 read'.ensures
 
-pub matigelo-read-spec : {M : Type 1} → statement M
-matigelo-read-spec = tie.close (tie.spec read-requires five-requires same_length returns)
+pub matigelo_read_spec : {M : Type 1} → statement M
+matigelo_read_spec = tie.close (tie.spec read_requires five_requires same_length returns)

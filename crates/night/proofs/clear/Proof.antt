@@ -5,44 +5,44 @@ use Prim.Native.Nat.{◌≤◌, ◌<◌, ◌-◌}
 use native.Mathlib.Omega.{arith}
 use lib.ListN.{length, length-set}
 use borrow.Author.Rules.{rules}
-use Rattle.strings.proofs.Stores.{Zeroed, zeroed-next, zeroed-all}
+use Rattle.strings.proofs.Stores.{Zeroed, zeroed_next, zeroed_all}
 use Rattle.night.proofs.clear.Statement.{statement}
 use Rattle.night.proofs.clear.Tie as tie
 
-abbrev invariant-loop : tie.invariant-loop
-invariant-loop answers₀ i₀ answers i = (i ≤ length answers₀) × (length answers ≡ length answers₀) × Zeroed answers₀ i answers
+abbrev invariant_loop : tie.invariant-loop
+invariant_loop answers₀ i₀ answers i = (i ≤ length answers₀) × (length answers ≡ length answers₀) × Zeroed answers₀ i answers
 
-abbrev decreases-loop : tie.decreases-loop
-decreases-loop answers₀ i₀ answers i = length answers₀ - i
+abbrev decreases_loop : tie.decreases-loop
+decreases_loop answers₀ i₀ answers i = length answers₀ - i
 
-loop-holds : tie.Need-loop-init invariant-loop decreases-loop
+loop_holds : tie.Need-loop-init invariant_loop decreases_loop
 unfolding Zeroed
-loop-holds c = (search rules, refl, refl)
+loop_holds c = (search rules, refl, refl)
 
-mul-answers : tie.Need-overflow-mul-answers invariant-loop decreases-loop
-mul-answers c = search rules
+mul_answers : tie.Need-overflow-mul-answers invariant_loop decreases_loop
+mul_answers c = search rules
 
-slice-write-answers : tie.Need-slice-write-answers invariant-loop decreases-loop
-slice-write-answers c = search rules
+slice_write_answers : tie.Need-slice-write-answers invariant_loop decreases_loop
+slice_write_answers c = search rules
 
-add-i : tie.Need-overflow-add-i invariant-loop decreases-loop
-add-i c = search rules
+add_i : tie.Need-overflow-add-i invariant_loop decreases_loop
+add_i c = search rules
 
-loop-less : tie.Need-loop-smaller invariant-loop decreases-loop
-loop-less c = omega arith
+loop_less : tie.Need-loop-smaller invariant_loop decreases_loop
+loop_less c = omega arith
 
-loop-again : tie.Need-loop-preserved invariant-loop decreases-loop
-loop-again c =
+loop_again : tie.Need-loop-preserved invariant_loop decreases_loop
+loop_again c =
     let h = c.before.loop.invariant in
     let below : c.before.loop.i < length c.before.before.args.answers.now = omega arith in
-    (omega arith, simp length-set (omega arith), zeroed-next _ _ _ below h.2)
+    (omega arith, simp length-set (omega arith), zeroed_next _ _ _ below h.2)
 
-same_length : tie.Need-same-length invariant-loop decreases-loop
+same_length : tie.Need-same-length invariant_loop decreases_loop
 same_length c = c.before.loop.invariant.1
 
-returns : tie.Need-returns invariant-loop decreases-loop
-returns c = zeroed-all _ _ _ (omega arith) c.before.loop.invariant.2
+returns : tie.Need-returns invariant_loop decreases_loop
+returns c = zeroed_all _ _ _ (omega arith) c.before.loop.invariant.2
 
 pub clear_spec : {M : Type 1} → statement M
 clear_spec =
-    tie.close (tie.spec invariant-loop decreases-loop loop-holds mul-answers slice-write-answers add-i loop-less loop-again same_length returns)
+    tie.close (tie.spec invariant_loop decreases_loop loop_holds mul_answers slice_write_answers add_i loop_less loop_again same_length returns)

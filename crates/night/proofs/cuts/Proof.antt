@@ -11,43 +11,43 @@ use Rattle.night.proofs.NightLaws.{next-begins, backward, compared}
 use Rattle.night.proofs.cuts.Statement.{statement}
 use Rattle.night.proofs.cuts.Tie as tie
 
-abbrev invariant-loop : tie.invariant-loop
-invariant-loop ends size from₀ i₀ from i = (i ≤ length ends) × (from ≡ begins ends i) × ((k : ℕ) → k < i → begins ends k ≤ stops ends k)
+abbrev invariant_loop : tie.invariant-loop
+invariant_loop ends size from₀ i₀ from i = (i ≤ length ends) × (from ≡ begins ends i) × ((k : ℕ) → k < i → begins ends k ≤ stops ends k)
 
-abbrev decreases-loop : tie.decreases-loop
-decreases-loop ends size from₀ i₀ from i = length ends - i
+abbrev decreases_loop : tie.decreases-loop
+decreases_loop ends size from₀ i₀ from i = length ends - i
 
-loop-holds : tie.Need-loop-init invariant-loop decreases-loop
-loop-holds c = (search rules, refl, below_none _)
+loop_holds : tie.Need-loop-init invariant_loop decreases_loop
+loop_holds c = (search rules, refl, below_none _)
 
-mul-end : tie.Need-overflow-mul-end invariant-loop decreases-loop
-mul-end c = search rules
+mul_end : tie.Need-overflow-mul-end invariant_loop decreases_loop
+mul_end c = search rules
 
-shared-slice-read-end : tie.Need-shared-slice-read-end invariant-loop decreases-loop
-shared-slice-read-end c = search rules
+shared_slice_read_end : tie.Need-shared-slice-read-end invariant_loop decreases_loop
+shared_slice_read_end c = search rules
 
-returns : tie.Need-returns invariant-loop decreases-loop
+returns : tie.Need-returns invariant_loop decreases_loop
 returns c =
     let at = c.before.before.before.loop in
     backward _ _ at.i (omega arith) (omega (arith, at.invariant.1))
 
-add-i : tie.Need-overflow-add-i invariant-loop decreases-loop
-add-i c = search rules
+add_i : tie.Need-overflow-add-i invariant_loop decreases_loop
+add_i c = search rules
 
-loop-less : tie.Need-loop-smaller invariant-loop decreases-loop
-loop-less c = omega arith
+loop_less : tie.Need-loop-smaller invariant_loop decreases_loop
+loop_less c = omega arith
 
-loop-again : tie.Need-loop-preserved invariant-loop decreases-loop
-loop-again c =
+loop_again : tie.Need-loop-preserved invariant_loop decreases_loop
+loop_again c =
     let at = c.before.before.before.loop in
     let ends = c.before.before.before.before.args.ends.now in
     (omega arith, sym (next-begins ends at.i), below_more _ _ at.invariant.2 (omega (arith, at.invariant.1)))
 
-returns-2 : tie.Need-returns-2 invariant-loop decreases-loop
-returns-2 c =
+returns_2 : tie.Need-returns-2 invariant_loop decreases_loop
+returns_2 c =
     let at = c.before.loop in
     compared _ _ _ at.i (omega arith) at.invariant.1 at.invariant.2
 
-pub cuts-spec : {M : Type 1} → statement M
-cuts-spec =
-    tie.close (tie.spec invariant-loop decreases-loop loop-holds mul-end shared-slice-read-end returns add-i loop-less loop-again returns-2)
+pub cuts_spec : {M : Type 1} → statement M
+cuts_spec =
+    tie.close (tie.spec invariant_loop decreases_loop loop_holds mul_end shared_slice_read_end returns add_i loop_less loop_again returns_2)

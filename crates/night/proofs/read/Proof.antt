@@ -6,17 +6,17 @@ use Rattle.night.proofs.NightLaws.{cleared}
 use Rattle.night.proofs.read.Statement.{statement}
 use Rattle.night.proofs.read.Tie as tie
 
-fit-requires : tie.Need-fit-requires
-fit-requires c κs = search rules
+fit_requires : tie.Need-fit-requires
+fit_requires c κs = search rules
 
-read-files-requires : tie.Need-read-files-requires
-read-files-requires c κs = c.before.before.before.fit.ensures.0 c.before.before.if1.true
+read_files_requires : tie.Need-read-files-requires
+read_files_requires c κs = c.before.before.before.fit.ensures.0 c.before.before.if1.true
 
 same_length : tie.Need-same-length
 same_length c = search rules
 
-same-length-2 : tie.Need-same-length-2
-same-length-2 c = search rules
+same_length_2 : tie.Need-same-length-2
+same_length_2 c = search rules
 
 returns : tie.Need-returns
 returns c =
@@ -24,20 +24,20 @@ returns c =
     let read-files' = c.before.before.before.before.read-files in
     read (fit'.ensures.0 c.before.before.before.before.before.before.before.if1.true) c.before.before.before.output.given c.before.answers.given read-files'.ensures
 
-clear-requires : tie.Need-clear-requires
-clear-requires c κs = search rules
+clear_requires : tie.Need-clear-requires
+clear_requires c κs = search rules
 
-clear-requires-2 : tie.Need-clear-requires-2
-clear-requires-2 c κs = search rules
+clear_requires_2 : tie.Need-clear-requires-2
+clear_requires_2 c κs = search rules
 
-same-length-3 : tie.Need-same-length-3
-same-length-3 c = search rules
+same_length_3 : tie.Need-same-length-3
+same_length_3 c = search rules
 
-same-length-4 : tie.Need-same-length-4
-same-length-4 c = search rules
+same_length_4 : tie.Need-same-length-4
+same_length_4 c = search rules
 
-returns-2 : tie.Need-returns-2
-returns-2 c =
+returns_2 : tie.Need-returns-2
+returns_2 c =
     let fit' = c.before.before.before.before.before.before.before.before.before.fit in
     let clear-output = c.before.before.before.before.before.before.clear in
     let clear-answers = c.before.before.clear2 in
@@ -47,13 +47,13 @@ pub read_spec : {M : Type 1} → statement M
 read_spec =
     tie.close
     (tie.spec
-    fit-requires
-    read-files-requires
+    fit_requires
+    read_files_requires
     same_length
-    same-length-2
+    same_length_2
     returns
-    clear-requires
-    clear-requires-2
-    same-length-3
-    same-length-4
-    returns-2)
+    clear_requires
+    clear_requires_2
+    same_length_3
+    same_length_4
+    returns_2)

@@ -7,20 +7,20 @@ use Rattle.night.proofs.NightLaws.{reads_same}
 use Rattle.night.proofs.read_file.Statement.{statement}
 use Rattle.night.proofs.read_file.Tie as tie
 
-read-requires : tie.Need-read-requires
-read-requires c κs = search rules
+read_requires : tie.Need-read-requires
+read_requires c κs = search rules
 
-five-requires : tie.Need-five-requires
-five-requires c κs = search rules
+five_requires : tie.Need-five-requires
+five_requires c κs = search rules
 
-store-requires : tie.Need-store-requires
-store-requires c κs = search rules
+store_requires : tie.Need-store-requires
+store_requires c κs = search rules
 
 same_length : tie.Need-same-length
 same_length c = search rules
 
-same-length-2 : tie.Need-same-length-2
-same-length-2 c = search rules
+same_length_2 : tie.Need-same-length-2
+same_length_2 c = search rules
 
 returns : tie.Need-returns
 returns c =
@@ -29,7 +29,7 @@ returns c =
     let store' = c.before.before.store in
     reads_same refl refl (sym (ap five store'.ensures ∙ five'.ensures.1)) refl read'.ensures
 
-pub read-file-spec : {M : Type 1} → statement M
-read-file-spec =
+pub read_file_spec : {M : Type 1} → statement M
+read_file_spec =
     tie.close
-    (tie.spec read-requires five-requires store-requires same_length same-length-2 returns)
+    (tie.spec read_requires five_requires store_requires same_length same_length_2 returns)

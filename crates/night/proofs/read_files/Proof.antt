@@ -4,150 +4,150 @@ use Prim.Native.Nat.{◌-◌}
 use native.Mathlib.Omega.{arith}
 use borrow.Author.Rules.{rules}
 use lib.ListN.{length}
-use Rattle.night.proofs.NightLaws.{Reached, reached-first, reached-next, reached-all, source-forward, source-within, part-forward, part-within, place-within, has_part, its-five}
+use Rattle.night.proofs.NightLaws.{Reached, reached_first, reached_next, reached_all, source-forward, source-within, part-forward, part-within, place-within, has_part, its_five}
 use Rattle.night.proofs.read_files.Statement.{statement}
 use Rattle.night.proofs.read_files.Tie as tie
 
-abbrev invariant-loop : tie.invariant-loop
-invariant-loop setting sources ends output₀ parts answers₀ from₀ part₀ place₀ i₀ output answers from part place i =
+abbrev invariant_loop : tie.invariant-loop
+invariant_loop setting sources ends output₀ parts answers₀ from₀ part₀ place₀ i₀ output answers from part place i =
     Reached setting sources ends parts output₀ answers₀ output answers from part place i
 
-abbrev decreases-loop : tie.decreases-loop
-decreases-loop setting sources ends output₀ parts answers₀ from₀ part₀ place₀ i₀ output answers from part place i =
+abbrev decreases_loop : tie.decreases-loop
+decreases_loop setting sources ends output₀ parts answers₀ from₀ part₀ place₀ i₀ output answers from part place i =
     length ends - i
 
-loop-holds : tie.Need-loop-init invariant-loop decreases-loop
-loop-holds c = reached-first c.before.before.before.before.before.requires
+loop_holds : tie.Need-loop-init invariant_loop decreases_loop
+loop_holds c = reached_first c.before.before.before.before.before.requires
 
-mul-end : tie.Need-overflow-mul-end invariant-loop decreases-loop
-mul-end c = search rules
+mul_end : tie.Need-overflow-mul-end invariant_loop decreases_loop
+mul_end c = search rules
 
-shared-slice-read-end : tie.Need-shared-slice-read-end invariant-loop decreases-loop
-shared-slice-read-end c = search rules
+shared_slice_read_end : tie.Need-shared-slice-read-end invariant_loop decreases_loop
+shared_slice_read_end c = search rules
 
-mul-stop : tie.Need-overflow-mul-stop invariant-loop decreases-loop
-mul-stop c =
+mul_stop : tie.Need-overflow-mul-stop invariant_loop decreases_loop
+mul_stop c =
     let r = c.before.before.loop.invariant in
     let below = c.before.loop-test.true in
     let h = has_part r below in search rules
 
-shared-slice-read-stop : tie.Need-shared-slice-read-stop invariant-loop decreases-loop
-shared-slice-read-stop c =
+shared_slice_read_stop : tie.Need-shared-slice-read-stop invariant_loop decreases_loop
+shared_slice_read_stop c =
     let r = c.before.before.before.loop.invariant in
     let below = c.before.before.loop-test.true in
     let h = has_part r below in search rules
 
-add-next : tie.Need-overflow-add-next invariant-loop decreases-loop
-add-next c =
+add_next : tie.Need-overflow-add-next invariant_loop decreases_loop
+add_next c =
     let r = c.before.before.before.loop.invariant in
     let below = c.before.before.loop-test.true in
     omega (arith, place-within r below, r.same_count)
 
-sub-read-file : tie.Need-overflow-sub-read-file invariant-loop decreases-loop
-sub-read-file c =
+sub_read_file : tie.Need-overflow-sub-read-file invariant_loop decreases_loop
+sub_read_file c =
     let r = c.before.before.before.loop.invariant in
     let below = c.before.before.loop-test.true in
     source-forward r below
 
-part-read-file-start : tie.Need-slice-bounds-read-file-start invariant-loop decreases-loop
-part-read-file-start c =
+part_read_file_start : tie.Need-slice-bounds-read-file-start invariant_loop decreases_loop
+part_read_file_start c =
     let r = c.before.before.before.loop.invariant in
     let below = c.before.before.loop-test.true in
     let h = source-forward r below in search rules
 
-part-read-file-end : tie.Need-slice-bounds-read-file-end invariant-loop decreases-loop
-part-read-file-end c =
+part_read_file_end : tie.Need-slice-bounds-read-file-end invariant_loop decreases_loop
+part_read_file_end c =
     let r = c.before.before.before.loop.invariant in
     let below = c.before.before.loop-test.true in
     let h = source-within r below in search rules
 
-sub-read-file-2 : tie.Need-overflow-sub-read-file-2 invariant-loop decreases-loop
-sub-read-file-2 c =
+sub_read_file_2 : tie.Need-overflow-sub-read-file-2 invariant_loop decreases_loop
+sub_read_file_2 c =
     let r = c.before.before.before.before.loop.invariant in
     let below = c.before.before.before.loop-test.true in
     part-forward r below
 
-part-read-file-start-2 : tie.Need-slice-bounds-read-file-start-2 invariant-loop decreases-loop
-part-read-file-start-2 c =
+part_read_file_start_2 : tie.Need-slice-bounds-read-file-start-2 invariant_loop decreases_loop
+part_read_file_start_2 c =
     let r = c.before.before.before.before.loop.invariant in
     let below = c.before.before.before.loop-test.true in
     let h = part-forward r below in search rules
 
-part-read-file-end-2 : tie.Need-slice-bounds-read-file-end-2 invariant-loop decreases-loop
-part-read-file-end-2 c =
+part_read_file_end_2 : tie.Need-slice-bounds-read-file-end-2 invariant_loop decreases_loop
+part_read_file_end_2 c =
     let r = c.before.before.before.before.loop.invariant in
     let below = c.before.before.before.loop-test.true in
     let h = part-within r below in search rules
 
-mul-read-file : tie.Need-overflow-mul-read-file invariant-loop decreases-loop
-mul-read-file c =
+mul_read_file : tie.Need-overflow-mul-read-file invariant_loop decreases_loop
+mul_read_file c =
     let r = c.before.before.before.before.before.loop.invariant in
     let below = c.before.before.before.before.loop-test.true in
     let h = place-within r below in search rules
 
-sub-read-file-3 : tie.Need-overflow-sub-read-file-3 invariant-loop decreases-loop
-sub-read-file-3 c = search rules
+sub_read_file_3 : tie.Need-overflow-sub-read-file-3 invariant_loop decreases_loop
+sub_read_file_3 c = search rules
 
-part-read-file-start-3 : tie.Need-slice-bounds-read-file-start-3 invariant-loop decreases-loop
-part-read-file-start-3 c = search rules
+part_read_file_start_3 : tie.Need-slice-bounds-read-file-start-3 invariant_loop decreases_loop
+part_read_file_start_3 c = search rules
 
-part-read-file-end-3 : tie.Need-slice-bounds-read-file-end-3 invariant-loop decreases-loop
-part-read-file-end-3 c =
+part_read_file_end_3 : tie.Need-slice-bounds-read-file-end-3 invariant_loop decreases_loop
+part_read_file_end_3 c =
     let r = c.before.before.before.before.before.loop.invariant in
     let below = c.before.before.before.before.loop-test.true in
     let h = place-within r below in search rules
 
-read-file-requires : tie.Need-read-file-requires invariant-loop decreases-loop
-read-file-requires c κs = its-five c.before.before.before.before.before.before.loop.invariant c.before.before.before.before.before.loop-test.true
+read_file_requires : tie.Need-read-file-requires invariant_loop decreases_loop
+read_file_requires c κs = its_five c.before.before.before.before.before.before.loop.invariant c.before.before.before.before.before.loop-test.true
 
-add-i : tie.Need-overflow-add-i invariant-loop decreases-loop
-add-i c = search rules
+add_i : tie.Need-overflow-add-i invariant_loop decreases_loop
+add_i c = search rules
 
-loop-less : tie.Need-loop-smaller invariant-loop decreases-loop
-loop-less c = omega (arith, c.before.before.before.before.before.before.before.before.before.before.loop-test.true)
+loop_less : tie.Need-loop-smaller invariant_loop decreases_loop
+loop_less c = omega (arith, c.before.before.before.before.before.before.before.before.before.before.loop-test.true)
 
-loop-again : tie.Need-loop-preserved invariant-loop decreases-loop
-loop-again c =
+loop_again : tie.Need-loop-preserved invariant_loop decreases_loop
+loop_again c =
     let r = c.before.before.before.before.before.before.before.before.before.before.before.loop.invariant in
     let below = c.before.before.before.before.before.before.before.before.before.before.loop-test.true in
     let read-file' = c.before.before.before.before.read-file in
-    reached-next r below read-file'.new.1.1.0 read-file'.new.1.1.1.0 c.before.before.before.output.given.0 c.before.answers.given.0 read-file'.ensures
+    reached_next r below read-file'.new.1.1.0 read-file'.new.1.1.1.0 c.before.before.before.output.given.0 c.before.answers.given.0 read-file'.ensures
 
-same_length : tie.Need-same-length invariant-loop decreases-loop
-same_length c = c.before.loop.invariant.same-room
+same_length : tie.Need-same-length invariant_loop decreases_loop
+same_length c = c.before.loop.invariant.same_room
 
-same-length-2 : tie.Need-same-length-2 invariant-loop decreases-loop
-same-length-2 c = c.before.loop.invariant.same_count
+same_length_2 : tie.Need-same-length-2 invariant_loop decreases_loop
+same_length_2 c = c.before.loop.invariant.same_count
 
-returns : tie.Need-returns invariant-loop decreases-loop
-returns c = reached-all c.before.loop.invariant (omega (arith, c.loop-test.false))
+returns : tie.Need-returns invariant_loop decreases_loop
+returns c = reached_all c.before.loop.invariant (omega (arith, c.loop-test.false))
 
-pub read-files-spec : {M : Type 1} → statement M
-read-files-spec =
+pub read_files_spec : {M : Type 1} → statement M
+read_files_spec =
     tie.close
     (tie.spec
-    invariant-loop
-    decreases-loop
-    loop-holds
-    mul-end
-    shared-slice-read-end
-    mul-stop
-    shared-slice-read-stop
-    add-next
-    sub-read-file
-    part-read-file-start
-    part-read-file-end
-    sub-read-file-2
-    part-read-file-start-2
-    part-read-file-end-2
-    mul-read-file
-    sub-read-file-3
-    part-read-file-start-3
-    part-read-file-end-3
-    read-file-requires
-    add-i
-    loop-less
-    loop-again
+    invariant_loop
+    decreases_loop
+    loop_holds
+    mul_end
+    shared_slice_read_end
+    mul_stop
+    shared_slice_read_stop
+    add_next
+    sub_read_file
+    part_read_file_start
+    part_read_file_end
+    sub_read_file_2
+    part_read_file_start_2
+    part_read_file_end_2
+    mul_read_file
+    sub_read_file_3
+    part_read_file_start_3
+    part_read_file_end_3
+    read_file_requires
+    add_i
+    loop_less
+    loop_again
     same_length
-    same-length-2
+    same_length_2
     returns)

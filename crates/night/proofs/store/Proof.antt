@@ -3,59 +3,59 @@
 use native.Mathlib.Omega.{arith}
 use lib.ListN.{length-set}
 use borrow.Author.Rules.{rules}
-use Rattle.night.proofs.NightLaws.{stored-five}
+use Rattle.night.proofs.NightLaws.{stored_five}
 use Rattle.night.proofs.store.Statement.{statement}
 use Rattle.night.proofs.store.Tie as tie
 
-array-read-place : tie.Need-array-read-place
-array-read-place c = search rules
+array_read_place : tie.Need-array-read-place
+array_read_place c = search rules
 
-slice-write-place : tie.Need-slice-write-place
-slice-write-place c = search rules
+slice_write_place : tie.Need-slice-write-place
+slice_write_place c = search rules
 
-array-read-place-2 : tie.Need-array-read-place-2
-array-read-place-2 c = search rules
+array_read_place_2 : tie.Need-array-read-place-2
+array_read_place_2 c = search rules
 
-slice-write-place-2 : tie.Need-slice-write-place-2
-slice-write-place-2 c = search rules
+slice_write_place_2 : tie.Need-slice-write-place-2
+slice_write_place_2 c = search rules
 
-array-read-place-3 : tie.Need-array-read-place-3
-array-read-place-3 c = search rules
+array_read_place_3 : tie.Need-array-read-place-3
+array_read_place_3 c = search rules
 
-slice-write-place-3 : tie.Need-slice-write-place-3
-slice-write-place-3 c = search rules
+slice_write_place_3 : tie.Need-slice-write-place-3
+slice_write_place_3 c = search rules
 
-array-read-place-4 : tie.Need-array-read-place-4
-array-read-place-4 c = search rules
+array_read_place_4 : tie.Need-array-read-place-4
+array_read_place_4 c = search rules
 
-slice-write-place-4 : tie.Need-slice-write-place-4
-slice-write-place-4 c = search rules
+slice_write_place_4 : tie.Need-slice-write-place-4
+slice_write_place_4 c = search rules
 
-array-read-place-5 : tie.Need-array-read-place-5
-array-read-place-5 c = search rules
+array_read_place_5 : tie.Need-array-read-place-5
+array_read_place_5 c = search rules
 
-slice-write-place-5 : tie.Need-slice-write-place-5
-slice-write-place-5 c = simp length-set (omega arith)
+slice_write_place_5 : tie.Need-slice-write-place-5
+slice_write_place_5 c = simp length-set (omega arith)
 
 same_length : tie.Need-same-length
 same_length c = search rules
 
 returns : tie.Need-returns
-returns c = stored-five c.args.place.now c.args.t1 c.requires.1 c.requires.0
+returns c = stored_five c.args.place.now c.args.t1 c.requires.1 c.requires.0
 
 pub store_spec : {M : Type 1} → statement M
 store_spec =
     tie.close
     (tie.spec
-    array-read-place
-    slice-write-place
-    array-read-place-2
-    slice-write-place-2
-    array-read-place-3
-    slice-write-place-3
-    array-read-place-4
-    slice-write-place-4
-    array-read-place-5
-    slice-write-place-5
+    array_read_place
+    slice_write_place
+    array_read_place_2
+    slice_write_place_2
+    array_read_place_3
+    slice_write_place_3
+    array_read_place_4
+    slice_write_place_4
+    array_read_place_5
+    slice_write_place_5
     same_length
     returns)

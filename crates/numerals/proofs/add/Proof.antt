@@ -7,17 +7,17 @@ use borrow.Author.Rules.{rules}
 use Rattle.numerals.proofs.add.Statement.{statement}
 use Rattle.numerals.proofs.add.Tie as tie
 
-sub-if1 : tie.Need-overflow-sub-if1
-sub-if1 c = search rules
+sub_if1 : tie.Need-overflow-sub-if1
+sub_if1 c = search rules
 
-add-result : tie.Need-overflow-add-result
-add-result c = search rules
+add_result : tie.Need-overflow-add-result
+add_result c = search rules
 
 returns : tie.Need-returns
 returns c = record { bounded = omega arith; same = inr (omega arith, omega arith) }
 
-returns-2 : tie.Need-returns-2
-returns-2 c = record { bounded = omega arith; same = inl refl }
+returns_2 : tie.Need-returns-2
+returns_2 c = record { bounded = omega arith; same = inl refl }
 
 pub add_spec : {M : Type 1} → statement M
-add_spec = tie.close (tie.spec sub-if1 add-result returns returns-2)
+add_spec = tie.close (tie.spec sub_if1 add_result returns returns_2)

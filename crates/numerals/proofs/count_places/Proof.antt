@@ -11,23 +11,23 @@ use Rattle.numerals.proofs.Scans.{drop_past}
 use Rattle.numerals.proofs.count_places.Statement.{statement}
 use Rattle.numerals.proofs.count_places.Tie as tie
 
-find-requires : tie.Need-find-requires
-find-requires c κs = search rules
+find_requires : tie.Need-find-requires
+find_requires c κs = search rules
 
-past-requires : tie.Need-past-requires
-past-requires c κs = search rules
+past_requires : tie.Need-past-requires
+past_requires c κs = search rules
 
-sub-count-digits : tie.Need-overflow-sub-count-digits
-sub-count-digits c = search rules
+sub_count_digits : tie.Need-overflow-sub-count-digits
+sub_count_digits c = search rules
 
 part-count-digits-start : tie.Need-slice-bounds-count-digits-start
 part-count-digits-start c = search rules
 
-part-count-digits-end : tie.Need-slice-bounds-count-digits-end
-part-count-digits-end c = search rules
+part_count_digits_end : tie.Need-slice-bounds-count-digits-end
+part_count_digits_end c = search rules
 
-count-digits-requires : tie.Need-count-digits-requires
-count-digits-requires c κs = search rules
+count_digits_requires : tie.Need-count-digits-requires
+count_digits_requires c κs = search rules
 
 returns : tie.Need-returns
 returns c =
@@ -36,5 +36,5 @@ returns c =
     let all = take_all (length m - p) (drop p m) (omega (arith, length-drop p m)) in
     c.count-digits.ensures ∙ ap digits (all ∙ drop_past m c.before.before.before.find.ensures c.before.before.past.ensures)
 
-pub count-places-spec : {M : Type 1} → statement M
-count-places-spec = tie.close (tie.spec find-requires past-requires sub-count-digits part-count-digits-start part-count-digits-end count-digits-requires returns)
+pub count_places_spec : {M : Type 1} → statement M
+count_places_spec = tie.close (tie.spec find_requires past_requires sub_count_digits part-count-digits-start part_count_digits_end count_digits_requires returns)

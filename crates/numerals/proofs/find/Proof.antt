@@ -4,45 +4,45 @@ use mathlib.Core.Logic.{inl, inr}
 use Prim.Native.Nat.{◌-◌}
 use borrow.Author.Rules.{rules}
 use lib.ListN.{length}
-use Rattle.numerals.proofs.Scans.{Sought, sought-begun, sought-on, sought-here, sought-all}
+use Rattle.numerals.proofs.Scans.{Sought, sought_begun, sought_on, sought_here, sought_all}
 use Rattle.numerals.proofs.find.Statement.{statement}
 use Rattle.numerals.proofs.find.Tie as tie
 
-abbrev invariant-loop : tie.invariant-loop
-invariant-loop text x y i₀ i = Sought text x y i
+abbrev invariant_loop : tie.invariant-loop
+invariant_loop text x y i₀ i = Sought text x y i
 
-abbrev decreases-loop : tie.decreases-loop
-decreases-loop text x y i₀ i = length text - i
+abbrev decreases_loop : tie.decreases-loop
+decreases_loop text x y i₀ i = length text - i
 
-loop-holds : tie.Need-loop-init invariant-loop decreases-loop
-loop-holds c = sought-begun _ _ _
+loop_holds : tie.Need-loop-init invariant_loop decreases_loop
+loop_holds c = sought_begun _ _ _
 
-shared-slice-read-b : tie.Need-shared-slice-read-b invariant-loop decreases-loop
-shared-slice-read-b c = search rules
+shared_slice_read_b : tie.Need-shared-slice-read-b invariant_loop decreases_loop
+shared_slice_read_b c = search rules
 
-returns : tie.Need-returns invariant-loop decreases-loop
+returns : tie.Need-returns invariant_loop decreases_loop
 returns c =
     let in-loop = c.before.before in
-    sought-here in-loop.before.loop.invariant in-loop.loop-test.true (inl c.if1.true)
+    sought_here in-loop.before.loop.invariant in-loop.loop-test.true (inl c.if1.true)
 
-returns-2 : tie.Need-returns-2 invariant-loop decreases-loop
-returns-2 c =
+returns_2 : tie.Need-returns-2 invariant_loop decreases_loop
+returns_2 c =
     let in-loop = c.before.before.before in
-    sought-here in-loop.before.loop.invariant in-loop.loop-test.true (inr c.if2.true)
+    sought_here in-loop.before.loop.invariant in-loop.loop-test.true (inr c.if2.true)
 
-add-i : tie.Need-overflow-add-i invariant-loop decreases-loop
-add-i c = search rules
+add_i : tie.Need-overflow-add-i invariant_loop decreases_loop
+add_i c = search rules
 
-loop-less : tie.Need-loop-smaller invariant-loop decreases-loop
-loop-less c = search rules
+loop_less : tie.Need-loop-smaller invariant_loop decreases_loop
+loop_less c = search rules
 
-loop-again : tie.Need-loop-preserved invariant-loop decreases-loop
-loop-again c =
+loop_again : tie.Need-loop-preserved invariant_loop decreases_loop
+loop_again c =
     let in-loop = c.before.before.before in
-    sought-on in-loop.before.loop.invariant in-loop.loop-test.true c.before.if1.false c.if2.false
+    sought_on in-loop.before.loop.invariant in-loop.loop-test.true c.before.if1.false c.if2.false
 
-returns-3 : tie.Need-returns-3 invariant-loop decreases-loop
-returns-3 c = sought-all c.before.loop.invariant c.loop-test.false
+returns_3 : tie.Need-returns-3 invariant_loop decreases_loop
+returns_3 c = sought_all c.before.loop.invariant c.loop-test.false
 
 pub find_spec : {M : Type 1} → statement M
-find_spec = tie.close (tie.spec invariant-loop decreases-loop loop-holds shared-slice-read-b returns returns-2 add-i loop-less loop-again returns-3)
+find_spec = tie.close (tie.spec invariant_loop decreases_loop loop_holds shared_slice_read_b returns returns_2 add_i loop_less loop_again returns_3)

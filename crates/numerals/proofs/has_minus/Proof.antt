@@ -10,8 +10,8 @@ use Rattle.numerals.proofs.Scans.{has-before}
 use Rattle.numerals.proofs.has_minus.Statement.{statement}
 use Rattle.numerals.proofs.has_minus.Tie as tie
 
-find-requires : tie.Need-find-requires
-find-requires c κs = search rules
+find_requires : tie.Need-find-requires
+find_requires c κs = search rules
 
 returns : tie.Need-returns
 returns c =
@@ -20,5 +20,5 @@ returns c =
     let front = sym (ap length found.front) ∙ length-take-le c.find.result text found.within in
     sym (has-before 45 text ∙ ap (λ (n : ℕ). ltb n (length text)) front)
 
-pub has-minus-spec : {M : Type 1} → statement M
-has-minus-spec = tie.close (tie.spec find-requires returns)
+pub has_minus_spec : {M : Type 1} → statement M
+has_minus_spec = tie.close (tie.spec find_requires returns)

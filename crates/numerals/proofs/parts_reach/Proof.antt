@@ -3,26 +3,26 @@
 use mathlib.Core.Path.{refl, sym, ◌∙◌}
 use native.Mathlib.Omega.{arith}
 use borrow.Author.Rules.{rules}
-use Rattle.numerals.specs.Inner.{limitDigits}
-use Rattle.numerals.proofs.Parts.{places-short, known, multiplied-by, divided-away, divided-by}
+use Rattle.numerals.specs.Inner.{limit_digits}
+use Rattle.numerals.proofs.Parts.{places_short, known, multiplied_by, divided_away, divided_by}
 use Rattle.numerals.proofs.parts_reach.Statement.{statement}
 use Rattle.numerals.proofs.parts_reach.Tie as tie
 
-leading-requires : tie.Need-leading-requires
-unfolding limitDigits
-leading-requires c κs = refl
+leading_requires : tie.Need-leading-requires
+unfolding limit_digits
+leading_requires c κs = refl
 
-count-places-requires : tie.Need-count-places-requires
-count-places-requires c κs = search rules
+count_places_requires : tie.Need-count-places-requires
+count_places_requires c κs = search rules
 
-add-cap : tie.Need-overflow-add-cap
-add-cap c = search rules
+add_cap : tie.Need-overflow-add-cap
+add_cap c = search rules
 
-spell-requires : tie.Need-spell-requires
-spell-requires c κs = search rules
+spell_requires : tie.Need-spell-requires
+spell_requires c κs = search rules
 
-has-minus-requires : tie.Need-has-minus-requires
-has-minus-requires c κs = search rules
+has_minus_requires : tie.Need-has-minus-requires
+has_minus_requires c κs = search rules
 
 returns : tie.Need-returns
 returns c =
@@ -30,40 +30,40 @@ returns c =
     let spell = minus.before in
     let places = spell.before in
     let leading = places.before in
-    divided-away (known leading.leading.ensures spell.spell.ensures) (sym minus.has-minus.ensures ∙ c.before.if1.true) c.if2.true
+    divided_away (known leading.leading.ensures spell.spell.ensures) (sym minus.has-minus.ensures ∙ c.before.if1.true) c.if2.true
 
-reaches-requires : tie.Need-reaches-requires
-reaches-requires c κs =
+reaches_requires : tie.Need-reaches-requires
+reaches_requires c κs =
     let places = c.before.before.before.before in
     let start = places.before.before.before.before.before in
-    omega (arith, places.count-places.ensures, places-short start.args.mantissa.now, start.well-formed.0.1)
+    omega (arith, places.count-places.ensures, places_short start.args.mantissa.now, start.well-formed.0.1)
 
-returns-2 : tie.Need-returns-2
-returns-2 c =
+returns_2 : tie.Need-returns-2
+returns_2 c =
     let minus = c.before.before.before in
     let spell = minus.before in
     let places = spell.before in
     let leading = places.before in
-    divided-by (known leading.leading.ensures spell.spell.ensures) (sym minus.has-minus.ensures ∙ c.before.before.if1.true) c.before.if2.false
+    divided_by (known leading.leading.ensures spell.spell.ensures) (sym minus.has-minus.ensures ∙ c.before.before.if1.true) c.before.if2.false
     places.count-places.ensures c.reaches.ensures
 
-add-requires : tie.Need-add-requires
-add-requires c κs = search rules
+add_requires : tie.Need-add-requires
+add_requires c κs = search rules
 
-reaches-requires-2 : tie.Need-reaches-requires-2
-reaches-requires-2 c κs =
+reaches_requires_2 : tie.Need-reaches-requires-2
+reaches_requires_2 c κs =
     let places = c.before.before.before.before in
     let start = places.before.before.before.before.before in
-    omega (arith, places.count-places.ensures, places-short start.args.mantissa.now, start.well-formed.0.1)
+    omega (arith, places.count-places.ensures, places_short start.args.mantissa.now, start.well-formed.0.1)
 
-returns-3 : tie.Need-returns-3
-returns-3 c =
+returns_3 : tie.Need-returns-3
+returns_3 c =
     let minus = c.before.before.before in
     let spell = minus.before in
     let places = spell.before in
     let leading = places.before in
-    multiplied-by (known leading.leading.ensures spell.spell.ensures) (sym minus.has-minus.ensures ∙ c.before.before.if1.false) c.before.add.ensures
+    multiplied_by (known leading.leading.ensures spell.spell.ensures) (sym minus.has-minus.ensures ∙ c.before.before.if1.false) c.before.add.ensures
     places.count-places.ensures c.reaches2.ensures
 
-pub parts-reach-spec : {M : Type 1} → statement M
-parts-reach-spec = tie.close (tie.spec leading-requires count-places-requires add-cap spell-requires has-minus-requires returns reaches-requires returns-2 add-requires reaches-requires-2 returns-3)
+pub parts_reach_spec : {M : Type 1} → statement M
+parts_reach_spec = tie.close (tie.spec leading_requires count_places_requires add_cap spell_requires has_minus_requires returns reaches_requires returns_2 add_requires reaches_requires_2 returns_3)

@@ -10,24 +10,24 @@ use lib.Seq.{take_all, length-take-le}
 use borrow.Author.Rules.{rules}
 use Rattle.numerals.specs.Value.{mantissa, exponent}
 use Rattle.numerals.proofs.Scans.{drop_past}
-use Rattle.numerals.proofs.Parts.{few_bytes, judged, judged-short}
+use Rattle.numerals.proofs.Parts.{few_bytes, judged, judged_short}
 use Rattle.numerals.proofs.too_large.Statement.{statement}
 use Rattle.numerals.proofs.too_large.Tie as tie
 
 returns : tie.Need-returns
-returns c = judged-short c.before.before.args.text.now c.if1.true
+returns c = judged_short c.before.before.args.text.now c.if1.true
 
-find-requires : tie.Need-find-requires
-find-requires c κs = search rules
+find_requires : tie.Need-find-requires
+find_requires c κs = search rules
 
-past-requires : tie.Need-past-requires
-past-requires c κs = search rules
+past_requires : tie.Need-past-requires
+past_requires c κs = search rules
 
-sub-if3 : tie.Need-overflow-sub-if3
-sub-if3 c = search rules
+sub_if3 : tie.Need-overflow-sub-if3
+sub_if3 c = search rules
 
-returns-2 : tie.Need-returns-2
-returns-2 c =
+returns_2 : tie.Need-returns-2
+returns_2 c =
     let parts = c.before.before in
     let text = parts.before.before.before.before.args.text.now in
     let found = parts.before.find.ensures in
@@ -36,29 +36,29 @@ returns-2 c =
     let rest = subst (λ (x : List ℕ). length x < 3) (drop_past text found past) (omega (arith, length-drop parts.past.result text, c.if3.true)) in
     judged text (mantissa text) (exponent text) refl refl (few_bytes (mantissa text) (exponent text) front (inr rest))
 
-sub-parts-reach : tie.Need-overflow-sub-parts-reach
-sub-parts-reach c = search rules
+sub_parts_reach : tie.Need-overflow-sub-parts-reach
+sub_parts_reach c = search rules
 
-part-parts-reach-start : tie.Need-slice-bounds-parts-reach-start
-part-parts-reach-start c = search rules
+part_parts_reach_start : tie.Need-slice-bounds-parts-reach-start
+part_parts_reach_start c = search rules
 
-part-parts-reach-end : tie.Need-slice-bounds-parts-reach-end
-part-parts-reach-end c = search rules
+part_parts_reach_end : tie.Need-slice-bounds-parts-reach-end
+part_parts_reach_end c = search rules
 
-sub-parts-reach-2 : tie.Need-overflow-sub-parts-reach-2
-sub-parts-reach-2 c = search rules
+sub_parts_reach_2 : tie.Need-overflow-sub-parts-reach-2
+sub_parts_reach_2 c = search rules
 
-part-parts-reach-start-2 : tie.Need-slice-bounds-parts-reach-start-2
-part-parts-reach-start-2 c = search rules
+part_parts_reach_start_2 : tie.Need-slice-bounds-parts-reach-start-2
+part_parts_reach_start_2 c = search rules
 
-part-parts-reach-end-2 : tie.Need-slice-bounds-parts-reach-end-2
-part-parts-reach-end-2 c = search rules
+part_parts_reach_end_2 : tie.Need-slice-bounds-parts-reach-end-2
+part_parts_reach_end_2 c = search rules
 
-parts-reach-requires : tie.Need-parts-reach-requires
-parts-reach-requires c κs = search rules
+parts_reach_requires : tie.Need-parts-reach-requires
+parts_reach_requires c κs = search rules
 
-returns-3 : tie.Need-returns-3
-returns-3 c =
+returns_3 : tie.Need-returns-3
+returns_3 c =
     let parts = c.before.before.before.before in
     let text = parts.before.before.before.before.args.text.now in
     let found = parts.before.find in
@@ -67,5 +67,5 @@ returns-3 c =
     let all = take_all (length text - past.result) (drop past.result text) (omega (arith, length-drop past.result text)) in
     judged text _ _ (ap (λ (n : ℕ). take n text) front ∙ found.ensures.front) (all ∙ drop_past text found.ensures past.ensures) c.parts-reach.ensures
 
-pub too-large-spec : {M : Type 1} → statement M
-too-large-spec = tie.close (tie.spec returns find-requires past-requires sub-if3 returns-2 sub-parts-reach part-parts-reach-start part-parts-reach-end sub-parts-reach-2 part-parts-reach-start-2 part-parts-reach-end-2 parts-reach-requires returns-3)
+pub too_large_spec : {M : Type 1} → statement M
+too_large_spec = tie.close (tie.spec returns find_requires past_requires sub_if3 returns_2 sub_parts_reach part_parts_reach_start part_parts_reach_end sub_parts_reach_2 part_parts_reach_start_2 part_parts_reach_end_2 parts_reach_requires returns_3)

@@ -3,19 +3,19 @@
 use mathlib.Core.Path.{sym, ap}
 use borrow.Author.Rules.{rules}
 use Rattle.reader.specs.Reader.{numbers, written}
-use Rattle.reader.proofs.ReaderLaws.{no-image}
+use Rattle.reader.proofs.ReaderLaws.{no_image}
 use Rattle.reader.proofs.written.Statement.{statement}
 use Rattle.reader.proofs.written.Tie as tie
 
-enum-known-r : tie.Need-enum-known-r
-enum-known-r c = search rules
+enum_known_r : tie.Need-enum-known-r
+enum_known_r c = search rules
 
 returns : tie.Need-returns
 unfolding written numbers
 returns c = sym (ap written c.before.r.given.1)
 
-returns-2 : tie.Need-returns-2
-returns-2 c = no-image _ c.match.keys2
+returns_2 : tie.Need-returns-2
+returns_2 c = no_image _ c.match.keys2
 
-pub written-spec : {M : Type 1} → statement M
-written-spec = tie.close (tie.spec enum-known-r returns returns-2)
+pub written_spec : {M : Type 1} → statement M
+written_spec = tie.close (tie.spec enum_known_r returns returns_2)

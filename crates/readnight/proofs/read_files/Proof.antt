@@ -9,32 +9,32 @@ use Rattle.readnight.proofs.read_files.Tie as tie
 returns : tie.Need-returns
 returns c = search rules
 
-returns-2 : tie.Need-returns-2
-returns-2 c = search rules
+returns_2 : tie.Need-returns-2
+returns_2 c = search rules
 
-returns-3 : tie.Need-returns-3
-returns-3 c = search rules
+returns_3 : tie.Need-returns-3
+returns_3 c = search rules
 
-returns-4 : tie.Need-returns-4
-returns-4 c = search rules
+returns_4 : tie.Need-returns-4
+returns_4 c = search rules
 
-returns-5 : tie.Need-returns-5
-returns-5 c = search rules
+returns_5 : tie.Need-returns-5
+returns_5 c = search rules
 
-slice-aggregate-ends : tie.Need-slice-aggregate-ends
-slice-aggregate-ends c = simp length-take (omega arith)
+slice_aggregate_ends : tie.Need-slice-aggregate-ends
+slice_aggregate_ends c = simp length-take (omega arith)
 
-slice-aggregate-read : tie.Need-slice-aggregate-read
-slice-aggregate-read c = simp length-take (omega arith)
+slice_aggregate_read : tie.Need-slice-aggregate-read
+slice_aggregate_read c = simp length-take (omega arith)
 
-mul-read : tie.Need-overflow-mul-read
-mul-read c = search rules
+mul_read : tie.Need-overflow-mul-read
+mul_read c = search rules
 
-slice-relend-prefix-read : tie.Need-slice-relend-prefix-read
-slice-relend-prefix-read c = search rules
+slice_relend_prefix_read : tie.Need-slice-relend-prefix-read
+slice_relend_prefix_read c = search rules
 
-slice-aggregate-read-2 : tie.Need-slice-aggregate-read-2
-slice-aggregate-read-2 c = simp length-take (omega arith)
+slice_aggregate_read_2 : tie.Need-slice-aggregate-read-2
+slice_aggregate_read_2 c = simp length-take (omega arith)
 
 add_read : tie.Need-overflow-add-read
 add_read c = search rules
@@ -42,111 +42,111 @@ add_read c = search rules
 sub_read : tie.Need-overflow-sub-read
 sub_read c = search rules
 
-part-read-start : tie.Need-slice-bounds-read-start
-part-read-start c = search rules
+part_read_start : tie.Need-slice-bounds-read-start
+part_read_start c = search rules
 
-part-read-end : tie.Need-slice-bounds-read-end
-part-read-end c = search rules
+part_read_end : tie.Need-slice-bounds-read-end
+part_read_end c = search rules
 
-mul-read-2 : tie.Need-overflow-mul-read-2
-mul-read-2 c = search rules
+mul_read_2 : tie.Need-overflow-mul-read-2
+mul_read_2 c = search rules
 
-slice-relend-prefix-read-2 : tie.Need-slice-relend-prefix-read-2
-slice-relend-prefix-read-2 c = search rules
+slice_relend_prefix_read_2 : tie.Need-slice-relend-prefix-read-2
+slice_relend_prefix_read_2 c = search rules
 
-slice-aggregate-read-3 : tie.Need-slice-aggregate-read-3
-slice-aggregate-read-3 c = simp length-take (omega arith)
+slice_aggregate_read_3 : tie.Need-slice-aggregate-read-3
+slice_aggregate_read_3 c = simp length-take (omega arith)
 
-read-requires : tie.Need-read-requires
-read-requires c κs = search rules
+read_requires : tie.Need-read-requires
+read_requires c κs = search rules
 
-hide-progress-requires : tie.Need-hide-progress-requires
-hide-progress-requires c κs = search rules
+hide_progress_requires : tie.Need-hide-progress-requires
+hide_progress_requires c κs = search rules
 
-with-failed-requires : tie.Need-with-failed-requires
-with-failed-requires c κs = search rules
+with_failed_requires : tie.Need-with-failed-requires
+with_failed_requires c κs = search rules
 
 same_length : tie.Need-same-length
 same_length c = search rules
 
-same-length-2 : tie.Need-same-length-2
-same-length-2 c = search rules
+same_length_2 : tie.Need-same-length-2
+same_length_2 c = search rules
 
-returns-6 : tie.Need-returns-6
-returns-6 c = search rules
+returns_6 : tie.Need-returns-6
+returns_6 c = search rules
 
-slice-aggregate-tell-all : tie.Need-slice-aggregate-tell-all
-slice-aggregate-tell-all c = simp length-take (omega arith)
+slice_aggregate_tell_all : tie.Need-slice-aggregate-tell-all
+slice_aggregate_tell_all c = simp length-take (omega arith)
 
-add-tell-all : tie.Need-overflow-add-tell-all
-add-tell-all c = search rules
+add_tell_all : tie.Need-overflow-add-tell-all
+add_tell_all c = search rules
 
-sub-tell-all : tie.Need-overflow-sub-tell-all
-sub-tell-all c = search rules
+sub_tell_all : tie.Need-overflow-sub-tell-all
+sub_tell_all c = search rules
 
-part-tell-all-start : tie.Need-slice-bounds-tell-all-start
-part-tell-all-start c = search rules
+part_tell_all_start : tie.Need-slice-bounds-tell-all-start
+part_tell_all_start c = search rules
 
-part-tell-all-end : tie.Need-slice-bounds-tell-all-end
-part-tell-all-end c = search rules
+part_tell_all_end : tie.Need-slice-bounds-tell-all-end
+part_tell_all_end c = search rules
 
-mul-tell-all : tie.Need-overflow-mul-tell-all
-mul-tell-all c = search rules
+mul_tell_all : tie.Need-overflow-mul-tell-all
+mul_tell_all c = search rules
 
-slice-reshare-prefix-tell-all : tie.Need-slice-reshare-prefix-tell-all
-slice-reshare-prefix-tell-all c = search rules
+slice_reshare_prefix_tell_all : tie.Need-slice-reshare-prefix-tell-all
+slice_reshare_prefix_tell_all c = search rules
 
-slice-aggregate-tell-all-2 : tie.Need-slice-aggregate-tell-all-2
-slice-aggregate-tell-all-2 c = simp length-take (omega arith)
+slice_aggregate_tell_all_2 : tie.Need-slice-aggregate-tell-all-2
+slice_aggregate_tell_all_2 c = simp length-take (omega arith)
 
-tell-all-requires : tie.Need-tell-all-requires
-tell-all-requires c κs = search rules
+tell_all_requires : tie.Need-tell-all-requires
+tell_all_requires c κs = search rules
 
-same-length-3 : tie.Need-same-length-3
-same-length-3 c = search rules
+same_length_3 : tie.Need-same-length-3
+same_length_3 c = search rules
 
-same-length-4 : tie.Need-same-length-4
-same-length-4 c = search rules
+same_length_4 : tie.Need-same-length-4
+same_length_4 c = search rules
 
-returns-7 : tie.Need-returns-7
-returns-7 c = search rules
+returns_7 : tie.Need-returns-7
+returns_7 c = search rules
 
-pub read-files-spec : {M : Type 1} → statement M
-read-files-spec =
+pub read_files_spec : {M : Type 1} → statement M
+read_files_spec =
     tie.close
     (tie.spec
     returns
-    returns-2
-    returns-3
-    returns-4
-    returns-5
-    slice-aggregate-ends
-    slice-aggregate-read
-    mul-read
-    slice-relend-prefix-read
-    slice-aggregate-read-2
+    returns_2
+    returns_3
+    returns_4
+    returns_5
+    slice_aggregate_ends
+    slice_aggregate_read
+    mul_read
+    slice_relend_prefix_read
+    slice_aggregate_read_2
     add_read
     sub_read
-    part-read-start
-    part-read-end
-    mul-read-2
-    slice-relend-prefix-read-2
-    slice-aggregate-read-3
-    read-requires
-    hide-progress-requires
-    with-failed-requires
+    part_read_start
+    part_read_end
+    mul_read_2
+    slice_relend_prefix_read_2
+    slice_aggregate_read_3
+    read_requires
+    hide_progress_requires
+    with_failed_requires
     same_length
-    same-length-2
-    returns-6
-    slice-aggregate-tell-all
-    add-tell-all
-    sub-tell-all
-    part-tell-all-start
-    part-tell-all-end
-    mul-tell-all
-    slice-reshare-prefix-tell-all
-    slice-aggregate-tell-all-2
-    tell-all-requires
-    same-length-3
-    same-length-4
-    returns-7)
+    same_length_2
+    returns_6
+    slice_aggregate_tell_all
+    add_tell_all
+    sub_tell_all
+    part_tell_all_start
+    part_tell_all_end
+    mul_tell_all
+    slice_reshare_prefix_tell_all
+    slice_aggregate_tell_all_2
+    tell_all_requires
+    same_length_3
+    same_length_4
+    returns_7)

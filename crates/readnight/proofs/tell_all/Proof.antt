@@ -6,107 +6,107 @@ use borrow.Author.Rules.{rules}
 use Rattle.readnight.proofs.tell_all.Statement.{statement}
 use Rattle.readnight.proofs.tell_all.Tie as tie
 
-abbrev invariant-loop : tie.invariant-loop
-invariant-loop sources ends names answers n₀ from₀ i₀ n from i = Unit {0}
+abbrev invariant_loop : tie.invariant-loop
+invariant_loop sources ends names answers n₀ from₀ i₀ n from i = Unit {0}
 
-abbrev decreases-loop : tie.decreases-loop
-decreases-loop sources ends names answers n₀ from₀ i₀ n from i = length ends - i
+abbrev decreases_loop : tie.decreases-loop
+decreases_loop sources ends names answers n₀ from₀ i₀ n from i = length ends - i
 
-loop-holds : tie.Need-loop-init invariant-loop decreases-loop
-loop-holds c = search rules
+loop_holds : tie.Need-loop-init invariant_loop decreases_loop
+loop_holds c = search rules
 
-mul-end : tie.Need-overflow-mul-end invariant-loop decreases-loop
-mul-end c = search rules
+mul_end : tie.Need-overflow-mul-end invariant_loop decreases_loop
+mul_end c = search rules
 
-shared-slice-read-end : tie.Need-shared-slice-read-end invariant-loop decreases-loop
-shared-slice-read-end c = search rules
+shared_slice_read_end : tie.Need-shared-slice-read-end invariant_loop decreases_loop
+shared_slice_read_end c = search rules
 
-returns : tie.Need-returns invariant-loop decreases-loop
+returns : tie.Need-returns invariant_loop decreases_loop
 returns c = search rules
 
-returns-2 : tie.Need-returns-2 invariant-loop decreases-loop
-returns-2 c = search rules
+returns_2 : tie.Need-returns-2 invariant_loop decreases_loop
+returns_2 c = search rules
 
-returns-3 : tie.Need-returns-3 invariant-loop decreases-loop
-returns-3 c = search rules
+returns_3 : tie.Need-returns-3 invariant_loop decreases_loop
+returns_3 c = search rules
 
-returns-4 : tie.Need-returns-4 invariant-loop decreases-loop
-returns-4 c = search rules
+returns_4 : tie.Need-returns-4 invariant_loop decreases_loop
+returns_4 c = search rules
 
-mul-tell : tie.Need-overflow-mul-tell invariant-loop decreases-loop
-mul-tell c = search rules
+mul_tell : tie.Need-overflow-mul-tell invariant_loop decreases_loop
+mul_tell c = search rules
 
-shared-slice-read-tell : tie.Need-shared-slice-read-tell invariant-loop decreases-loop
-shared-slice-read-tell c = search rules
+shared_slice_read_tell : tie.Need-shared-slice-read-tell invariant_loop decreases_loop
+shared_slice_read_tell c = search rules
 
-part-tell-start : tie.Need-slice-bounds-tell-start invariant-loop decreases-loop
-part-tell-start c = search rules
+part_tell_start : tie.Need-slice-bounds-tell-start invariant_loop decreases_loop
+part_tell_start c = search rules
 
-part-tell-end : tie.Need-slice-bounds-tell-end invariant-loop decreases-loop
-part-tell-end c = search rules
+part_tell_end : tie.Need-slice-bounds-tell-end invariant_loop decreases_loop
+part_tell_end c = search rules
 
-mul-tell-2 : tie.Need-overflow-mul-tell-2 invariant-loop decreases-loop
-mul-tell-2 c = search rules
+mul_tell_2 : tie.Need-overflow-mul-tell-2 invariant_loop decreases_loop
+mul_tell_2 c = search rules
 
-mul-tell-3 : tie.Need-overflow-mul-tell-3 invariant-loop decreases-loop
-mul-tell-3 c = search rules
+mul_tell_3 : tie.Need-overflow-mul-tell-3 invariant_loop decreases_loop
+mul_tell_3 c = search rules
 
-add-tell : tie.Need-overflow-add-tell invariant-loop decreases-loop
-add-tell c = search rules
+add_tell : tie.Need-overflow-add-tell invariant_loop decreases_loop
+add_tell c = search rules
 
-mul-tell-4 : tie.Need-overflow-mul-tell-4 invariant-loop decreases-loop
-mul-tell-4 c = search rules
+mul_tell_4 : tie.Need-overflow-mul-tell-4 invariant_loop decreases_loop
+mul_tell_4 c = search rules
 
-sub-tell : tie.Need-overflow-sub-tell invariant-loop decreases-loop
-sub-tell c = search rules
+sub_tell : tie.Need-overflow-sub-tell invariant_loop decreases_loop
+sub_tell c = search rules
 
-part-tell-start-2 : tie.Need-slice-bounds-tell-start-2 invariant-loop decreases-loop
-part-tell-start-2 c = search rules
+part_tell_start_2 : tie.Need-slice-bounds-tell-start-2 invariant_loop decreases_loop
+part_tell_start_2 c = search rules
 
-part-tell-end-2 : tie.Need-slice-bounds-tell-end-2 invariant-loop decreases-loop
-part-tell-end-2 c = search rules
+part_tell_end_2 : tie.Need-slice-bounds-tell-end-2 invariant_loop decreases_loop
+part_tell_end_2 c = search rules
 
-tell-requires : tie.Need-tell-requires invariant-loop decreases-loop
-tell-requires c κs = search rules
+tell_requires : tie.Need-tell-requires invariant_loop decreases_loop
+tell_requires c κs = search rules
 
-add-i : tie.Need-overflow-add-i invariant-loop decreases-loop
-add-i c = search rules
+add_i : tie.Need-overflow-add-i invariant_loop decreases_loop
+add_i c = search rules
 
-loop-less : tie.Need-loop-smaller invariant-loop decreases-loop
-loop-less c = search rules
+loop_less : tie.Need-loop-smaller invariant_loop decreases_loop
+loop_less c = search rules
 
-loop-again : tie.Need-loop-preserved invariant-loop decreases-loop
-loop-again c = search rules
+loop_again : tie.Need-loop-preserved invariant_loop decreases_loop
+loop_again c = search rules
 
-returns-5 : tie.Need-returns-5 invariant-loop decreases-loop
-returns-5 c = search rules
+returns_5 : tie.Need-returns-5 invariant_loop decreases_loop
+returns_5 c = search rules
 
-pub tell-all-spec : {M : Type 1} → statement M
-tell-all-spec =
+pub tell_all_spec : {M : Type 1} → statement M
+tell_all_spec =
     tie.close
     (tie.spec
-    invariant-loop
-    decreases-loop
-    loop-holds
-    mul-end
-    shared-slice-read-end
+    invariant_loop
+    decreases_loop
+    loop_holds
+    mul_end
+    shared_slice_read_end
     returns
-    returns-2
-    returns-3
-    returns-4
-    mul-tell
-    shared-slice-read-tell
-    part-tell-start
-    part-tell-end
-    mul-tell-2
-    mul-tell-3
-    add-tell
-    mul-tell-4
-    sub-tell
-    part-tell-start-2
-    part-tell-end-2
-    tell-requires
-    add-i
-    loop-less
-    loop-again
-    returns-5)
+    returns_2
+    returns_3
+    returns_4
+    mul_tell
+    shared_slice_read_tell
+    part_tell_start
+    part_tell_end
+    mul_tell_2
+    mul_tell_3
+    add_tell
+    mul_tell_4
+    sub_tell
+    part_tell_start_2
+    part_tell_end_2
+    tell_requires
+    add_i
+    loop_less
+    loop_again
+    returns_5)

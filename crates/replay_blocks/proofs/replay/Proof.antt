@@ -6,41 +6,41 @@ use borrow.Author.Rules.{rules}
 use Rattle.replay_blocks.proofs.replay.Statement.{statement}
 use Rattle.replay_blocks.proofs.replay.Tie as tie
 
-abbrev invariant-loop : tie.invariant-loop
-invariant-loop text tally₀ i₀ tally i = Unit {0}
+abbrev invariant_loop : tie.invariant-loop
+invariant_loop text tally₀ i₀ tally i = Unit {0}
 
-abbrev decreases-loop : tie.decreases-loop
-decreases-loop text tally₀ i₀ tally i = length text - i
+abbrev decreases_loop : tie.decreases-loop
+decreases_loop text tally₀ i₀ tally i = length text - i
 
-new-requires : tie.Need-new-requires invariant-loop decreases-loop
-new-requires c κs = search rules
+new_requires : tie.Need-new-requires invariant_loop decreases_loop
+new_requires c κs = search rules
 
-loop-holds : tie.Need-loop-init invariant-loop decreases-loop
-loop-holds c = search rules
+loop_holds : tie.Need-loop-init invariant_loop decreases_loop
+loop_holds c = search rules
 
-line-at-requires : tie.Need-line-at-requires invariant-loop decreases-loop
-line-at-requires c κs = search rules
+line_at_requires : tie.Need-line-at-requires invariant_loop decreases_loop
+line_at_requires c κs = search rules
 
-add-i : tie.Need-overflow-add-i invariant-loop decreases-loop
-add-i c = search rules
+add_i : tie.Need-overflow-add-i invariant_loop decreases_loop
+add_i c = search rules
 
-add-i-2 : tie.Need-overflow-add-i-2 invariant-loop decreases-loop
-add-i-2 c = search rules
+add_i_2 : tie.Need-overflow-add-i-2 invariant_loop decreases_loop
+add_i_2 c = search rules
 
-line-agrees-requires : tie.Need-line-agrees-requires invariant-loop decreases-loop
-line-agrees-requires c κs = search rules
+line_agrees_requires : tie.Need-line-agrees-requires invariant_loop decreases_loop
+line_agrees_requires c κs = search rules
 
-with-requires : tie.Need-with-requires invariant-loop decreases-loop
-with-requires c κs = search rules
+with_requires : tie.Need-with-requires invariant_loop decreases_loop
+with_requires c κs = search rules
 
-loop-less : tie.Need-loop-smaller invariant-loop decreases-loop
-loop-less c = search rules
+loop_less : tie.Need-loop-smaller invariant_loop decreases_loop
+loop_less c = search rules
 
-loop-again : tie.Need-loop-preserved invariant-loop decreases-loop
-loop-again c = search rules
+loop_again : tie.Need-loop-preserved invariant_loop decreases_loop
+loop_again c = search rules
 
-returns : tie.Need-returns invariant-loop decreases-loop
+returns : tie.Need-returns invariant_loop decreases_loop
 returns c = search rules
 
-pub replay-spec : {M : Type 1} → statement M
-replay-spec = tie.close (tie.spec invariant-loop decreases-loop new-requires loop-holds line-at-requires add-i add-i-2 line-agrees-requires with-requires loop-less loop-again returns)
+pub replay_spec : {M : Type 1} → statement M
+replay_spec = tie.close (tie.spec invariant_loop decreases_loop new_requires loop_holds line_at_requires add_i add_i_2 line_agrees_requires with_requires loop_less loop_again returns)

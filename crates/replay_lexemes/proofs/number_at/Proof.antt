@@ -6,55 +6,55 @@ use borrow.Author.Rules.{rules}
 use Rattle.replay_lexemes.proofs.number_at.Statement.{statement}
 use Rattle.replay_lexemes.proofs.number_at.Tie as tie
 
-abbrev invariant-loop : tie.invariant-loop
-invariant-loop word from value₀ i₀ value i = Unit {0}
+abbrev invariant_loop : tie.invariant-loop
+invariant_loop word from value₀ i₀ value i = Unit {0}
 
-abbrev decreases-loop : tie.decreases-loop
-decreases-loop word from value₀ i₀ value i = length word - i
+abbrev decreases_loop : tie.decreases-loop
+decreases_loop word from value₀ i₀ value i = length word - i
 
-loop-holds : tie.Need-loop-init invariant-loop decreases-loop
-loop-holds c = search rules
+loop_holds : tie.Need-loop-init invariant_loop decreases_loop
+loop_holds c = search rules
 
-shared-slice-read-b : tie.Need-shared-slice-read-b invariant-loop decreases-loop
-shared-slice-read-b c = search rules
+shared_slice_read_b : tie.Need-shared-slice-read-b invariant_loop decreases_loop
+shared_slice_read_b c = search rules
 
-add-i : tie.Need-overflow-add-i invariant-loop decreases-loop
-add-i c = search rules
+add_i : tie.Need-overflow-add-i invariant_loop decreases_loop
+add_i c = search rules
 
-returns : tie.Need-returns invariant-loop decreases-loop
+returns : tie.Need-returns invariant_loop decreases_loop
 returns c = search rules
 
-mul-value : tie.Need-overflow-mul-value invariant-loop decreases-loop
-mul-value c = search rules
+mul_value : tie.Need-overflow-mul-value invariant_loop decreases_loop
+mul_value c = search rules
 
-cast-value : tie.Need-overflow-cast-value invariant-loop decreases-loop
-cast-value c = search rules
+cast_value : tie.Need-overflow-cast-value invariant_loop decreases_loop
+cast_value c = search rules
 
-add-value : tie.Need-overflow-add-value invariant-loop decreases-loop
-add-value c = search rules
+add_value : tie.Need-overflow-add-value invariant_loop decreases_loop
+add_value c = search rules
 
-loop-less : tie.Need-loop-smaller invariant-loop decreases-loop
-loop-less c = search rules
+loop_less : tie.Need-loop-smaller invariant_loop decreases_loop
+loop_less c = search rules
 
-loop-again : tie.Need-loop-preserved invariant-loop decreases-loop
-loop-again c = search rules
+loop_again : tie.Need-loop-preserved invariant_loop decreases_loop
+loop_again c = search rules
 
-returns-2 : tie.Need-returns-2 invariant-loop decreases-loop
-returns-2 c = search rules
+returns_2 : tie.Need-returns-2 invariant_loop decreases_loop
+returns_2 c = search rules
 
-pub number-at-spec : {M : Type 1} → statement M
-number-at-spec =
+pub number_at_spec : {M : Type 1} → statement M
+number_at_spec =
     tie.close
     (tie.spec
-    invariant-loop
-    decreases-loop
-    loop-holds
-    shared-slice-read-b
-    add-i
+    invariant_loop
+    decreases_loop
+    loop_holds
+    shared_slice_read_b
+    add_i
     returns
-    mul-value
-    cast-value
-    add-value
-    loop-less
-    loop-again
-    returns-2)
+    mul_value
+    cast_value
+    add_value
+    loop_less
+    loop_again
+    returns_2)

@@ -9,22 +9,22 @@ use Rattle.sametree.proofs.compare_taken.Tie as tie
 returns : tie.Need-returns
 returns c = search rules
 
-returns-2 : tie.Need-returns-2
-returns-2 c = search rules
+returns_2 : tie.Need-returns-2
+returns_2 c = search rules
 
-slice-aggregate-compare : tie.Need-slice-aggregate-compare
-slice-aggregate-compare c = simp length-take (omega arith)
+slice_aggregate_compare : tie.Need-slice-aggregate-compare
+slice_aggregate_compare c = simp length-take (omega arith)
 
-slice-aggregate-compare-2 : tie.Need-slice-aggregate-compare-2
-slice-aggregate-compare-2 c = simp length-take (omega arith)
+slice_aggregate_compare_2 : tie.Need-slice-aggregate-compare-2
+slice_aggregate_compare_2 c = simp length-take (omega arith)
 
-compare-requires : tie.Need-compare-requires
-compare-requires c κs = search rules
+compare_requires : tie.Need-compare-requires
+compare_requires c κs = search rules
 
-returns-3 : tie.Need-returns-3
-returns-3 c = search rules
+returns_3 : tie.Need-returns-3
+returns_3 c = search rules
 
-pub compare-taken-spec : {M : Type 1} → statement M
-compare-taken-spec =
+pub compare_taken_spec : {M : Type 1} → statement M
+compare_taken_spec =
     tie.close
-    (tie.spec returns returns-2 slice-aggregate-compare slice-aggregate-compare-2 compare-requires returns-3)
+    (tie.spec returns returns_2 slice_aggregate_compare slice_aggregate_compare_2 compare_requires returns_3)

@@ -5,55 +5,55 @@ use borrow.Author.Rules.{rules}
 use Rattle.showtree.proofs.are_several.Statement.{statement}
 use Rattle.showtree.proofs.are_several.Tie as tie
 
-abbrev invariant-loop : tie.invariant-loop
-invariant-loop count options₀ i₀ options i = Unit {0}
+abbrev invariant_loop : tie.invariant-loop
+invariant_loop count options₀ i₀ options i = Unit {0}
 
-abbrev decreases-loop : tie.decreases-loop
-decreases-loop count options₀ i₀ options i = count - i
+abbrev decreases_loop : tie.decreases-loop
+decreases_loop count options₀ i₀ options i = count - i
 
-arg-count-requires : tie.Need-arg-count-requires invariant-loop decreases-loop
-arg-count-requires c κs = search rules
+arg_count_requires : tie.Need-arg-count-requires invariant_loop decreases_loop
+arg_count_requires c κs = search rules
 
-for-trees-requires : tie.Need-for-trees-requires invariant-loop decreases-loop
-for-trees-requires c κs = search rules
+for_trees_requires : tie.Need-for-trees-requires invariant_loop decreases_loop
+for_trees_requires c κs = search rules
 
-first-argument-requires : tie.Need-first-argument-requires invariant-loop decreases-loop
-first-argument-requires c κs = search rules
+first_argument_requires : tie.Need-first-argument-requires invariant_loop decreases_loop
+first_argument_requires c κs = search rules
 
-loop-holds : tie.Need-loop-init invariant-loop decreases-loop
-loop-holds c = search rules
+loop_holds : tie.Need-loop-init invariant_loop decreases_loop
+loop_holds c = search rules
 
-with-argument-requires : tie.Need-with-argument-requires invariant-loop decreases-loop
-with-argument-requires c κs = search rules
+with_argument_requires : tie.Need-with-argument-requires invariant_loop decreases_loop
+with_argument_requires c κs = search rules
 
-returns : tie.Need-returns invariant-loop decreases-loop
+returns : tie.Need-returns invariant_loop decreases_loop
 returns c = search rules
 
-add-i : tie.Need-overflow-add-i invariant-loop decreases-loop
-add-i c = search rules
+add_i : tie.Need-overflow-add-i invariant_loop decreases_loop
+add_i c = search rules
 
-loop-less : tie.Need-loop-smaller invariant-loop decreases-loop
-loop-less c = search rules
+loop_less : tie.Need-loop-smaller invariant_loop decreases_loop
+loop_less c = search rules
 
-loop-again : tie.Need-loop-preserved invariant-loop decreases-loop
-loop-again c = search rules
+loop_again : tie.Need-loop-preserved invariant_loop decreases_loop
+loop_again c = search rules
 
-returns-2 : tie.Need-returns-2 invariant-loop decreases-loop
-returns-2 c = search rules
+returns_2 : tie.Need-returns-2 invariant_loop decreases_loop
+returns_2 c = search rules
 
-pub are-several-spec : {M : Type 1} → statement M
-are-several-spec =
+pub are_several_spec : {M : Type 1} → statement M
+are_several_spec =
     tie.close
     (tie.spec
-    invariant-loop
-    decreases-loop
-    arg-count-requires
-    for-trees-requires
-    first-argument-requires
-    loop-holds
-    with-argument-requires
+    invariant_loop
+    decreases_loop
+    arg_count_requires
+    for_trees_requires
+    first_argument_requires
+    loop_holds
+    with_argument_requires
     returns
-    add-i
-    loop-less
-    loop-again
-    returns-2)
+    add_i
+    loop_less
+    loop_again
+    returns_2)

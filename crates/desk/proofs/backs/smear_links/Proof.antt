@@ -8,47 +8,47 @@ use mathlib.Core.Path.{◌≡◌}
 use Rattle.desk.proofs.backs.smear_links.Statement.{statement}
 use Rattle.desk.proofs.backs.smear_links.Tie as tie
 
-abbrev invariant-loop : tie.invariant-loop
-invariant-loop links₀ i₀ links i = length links ≡ length links₀
+abbrev invariant_loop : tie.invariant-loop
+invariant_loop links₀ i₀ links i = length links ≡ length links₀
 
-abbrev decreases-loop : tie.decreases-loop
-decreases-loop links₀ i₀ links i = length links₀ - i
+abbrev decreases_loop : tie.decreases-loop
+decreases_loop links₀ i₀ links i = length links₀ - i
 
-loop-holds : tie.Need-loop-init invariant-loop decreases-loop
-loop-holds c = search rules
+loop_holds : tie.Need-loop-init invariant_loop decreases_loop
+loop_holds c = search rules
 
-mul-links : tie.Need-overflow-mul-links invariant-loop decreases-loop
-mul-links c = search rules
+mul_links : tie.Need-overflow-mul-links invariant_loop decreases_loop
+mul_links c = search rules
 
-slice-write-links : tie.Need-slice-write-links invariant-loop decreases-loop
-slice-write-links c = search rules
+slice_write_links : tie.Need-slice-write-links invariant_loop decreases_loop
+slice_write_links c = search rules
 
-add-i : tie.Need-overflow-add-i invariant-loop decreases-loop
-add-i c = search rules
+add_i : tie.Need-overflow-add-i invariant_loop decreases_loop
+add_i c = search rules
 
-loop-less : tie.Need-loop-smaller invariant-loop decreases-loop
-loop-less c = search rules
+loop_less : tie.Need-loop-smaller invariant_loop decreases_loop
+loop_less c = search rules
 
-loop-again : tie.Need-loop-preserved invariant-loop decreases-loop
-loop-again c = simp length-set (omega arith)
+loop_again : tie.Need-loop-preserved invariant_loop decreases_loop
+loop_again c = simp length-set (omega arith)
 
-same_length : tie.Need-same-length invariant-loop decreases-loop
+same_length : tie.Need-same-length invariant_loop decreases_loop
 same_length c = search rules
 
-returns : tie.Need-returns invariant-loop decreases-loop
+returns : tie.Need-returns invariant_loop decreases_loop
 returns c = search rules
 
-pub smear-links-spec : {M : Type 1} → statement M
-smear-links-spec =
+pub smear_links_spec : {M : Type 1} → statement M
+smear_links_spec =
     tie.close
     (tie.spec
-    invariant-loop
-    decreases-loop
-    loop-holds
-    mul-links
-    slice-write-links
-    add-i
-    loop-less
-    loop-again
+    invariant_loop
+    decreases_loop
+    loop_holds
+    mul_links
+    slice_write_links
+    add_i
+    loop_less
+    loop_again
     same_length
     returns)

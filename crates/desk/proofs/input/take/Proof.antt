@@ -8,79 +8,79 @@ use mathlib.Core.Path.{◌≡◌}
 use Rattle.desk.proofs.input.take.Statement.{statement}
 use Rattle.desk.proofs.input.take.Tie as tie
 
-abbrev invariant-loop : tie.invariant-loop
-invariant-loop fd buffer₀ n₀ buffer n = (n ≤ length buffer) × (length buffer ≡ length buffer₀)
+abbrev invariant_loop : tie.invariant-loop
+invariant_loop fd buffer₀ n₀ buffer n = (n ≤ length buffer) × (length buffer ≡ length buffer₀)
 
-abbrev decreases-loop : tie.decreases-loop
-decreases-loop fd buffer₀ n₀ buffer n = length buffer₀ - n
+abbrev decreases_loop : tie.decreases-loop
+decreases_loop fd buffer₀ n₀ buffer n = length buffer₀ - n
 
-loop-holds : tie.Need-loop-init invariant-loop decreases-loop
-loop-holds c = search rules
+loop_holds : tie.Need-loop-init invariant_loop decreases_loop
+loop_holds c = search rules
 
-sub_read : tie.Need-overflow-sub-read invariant-loop decreases-loop
+sub_read : tie.Need-overflow-sub-read invariant_loop decreases_loop
 sub_read c = search rules
 
-part-read-start : tie.Need-slice-bounds-read-start invariant-loop decreases-loop
-part-read-start c = search rules
+part_read_start : tie.Need-slice-bounds-read-start invariant_loop decreases_loop
+part_read_start c = search rules
 
-part-read-end : tie.Need-slice-bounds-read-end invariant-loop decreases-loop
-part-read-end c = search rules
+part_read_end : tie.Need-slice-bounds-read-end invariant_loop decreases_loop
+part_read_end c = search rules
 
-read-requires : tie.Need-read-requires invariant-loop decreases-loop
-read-requires c κs = search rules
+read_requires : tie.Need-read-requires invariant_loop decreases_loop
+read_requires c κs = search rules
 
-sub-count : tie.Need-overflow-sub-count invariant-loop decreases-loop
-sub-count c = search rules
+sub_count : tie.Need-overflow-sub-count invariant_loop decreases_loop
+sub_count c = search rules
 
-part-count-start : tie.Need-slice-bounds-count-start invariant-loop decreases-loop
+part-count-start : tie.Need-slice-bounds-count-start invariant_loop decreases_loop
 part-count-start c = search rules
 
-part-count-end : tie.Need-slice-bounds-count-end invariant-loop decreases-loop
-part-count-end c = search rules
+part_count_end : tie.Need-slice-bounds-count-end invariant_loop decreases_loop
+part_count_end c = search rules
 
-count-requires : tie.Need-count-requires invariant-loop decreases-loop
-count-requires c κs = search rules
+count_requires : tie.Need-count-requires invariant_loop decreases_loop
+count_requires c κs = search rules
 
-same_length : tie.Need-same-length invariant-loop decreases-loop
+same_length : tie.Need-same-length invariant_loop decreases_loop
 same_length c = search rules
 
-returns : tie.Need-returns invariant-loop decreases-loop
+returns : tie.Need-returns invariant_loop decreases_loop
 returns c = simp length-take (omega arith)
 
-add-n : tie.Need-overflow-add-n invariant-loop decreases-loop
-add-n c = search rules
+add_n : tie.Need-overflow-add-n invariant_loop decreases_loop
+add_n c = search rules
 
-loop-less : tie.Need-loop-smaller invariant-loop decreases-loop
-loop-less c = search rules
+loop_less : tie.Need-loop-smaller invariant_loop decreases_loop
+loop_less c = search rules
 
-loop-again : tie.Need-loop-preserved invariant-loop decreases-loop
-loop-again c = search rules
+loop_again : tie.Need-loop-preserved invariant_loop decreases_loop
+loop_again c = search rules
 
-same-length-2 : tie.Need-same-length-2 invariant-loop decreases-loop
-same-length-2 c = search rules
+same_length_2 : tie.Need-same-length-2 invariant_loop decreases_loop
+same_length_2 c = search rules
 
-returns-2 : tie.Need-returns-2 invariant-loop decreases-loop
-returns-2 c = simp length-take (omega arith)
+returns_2 : tie.Need-returns-2 invariant_loop decreases_loop
+returns_2 c = simp length-take (omega arith)
 
 pub take_spec : {M : Type 1} → statement M
 take_spec =
     tie.close
     (tie.spec
-    invariant-loop
-    decreases-loop
-    loop-holds
+    invariant_loop
+    decreases_loop
+    loop_holds
     sub_read
-    part-read-start
-    part-read-end
-    read-requires
-    sub-count
+    part_read_start
+    part_read_end
+    read_requires
+    sub_count
     part-count-start
-    part-count-end
-    count-requires
+    part_count_end
+    count_requires
     same_length
     returns
-    add-n
-    loop-less
-    loop-again
-    same-length-2
-    returns-2)
+    add_n
+    loop_less
+    loop_again
+    same_length_2
+    returns_2)

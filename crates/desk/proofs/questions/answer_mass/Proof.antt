@@ -6,11 +6,11 @@ use borrow.Author.Rules.{rules}
 use Rattle.desk.proofs.questions.answer_mass.Statement.{statement}
 use Rattle.desk.proofs.questions.answer_mass.Tie as tie
 
-mul-needed : tie.Need-overflow-mul-needed
-mul-needed c = search rules
+mul_needed : tie.Need-overflow-mul-needed
+mul_needed c = search rules
 
-say-bad-requires : tie.Need-say-bad-requires
-say-bad-requires c κs = search rules
+say_bad_requires : tie.Need-say-bad-requires
+say_bad_requires c κs = search rules
 
 same_length : tie.Need-same-length
 same_length c = search rules
@@ -18,71 +18,71 @@ same_length c = search rules
 returns : tie.Need-returns
 returns c = search rules
 
-say-bad-requires-2 : tie.Need-say-bad-requires-2
-say-bad-requires-2 c κs = search rules
+say_bad_requires_2 : tie.Need-say-bad-requires-2
+say_bad_requires_2 c κs = search rules
 
-same-length-2 : tie.Need-same-length-2
-same-length-2 c = search rules
+same_length_2 : tie.Need-same-length-2
+same_length_2 c = search rules
 
-returns-2 : tie.Need-returns-2
-returns-2 c = search rules
+returns_2 : tie.Need-returns-2
+returns_2 c = search rules
 
-say-bad-requires-3 : tie.Need-say-bad-requires-3
-say-bad-requires-3 c κs = search rules
+say_bad_requires_3 : tie.Need-say-bad-requires-3
+say_bad_requires_3 c κs = search rules
 
-same-length-3 : tie.Need-same-length-3
-same-length-3 c = search rules
+same_length_3 : tie.Need-same-length-3
+same_length_3 c = search rules
 
-returns-3 : tie.Need-returns-3
-returns-3 c = search rules
+returns_3 : tie.Need-returns-3
+returns_3 c = search rules
 
-slice-relend-prefix-answer-into : tie.Need-slice-relend-prefix-answer-into
-slice-relend-prefix-answer-into c = search rules
+slice_relend_prefix_answer_into : tie.Need-slice-relend-prefix-answer-into
+slice_relend_prefix_answer_into c = search rules
 
-slice-aggregate-answer-into : tie.Need-slice-aggregate-answer-into
-slice-aggregate-answer-into c = simp length-take (omega arith)
+slice_aggregate_answer_into : tie.Need-slice-aggregate-answer-into
+slice_aggregate_answer_into c = simp length-take (omega arith)
 
-slice-relend-prefix-answer-into-2 : tie.Need-slice-relend-prefix-answer-into-2
-slice-relend-prefix-answer-into-2 c = search rules
+slice_relend_prefix_answer_into_2 : tie.Need-slice-relend-prefix-answer-into-2
+slice_relend_prefix_answer_into_2 c = search rules
 
-slice-aggregate-answer-into-2 : tie.Need-slice-aggregate-answer-into-2
-slice-aggregate-answer-into-2 c = simp length-take (omega arith)
+slice_aggregate_answer_into_2 : tie.Need-slice-aggregate-answer-into-2
+slice_aggregate_answer_into_2 c = simp length-take (omega arith)
 
-answer-into-requires : tie.Need-answer-into-requires
-answer-into-requires c κs = search rules
+answer_into_requires : tie.Need-answer-into-requires
+answer_into_requires c κs = search rules
 
-same-length-4 : tie.Need-same-length-4
-same-length-4 c = search rules
+same_length_4 : tie.Need-same-length-4
+same_length_4 c = search rules
 
-same-length-5 : tie.Need-same-length-5
-same-length-5 c = search rules
+same_length_5 : tie.Need-same-length-5
+same_length_5 c = search rules
 
-same-length-6 : tie.Need-same-length-6
-same-length-6 c = search rules
+same_length_6 : tie.Need-same-length-6
+same_length_6 c = search rules
 
-returns-4 : tie.Need-returns-4
-returns-4 c = search rules
+returns_4 : tie.Need-returns-4
+returns_4 c = search rules
 
-pub answer-mass-spec : {M : Type 1} → statement M
-answer-mass-spec =
+pub answer_mass_spec : {M : Type 1} → statement M
+answer_mass_spec =
     tie.close
     (tie.spec
-    mul-needed
-    say-bad-requires
+    mul_needed
+    say_bad_requires
     same_length
     returns
-    say-bad-requires-2
-    same-length-2
-    returns-2
-    say-bad-requires-3
-    same-length-3
-    returns-3
-    slice-relend-prefix-answer-into
-    slice-aggregate-answer-into
-    slice-relend-prefix-answer-into-2
-    slice-aggregate-answer-into-2
-    answer-into-requires
-    same-length-4
-    same-length-5
-    same-length-6
-    returns-4)
+    say_bad_requires_2
+    same_length_2
+    returns_2
+    say_bad_requires_3
+    same_length_3
+    returns_3
+    slice_relend_prefix_answer_into
+    slice_aggregate_answer_into
+    slice_relend_prefix_answer_into_2
+    slice_aggregate_answer_into_2
+    answer_into_requires
+    same_length_4
+    same_length_5
+    same_length_6
+    returns_4)

@@ -6,8 +6,8 @@ use borrow.Author.Rules.{rules}
 use Rattle.desk.proofs.questions.answer_night.Statement.{statement}
 use Rattle.desk.proofs.questions.answer_night.Tie as tie
 
-say-bad-requires : tie.Need-say-bad-requires
-say-bad-requires c κs = search rules
+say_bad_requires : tie.Need-say-bad-requires
+say_bad_requires c κs = search rules
 
 same_length : tie.Need-same-length
 same_length c = search rules
@@ -15,106 +15,106 @@ same_length c = search rules
 returns : tie.Need-returns
 returns c = search rules
 
-say-bad-requires-2 : tie.Need-say-bad-requires-2
-say-bad-requires-2 c κs = search rules
+say_bad_requires_2 : tie.Need-say-bad-requires-2
+say_bad_requires_2 c κs = search rules
 
-same-length-2 : tie.Need-same-length-2
-same-length-2 c = search rules
+same_length_2 : tie.Need-same-length-2
+same_length_2 c = search rules
 
-returns-2 : tie.Need-returns-2
-returns-2 c = search rules
+returns_2 : tie.Need-returns-2
+returns_2 c = search rules
 
-say-bad-requires-3 : tie.Need-say-bad-requires-3
-say-bad-requires-3 c κs = search rules
+say_bad_requires_3 : tie.Need-say-bad-requires-3
+say_bad_requires_3 c κs = search rules
 
-same-length-3 : tie.Need-same-length-3
-same-length-3 c = search rules
+same_length_3 : tie.Need-same-length-3
+same_length_3 c = search rules
 
-returns-3 : tie.Need-returns-3
-returns-3 c = search rules
+returns_3 : tie.Need-returns-3
+returns_3 c = search rules
 
-say-bad-requires-4 : tie.Need-say-bad-requires-4
-say-bad-requires-4 c κs = search rules
+say_bad_requires_4 : tie.Need-say-bad-requires-4
+say_bad_requires_4 c κs = search rules
 
-same-length-4 : tie.Need-same-length-4
-same-length-4 c = search rules
+same_length_4 : tie.Need-same-length-4
+same_length_4 c = search rules
 
-returns-4 : tie.Need-returns-4
-returns-4 c = search rules
+returns_4 : tie.Need-returns-4
+returns_4 c = search rules
 
-say-bad-requires-5 : tie.Need-say-bad-requires-5
-say-bad-requires-5 c κs = search rules
+say_bad_requires_5 : tie.Need-say-bad-requires-5
+say_bad_requires_5 c κs = search rules
 
-same-length-5 : tie.Need-same-length-5
-same-length-5 c = search rules
+same_length_5 : tie.Need-same-length-5
+same_length_5 c = search rules
 
-returns-5 : tie.Need-returns-5
-returns-5 c = search rules
+returns_5 : tie.Need-returns-5
+returns_5 c = search rules
 
-slice-aggregate-answer-into : tie.Need-slice-aggregate-answer-into
-slice-aggregate-answer-into c = simp length-take (omega arith)
+slice_aggregate_answer_into : tie.Need-slice-aggregate-answer-into
+slice_aggregate_answer_into c = simp length-take (omega arith)
 
-add-answer-into : tie.Need-overflow-add-answer-into
-add-answer-into c = search rules
+add_answer_into : tie.Need-overflow-add-answer-into
+add_answer_into c = search rules
 
-sub-answer-into : tie.Need-overflow-sub-answer-into
-sub-answer-into c = search rules
+sub_answer_into : tie.Need-overflow-sub-answer-into
+sub_answer_into c = search rules
 
-part-answer-into-start : tie.Need-slice-bounds-answer-into-start
-part-answer-into-start c = search rules
+part_answer_into_start : tie.Need-slice-bounds-answer-into-start
+part_answer_into_start c = search rules
 
-part-answer-into-end : tie.Need-slice-bounds-answer-into-end
-part-answer-into-end c = search rules
+part_answer_into_end : tie.Need-slice-bounds-answer-into-end
+part_answer_into_end c = search rules
 
-slice-relend-prefix-answer-into : tie.Need-slice-relend-prefix-answer-into
-slice-relend-prefix-answer-into c = search rules
+slice_relend_prefix_answer_into : tie.Need-slice-relend-prefix-answer-into
+slice_relend_prefix_answer_into c = search rules
 
-slice-aggregate-answer-into-2 : tie.Need-slice-aggregate-answer-into-2
-slice-aggregate-answer-into-2 c = simp length-take (omega arith)
+slice_aggregate_answer_into_2 : tie.Need-slice-aggregate-answer-into-2
+slice_aggregate_answer_into_2 c = simp length-take (omega arith)
 
-answer-into-requires : tie.Need-answer-into-requires
-answer-into-requires c κs = search rules
+answer_into_requires : tie.Need-answer-into-requires
+answer_into_requires c κs = search rules
 
-same-length-6 : tie.Need-same-length-6
-same-length-6 c = search rules
+same_length_6 : tie.Need-same-length-6
+same_length_6 c = search rules
 
-same-length-7 : tie.Need-same-length-7
-same-length-7 c = search rules
+same_length_7 : tie.Need-same-length-7
+same_length_7 c = search rules
 
-same-length-8 : tie.Need-same-length-8
-same-length-8 c = search rules
+same_length_8 : tie.Need-same-length-8
+same_length_8 c = search rules
 
-returns-6 : tie.Need-returns-6
-returns-6 c = search rules
+returns_6 : tie.Need-returns-6
+returns_6 c = search rules
 
-pub answer-night-spec : {M : Type 1} → statement M
-answer-night-spec =
+pub answer_night_spec : {M : Type 1} → statement M
+answer_night_spec =
     tie.close
     (tie.spec
-    say-bad-requires
+    say_bad_requires
     same_length
     returns
-    say-bad-requires-2
-    same-length-2
-    returns-2
-    say-bad-requires-3
-    same-length-3
-    returns-3
-    say-bad-requires-4
-    same-length-4
-    returns-4
-    say-bad-requires-5
-    same-length-5
-    returns-5
-    slice-aggregate-answer-into
-    add-answer-into
-    sub-answer-into
-    part-answer-into-start
-    part-answer-into-end
-    slice-relend-prefix-answer-into
-    slice-aggregate-answer-into-2
-    answer-into-requires
-    same-length-6
-    same-length-7
-    same-length-8
-    returns-6)
+    say_bad_requires_2
+    same_length_2
+    returns_2
+    say_bad_requires_3
+    same_length_3
+    returns_3
+    say_bad_requires_4
+    same_length_4
+    returns_4
+    say_bad_requires_5
+    same_length_5
+    returns_5
+    slice_aggregate_answer_into
+    add_answer_into
+    sub_answer_into
+    part_answer_into_start
+    part_answer_into_end
+    slice_relend_prefix_answer_into
+    slice_aggregate_answer_into_2
+    answer_into_requires
+    same_length_6
+    same_length_7
+    same_length_8
+    returns_6)

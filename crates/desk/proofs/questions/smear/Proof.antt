@@ -8,43 +8,43 @@ use mathlib.Core.Path.{◌≡◌}
 use Rattle.desk.proofs.questions.smear.Statement.{statement}
 use Rattle.desk.proofs.questions.smear.Tie as tie
 
-abbrev invariant-loop : tie.invariant-loop
-invariant-loop output₀ i₀ output i = length output ≡ length output₀
+abbrev invariant_loop : tie.invariant-loop
+invariant_loop output₀ i₀ output i = length output ≡ length output₀
 
-abbrev decreases-loop : tie.decreases-loop
-decreases-loop output₀ i₀ output i = length output₀ - i
+abbrev decreases_loop : tie.decreases-loop
+decreases_loop output₀ i₀ output i = length output₀ - i
 
-loop-holds : tie.Need-loop-init invariant-loop decreases-loop
-loop-holds c = search rules
+loop_holds : tie.Need-loop-init invariant_loop decreases_loop
+loop_holds c = search rules
 
-slice-write-output : tie.Need-slice-write-output invariant-loop decreases-loop
-slice-write-output c = search rules
+slice_write_output : tie.Need-slice-write-output invariant_loop decreases_loop
+slice_write_output c = search rules
 
-add-i : tie.Need-overflow-add-i invariant-loop decreases-loop
-add-i c = search rules
+add_i : tie.Need-overflow-add-i invariant_loop decreases_loop
+add_i c = search rules
 
-loop-less : tie.Need-loop-smaller invariant-loop decreases-loop
-loop-less c = search rules
+loop_less : tie.Need-loop-smaller invariant_loop decreases_loop
+loop_less c = search rules
 
-loop-again : tie.Need-loop-preserved invariant-loop decreases-loop
-loop-again c = simp length-set (omega arith)
+loop_again : tie.Need-loop-preserved invariant_loop decreases_loop
+loop_again c = simp length-set (omega arith)
 
-same_length : tie.Need-same-length invariant-loop decreases-loop
+same_length : tie.Need-same-length invariant_loop decreases_loop
 same_length c = search rules
 
-returns : tie.Need-returns invariant-loop decreases-loop
+returns : tie.Need-returns invariant_loop decreases_loop
 returns c = search rules
 
-pub smear-spec : {M : Type 1} → statement M
-smear-spec =
+pub smear_spec : {M : Type 1} → statement M
+smear_spec =
     tie.close
     (tie.spec
-    invariant-loop
-    decreases-loop
-    loop-holds
-    slice-write-output
-    add-i
-    loop-less
-    loop-again
+    invariant_loop
+    decreases_loop
+    loop_holds
+    slice_write_output
+    add_i
+    loop_less
+    loop_again
     same_length
     returns)

@@ -8,67 +8,67 @@ use mathlib.Core.Path.{◌≡◌}
 use Rattle.desk.proofs.text.put.Statement.{statement}
 use Rattle.desk.proofs.text.put.Tie as tie
 
-abbrev invariant-loop : tie.invariant-loop
-invariant-loop text₀ at bytes n₀ i₀ text n i = length text ≡ length text₀
+abbrev invariant_loop : tie.invariant-loop
+invariant_loop text₀ at bytes n₀ i₀ text n i = length text ≡ length text₀
 
-abbrev decreases-loop : tie.decreases-loop
-decreases-loop text₀ at bytes n₀ i₀ text n i = length bytes - i
+abbrev decreases_loop : tie.decreases-loop
+decreases_loop text₀ at bytes n₀ i₀ text n i = length bytes - i
 
-loop-holds : tie.Need-loop-init invariant-loop decreases-loop
-loop-holds c = search rules
+loop_holds : tie.Need-loop-init invariant_loop decreases_loop
+loop_holds c = search rules
 
-same_length : tie.Need-same-length invariant-loop decreases-loop
+same_length : tie.Need-same-length invariant_loop decreases_loop
 same_length c = search rules
 
-returns : tie.Need-returns invariant-loop decreases-loop
+returns : tie.Need-returns invariant_loop decreases_loop
 returns c = simp length-take (omega arith)
 
-shared-slice-read-text : tie.Need-shared-slice-read-text invariant-loop decreases-loop
-shared-slice-read-text c = search rules
+shared_slice_read_text : tie.Need-shared-slice-read-text invariant_loop decreases_loop
+shared_slice_read_text c = search rules
 
-slice-write-text : tie.Need-slice-write-text invariant-loop decreases-loop
-slice-write-text c = search rules
+slice_write_text : tie.Need-slice-write-text invariant_loop decreases_loop
+slice_write_text c = search rules
 
-add-n : tie.Need-overflow-add-n invariant-loop decreases-loop
-add-n c = search rules
+add_n : tie.Need-overflow-add-n invariant_loop decreases_loop
+add_n c = search rules
 
-add-i : tie.Need-overflow-add-i invariant-loop decreases-loop
-add-i c = search rules
+add_i : tie.Need-overflow-add-i invariant_loop decreases_loop
+add_i c = search rules
 
-loop-less : tie.Need-loop-smaller invariant-loop decreases-loop
-loop-less c = search rules
+loop_less : tie.Need-loop-smaller invariant_loop decreases_loop
+loop_less c = search rules
 
-loop-again : tie.Need-loop-preserved invariant-loop decreases-loop
-loop-again c = simp length-set (omega arith)
+loop_again : tie.Need-loop-preserved invariant_loop decreases_loop
+loop_again c = simp length-set (omega arith)
 
-same-length-2 : tie.Need-same-length-2 invariant-loop decreases-loop
-same-length-2 c = search rules
+same_length_2 : tie.Need-same-length-2 invariant_loop decreases_loop
+same_length_2 c = search rules
 
-returns-2 : tie.Need-returns-2 invariant-loop decreases-loop
-returns-2 c = simp length-take (omega arith)
+returns_2 : tie.Need-returns-2 invariant_loop decreases_loop
+returns_2 c = simp length-take (omega arith)
 
-same-length-3 : tie.Need-same-length-3 invariant-loop decreases-loop
-same-length-3 c = search rules
+same_length_3 : tie.Need-same-length-3 invariant_loop decreases_loop
+same_length_3 c = search rules
 
-returns-3 : tie.Need-returns-3 invariant-loop decreases-loop
-returns-3 c = simp length-take (omega arith)
+returns_3 : tie.Need-returns-3 invariant_loop decreases_loop
+returns_3 c = simp length-take (omega arith)
 
 pub put_spec : {M : Type 1} → statement M
 put_spec =
     tie.close
     (tie.spec
-    invariant-loop
-    decreases-loop
-    loop-holds
+    invariant_loop
+    decreases_loop
+    loop_holds
     same_length
     returns
-    shared-slice-read-text
-    slice-write-text
-    add-n
-    add-i
-    loop-less
-    loop-again
-    same-length-2
-    returns-2
-    same-length-3
-    returns-3)
+    shared_slice_read_text
+    slice_write_text
+    add_n
+    add_i
+    loop_less
+    loop_again
+    same_length_2
+    returns_2
+    same_length_3
+    returns_3)

@@ -5,75 +5,75 @@ use borrow.Author.Rules.{rules}
 use Rattle.desk.proofs.tree.take_words.Statement.{statement}
 use Rattle.desk.proofs.tree.take_words.Tie as tie
 
-abbrev invariant-loop : tie.invariant-loop
-invariant-loop first i₀ i-end o i = Unit {0}
+abbrev invariant_loop : tie.invariant-loop
+invariant_loop first i₀ i-end o i = Unit {0}
 
-abbrev decreases-loop : tie.decreases-loop
-decreases-loop first i₀ i-end o i = i-end - i
+abbrev decreases_loop : tie.decreases-loop
+decreases_loop first i₀ i-end o i = i-end - i
 
-first-argument-requires : tie.Need-first-argument-requires invariant-loop decreases-loop
-first-argument-requires c κs = search rules
+first_argument_requires : tie.Need-first-argument-requires invariant_loop decreases_loop
+first_argument_requires c κs = search rules
 
-arg-count-requires : tie.Need-arg-count-requires invariant-loop decreases-loop
-arg-count-requires c κs = search rules
+arg_count_requires : tie.Need-arg-count-requires invariant_loop decreases_loop
+arg_count_requires c κs = search rules
 
-loop-holds : tie.Need-loop-init invariant-loop decreases-loop
-loop-holds c = search rules
+loop_holds : tie.Need-loop-init invariant_loop decreases_loop
+loop_holds c = search rules
 
-buffer-requires : tie.Need-buffer-requires invariant-loop decreases-loop
-buffer-requires c κs = search rules
+buffer_requires : tie.Need-buffer-requires invariant_loop decreases_loop
+buffer_requires c κs = search rules
 
-slice-aggregate-arg : tie.Need-slice-aggregate-arg invariant-loop decreases-loop
-slice-aggregate-arg c = search rules
+slice_aggregate_arg : tie.Need-slice-aggregate-arg invariant_loop decreases_loop
+slice_aggregate_arg c = search rules
 
-arg-requires : tie.Need-arg-requires invariant-loop decreases-loop
-arg-requires c κs = search rules
+arg_requires : tie.Need-arg-requires invariant_loop decreases_loop
+arg_requires c κs = search rules
 
-array-share-prefix-word : tie.Need-array-share-prefix-word invariant-loop decreases-loop
-array-share-prefix-word c = search rules
+array_share_prefix_word : tie.Need-array-share-prefix-word invariant_loop decreases_loop
+array_share_prefix_word c = search rules
 
-slice-aggregate-with : tie.Need-slice-aggregate-with invariant-loop decreases-loop
-slice-aggregate-with c = search rules
+slice_aggregate_with : tie.Need-slice-aggregate-with invariant_loop decreases_loop
+slice_aggregate_with c = search rules
 
-with-requires : tie.Need-with-requires invariant-loop decreases-loop
-with-requires c κs = search rules
+with_requires : tie.Need-with-requires invariant_loop decreases_loop
+with_requires c κs = search rules
 
-returns : tie.Need-returns invariant-loop decreases-loop
+returns : tie.Need-returns invariant_loop decreases_loop
 returns c = search rules
 
-add-i : tie.Need-overflow-add-i invariant-loop decreases-loop
-add-i c = search rules
+add_i : tie.Need-overflow-add-i invariant_loop decreases_loop
+add_i c = search rules
 
-loop-less : tie.Need-loop-smaller invariant-loop decreases-loop
-loop-less c = search rules
+loop_less : tie.Need-loop-smaller invariant_loop decreases_loop
+loop_less c = search rules
 
-loop-again : tie.Need-loop-preserved invariant-loop decreases-loop
-loop-again c = search rules
+loop_again : tie.Need-loop-preserved invariant_loop decreases_loop
+loop_again c = search rules
 
-ended-requires : tie.Need-ended-requires invariant-loop decreases-loop
-ended-requires c κs = search rules
+ended_requires : tie.Need-ended-requires invariant_loop decreases_loop
+ended_requires c κs = search rules
 
-returns-2 : tie.Need-returns-2 invariant-loop decreases-loop
-returns-2 c = search rules
+returns_2 : tie.Need-returns-2 invariant_loop decreases_loop
+returns_2 c = search rules
 
-pub take-words-spec : {M : Type 1} → statement M
-take-words-spec =
+pub take_words_spec : {M : Type 1} → statement M
+take_words_spec =
     tie.close
     (tie.spec
-    invariant-loop
-    decreases-loop
-    first-argument-requires
-    arg-count-requires
-    loop-holds
-    buffer-requires
-    slice-aggregate-arg
-    arg-requires
-    array-share-prefix-word
-    slice-aggregate-with
-    with-requires
+    invariant_loop
+    decreases_loop
+    first_argument_requires
+    arg_count_requires
+    loop_holds
+    buffer_requires
+    slice_aggregate_arg
+    arg_requires
+    array_share_prefix_word
+    slice_aggregate_with
+    with_requires
     returns
-    add-i
-    loop-less
-    loop-again
-    ended-requires
-    returns-2)
+    add_i
+    loop_less
+    loop_again
+    ended_requires
+    returns_2)

@@ -2,20 +2,20 @@
 -- Assumes nothing.
 use mathlib.Core.Path.{sym, ap, ◌∙◌}
 use mathlib.Core.Bool.{Bool, cond}
-use Rattle.grammar.specs.Answer.{prefix-power}
+use Rattle.grammar.specs.Answer.{prefix_power}
 use Rattle.grammar.proofs.operators.prefix_power.Statement.{statement}
 use Rattle.grammar.proofs.operators.prefix_power.Tie as tie
 
-has-published-requires : tie.Need-has-published-requires
-has-published-requires c κs = tt
+has_published_requires : tie.Need-has-published-requires
+has_published_requires c κs = tt
 
 returns : tie.Need-returns
-unfolding prefix-power
+unfolding prefix_power
 returns c = ap (λ (b : Bool). cond b 22 20) (sym c.if1.true ∙ c.before.has-published.ensures)
 
-returns-2 : tie.Need-returns-2
-unfolding prefix-power
-returns-2 c = ap (λ (b : Bool). cond b 22 20) (sym c.if1.false ∙ c.before.has-published.ensures)
+returns_2 : tie.Need-returns-2
+unfolding prefix_power
+returns_2 c = ap (λ (b : Bool). cond b 22 20) (sym c.if1.false ∙ c.before.has-published.ensures)
 
-pub prefix-power-spec : {M : Type 1} → statement M
-prefix-power-spec = tie.close (tie.spec has-published-requires returns returns-2)
+pub prefix_power_spec : {M : Type 1} → statement M
+prefix_power_spec = tie.close (tie.spec has_published_requires returns returns_2)

@@ -2,33 +2,33 @@
 -- Assumes nothing.
 use mathlib.Core.Path.{sym, ap}
 use borrow.Author.Tests.{ne_eqb}
-use Rattle.grammar.specs.Operators.{prefix-of, sign-in}
+use Rattle.grammar.specs.Operators.{prefix_of, sign_in}
 use Rattle.grammar.specs.Productions.{signs}
 use Rattle.grammar.proofs.operators.unary_op.Statement.{statement}
 use Rattle.grammar.proofs.operators.unary_op.Tie as tie
 
 returns : tie.Need-returns
-unfolding prefix-of sign-in signs
-returns c = sym (ap prefix-of c.match.keys1)
+unfolding prefix_of sign_in signs
+returns c = sym (ap prefix_of c.match.keys1)
 
-returns-2 : tie.Need-returns-2
-unfolding prefix-of sign-in signs
-returns-2 c = sym (ap prefix-of c.match.keys2)
+returns_2 : tie.Need-returns-2
+unfolding prefix_of sign_in signs
+returns_2 c = sym (ap prefix_of c.match.keys2)
 
-returns-3 : tie.Need-returns-3
-unfolding prefix-of sign-in signs
-returns-3 c = sym (ap prefix-of c.match.keys3)
+returns_3 : tie.Need-returns-3
+unfolding prefix_of sign_in signs
+returns_3 c = sym (ap prefix_of c.match.keys3)
 
-returns-4 : tie.Need-returns-4
-unfolding prefix-of sign-in signs
-returns-4 c = sym (ap prefix-of c.match.keys4)
+returns_4 : tie.Need-returns-4
+unfolding prefix_of sign_in signs
+returns_4 c = sym (ap prefix_of c.match.keys4)
 
-returns-5 : tie.Need-returns-5
-unfolding prefix-of sign-in signs
-returns-5 c =
+returns_5 : tie.Need-returns-5
+unfolding prefix_of sign_in signs
+returns_5 c =
     let none = c.match.rest in
     simp (ne_eqb _ _ none.1, ne_eqb _ _ none.0.1, ne_eqb _ _ none.0.0.1, ne_eqb _ _ none.0.0.0.1)
 
-pub unary-op-spec : {M : Type 1} → statement M
-unary-op-spec =
-    tie.close (tie.spec returns returns-2 returns-3 returns-4 returns-5)
+pub unary_op_spec : {M : Type 1} → statement M
+unary_op_spec =
+    tie.close (tie.spec returns returns_2 returns_3 returns_4 returns_5)

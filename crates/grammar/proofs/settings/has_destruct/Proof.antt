@@ -9,5 +9,5 @@ returns : tie.Need-returns
 unfolding has
 returns c = refl
 
-pub has-destruct-spec : {M : Type 1} → statement M
-has-destruct-spec = tie.close (tie.spec returns)
+pub has_destruct_spec : {M : Type 1} → statement M
+has_destruct_spec = tie.close (tie.spec returns)

@@ -9,5 +9,5 @@ returns : tie.Need-returns
 unfolding has
 returns c = refl
 
-pub has-null-coaelse-spec : {M : Type 1} → statement M
-has-null-coaelse-spec = tie.close (tie.spec returns)
+pub has_null_coaelse_spec : {M : Type 1} → statement M
+has_null_coaelse_spec = tie.close (tie.spec returns)

@@ -9,5 +9,5 @@ returns : tie.Need-returns
 unfolding has
 returns c = refl
 
-pub has-object-iteration-spec : {M : Type 1} → statement M
-has-object-iteration-spec = tie.close (tie.spec returns)
+pub has_object_iteration_spec : {M : Type 1} → statement M
+has_object_iteration_spec = tie.close (tie.spec returns)

@@ -9,5 +9,5 @@ returns : tie.Need-returns
 unfolding published
 returns c = refl
 
-pub has-published-spec : {M : Type 1} → statement M
-has-published-spec = tie.close (tie.spec returns)
+pub has_published_spec : {M : Type 1} → statement M
+has_published_spec = tie.close (tie.spec returns)

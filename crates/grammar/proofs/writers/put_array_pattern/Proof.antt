@@ -4,7 +4,7 @@ use Prim.Native.Nat.{◌+◌}
 use native.Mathlib.Omega.{arith}
 use lib.ListN.{length}
 use Rattle.grammar.specs.Image.{entry, payload}
-use Rattle.grammar.proofs.WritingLaws.{and_then, head-is}
+use Rattle.grammar.proofs.WritingLaws.{and_then, head_is}
 use borrow.Author.Rules.{rules}
 use Rattle.grammar.proofs.writers.put_array_pattern.Statement.{statement}
 use Rattle.grammar.proofs.writers.put_array_pattern.Tie as tie
@@ -18,10 +18,10 @@ returns c =
     let number = byte.before.before.before.before in
     let head = number.before.before.before.before in
     let args = head.before.before.before.before.args in
-    and_then (and_then (and_then (and_then (head-is 27 (5 + length args.s.now) _ (omega arith) head.put-head.ensures) number.put-number.ensures) byte.put_byte.ensures) number2.put-number2.ensures) text.put-text.ensures
+    and_then (and_then (and_then (and_then (head_is 27 (5 + length args.s.now) _ (omega arith) head.put-head.ensures) number.put-number.ensures) byte.put_byte.ensures) number2.put-number2.ensures) text.put-text.ensures
 
-pub put-array-pattern-spec : {M : Type 1} → statement M
-put-array-pattern-spec =
+pub put_array_pattern_spec : {M : Type 1} → statement M
+put_array_pattern_spec =
     tie.close
     (tie.spec
     (λ c. search rules)

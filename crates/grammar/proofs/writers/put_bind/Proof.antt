@@ -14,7 +14,7 @@ returns c =
     let head = byte.before.before.before.before in
     and_then (and_then head.put-head.ensures byte.put_byte.ensures) number.put-number.ensures
 
-pub put-bind-spec : {M : Type 1} → statement M
-put-bind-spec =
+pub put_bind_spec : {M : Type 1} → statement M
+put_bind_spec =
     tie.close
     (tie.spec (λ c κs. search rules) (λ c κs. search rules) (λ c κs. search rules) (λ c. search rules) returns)

@@ -16,8 +16,8 @@ returns c =
     let head = span.before.before.before.before in
     and_then (and_then (and_then (and_then head.put-head.ensures span.put-span.ensures) byte.put_byte.ensures) number.put-number.ensures) number2.put-number2.ensures
 
-pub put-call-spec : {M : Type 1} → statement M
-put-call-spec =
+pub put_call_spec : {M : Type 1} → statement M
+put_call_spec =
     tie.close
     (tie.spec
     (λ c κs. search rules)

@@ -13,5 +13,5 @@ returns c =
     let head = number.before.before.before.before in
     and_then head.put-head.ensures number.put-number.ensures
 
-pub put-count-spec : {M : Type 1} → statement M
-put-count-spec = tie.close (tie.spec (λ c κs. search rules) (λ c κs. search rules) (λ c. search rules) returns)
+pub put_count_spec : {M : Type 1} → statement M
+put_count_spec = tie.close (tie.spec (λ c κs. search rules) (λ c κs. search rules) (λ c. search rules) returns)

@@ -14,7 +14,7 @@ returns c =
     let head = number.before.before.before.before in
     and_then (and_then head.put-head.ensures number.put-number.ensures) number2.put-number2.ensures
 
-pub put-counts-spec : {M : Type 1} → statement M
-put-counts-spec =
+pub put_counts_spec : {M : Type 1} → statement M
+put_counts_spec =
     tie.close
     (tie.spec (λ c κs. search rules) (λ c κs. search rules) (λ c κs. search rules) (λ c. search rules) returns)

@@ -16,8 +16,8 @@ returns c =
     let head = span.before.before.before.before in
     and_then (and_then (and_then (and_then head.put-head.ensures span.put-span.ensures) flags.put-flags.ensures) number.put-number.ensures) byte.put_byte.ensures
 
-pub put-field-spec : {M : Type 1} → statement M
-put-field-spec =
+pub put_field_spec : {M : Type 1} → statement M
+put_field_spec =
     tie.close
     (tie.spec
     (λ c κs. search rules)

@@ -13,5 +13,5 @@ returns c =
     let head = byte.before.before.before.before in
     and_then head.put-head.ensures byte.put_byte.ensures
 
-pub put-flag-spec : {M : Type 1} → statement M
-put-flag-spec = tie.close (tie.spec (λ c κs. search rules) (λ c κs. search rules) (λ c. search rules) returns)
+pub put_flag_spec : {M : Type 1} → statement M
+put_flag_spec = tie.close (tie.spec (λ c κs. search rules) (λ c κs. search rules) (λ c. search rules) returns)

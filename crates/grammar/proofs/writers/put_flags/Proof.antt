@@ -12,7 +12,7 @@ returns c =
     let first = second.before.before.before.before in
     and_then (and_then first.put_byte.ensures second.put-byte2.ensures) third.put-byte3.ensures
 
-pub put-flags-spec : {M : Type 1} → statement M
-put-flags-spec =
+pub put_flags_spec : {M : Type 1} → statement M
+put_flags_spec =
     tie.close
     (tie.spec (λ c κs. search rules) (λ c κs. search rules) (λ c κs. search rules) (λ c. search rules) returns)

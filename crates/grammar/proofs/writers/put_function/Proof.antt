@@ -14,7 +14,7 @@ returns c =
     let head = span.before.before.before.before in
     and_then (and_then head.put-head.ensures span.put-span.ensures) number.put-number.ensures
 
-pub put-function-spec : {M : Type 1} → statement M
-put-function-spec =
+pub put_function_spec : {M : Type 1} → statement M
+put_function_spec =
     tie.close
     (tie.spec (λ c κs. search rules) (λ c κs. search rules) (λ c κs. search rules) (λ c. search rules) returns)

@@ -15,8 +15,8 @@ returns c =
     let head = span.before.before.before.before in
     and_then (and_then (and_then head.put-head.ensures span.put-span.ensures) byte.put_byte.ensures) byte2.put-byte2.ensures
 
-pub put-index-spec : {M : Type 1} → statement M
-put-index-spec =
+pub put_index_spec : {M : Type 1} → statement M
+put_index_spec =
     tie.close
     (tie.spec
     (λ c κs. search rules)

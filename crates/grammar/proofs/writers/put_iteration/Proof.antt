@@ -4,7 +4,7 @@ use Prim.Native.Nat.{◌+◌}
 use native.Mathlib.Omega.{arith}
 use lib.ListN.{length}
 use Rattle.grammar.specs.Image.{entry, payload}
-use Rattle.grammar.proofs.WritingLaws.{and_then, head-is}
+use Rattle.grammar.proofs.WritingLaws.{and_then, head_is}
 use borrow.Author.Rules.{rules}
 use Rattle.grammar.proofs.writers.put_iteration.Statement.{statement}
 use Rattle.grammar.proofs.writers.put_iteration.Tie as tie
@@ -16,10 +16,10 @@ returns c =
     let byte = text.before.before.before.before in
     let head = byte.before.before.before.before in
     let args = head.before.before.before.before.args in
-    and_then (and_then (head-is 35 (1 + length args.s.now) _ (omega arith) head.put-head.ensures) byte.put_byte.ensures) text.put-text.ensures
+    and_then (and_then (head_is 35 (1 + length args.s.now) _ (omega arith) head.put-head.ensures) byte.put_byte.ensures) text.put-text.ensures
 
-pub put-iteration-spec : {M : Type 1} → statement M
-put-iteration-spec =
+pub put_iteration_spec : {M : Type 1} → statement M
+put_iteration_spec =
     tie.close
     (tie.spec
     (λ c. search rules)

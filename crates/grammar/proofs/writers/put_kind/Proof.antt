@@ -14,6 +14,6 @@ returns c =
     let head = byte.before.before.before.before in
     and_then (and_then head.put-head.ensures byte.put_byte.ensures) span.put-span.ensures
 
-pub put-kind-spec : {M : Type 1} → statement M
-put-kind-spec =
+pub put_kind_spec : {M : Type 1} → statement M
+put_kind_spec =
     tie.close (tie.spec (λ c κs. search rules) (λ c κs. search rules) (λ c κs. search rules) (λ c. search rules) returns)

@@ -14,6 +14,6 @@ returns c =
     let head = span.before.before.before.before in
     and_then (and_then head.put-head.ensures span.put-span.ensures) byte.put_byte.ensures
 
-pub put-marked-spec : {M : Type 1} → statement M
-put-marked-spec =
+pub put_marked_spec : {M : Type 1} → statement M
+put_marked_spec =
     tie.close (tie.spec (λ c κs. search rules) (λ c κs. search rules) (λ c κs. search rules) (λ c. search rules) returns)

@@ -4,7 +4,7 @@ use Prim.Native.Nat.{◌+◌}
 use native.Mathlib.Omega.{arith}
 use lib.ListN.{length}
 use Rattle.grammar.specs.Image.{entry, payload}
-use Rattle.grammar.proofs.WritingLaws.{and_then, head-is}
+use Rattle.grammar.proofs.WritingLaws.{and_then, head_is}
 use borrow.Author.Rules.{rules}
 use Rattle.grammar.proofs.writers.put_name.Statement.{statement}
 use Rattle.grammar.proofs.writers.put_name.Tie as tie
@@ -16,10 +16,10 @@ returns c =
     let span = text.before.before.before.before in
     let head = span.before.before.before.before in
     let args = head.before.before.before.before.args in
-    and_then (and_then (head-is args.tag (4 + length args.s.now) _ (omega arith) head.put-head.ensures) span.put-span.ensures) text.put-text.ensures
+    and_then (and_then (head_is args.tag (4 + length args.s.now) _ (omega arith) head.put-head.ensures) span.put-span.ensures) text.put-text.ensures
 
-pub put-name-spec : {M : Type 1} → statement M
-put-name-spec =
+pub put_name_spec : {M : Type 1} → statement M
+put_name_spec =
     tie.close
     (tie.spec
     (λ c. search rules)

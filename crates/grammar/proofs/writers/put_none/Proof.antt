@@ -11,5 +11,5 @@ returns c =
     let head = c.before.before in
     head.put-head.ensures
 
-pub put-none-spec : {M : Type 1} → statement M
-put-none-spec = tie.close (tie.spec (λ c κs. search rules) (λ c. search rules) returns)
+pub put_none_spec : {M : Type 1} → statement M
+put_none_spec = tie.close (tie.spec (λ c κs. search rules) (λ c. search rules) returns)

@@ -12,16 +12,16 @@ use Rattle.grammar.proofs.writers.put_number.Tie as tie
 returns : tie.Need-returns
 returns c = and_then c.before.before.before.before.before.before.put_byte.ensures c.before.before.put-byte2.ensures
 
-slice-write-out-2 : tie.Need-slice-write-out-2
-slice-write-out-2 c = simp length-set (omega arith)
+slice_write_out_2 : tie.Need-slice-write-out-2
+slice_write_out_2 c = simp length-set (omega arith)
 
-returns-2 : tie.Need-returns-2
-returns-2 c =
+returns_2 : tie.Need-returns-2
+returns_2 c =
     let args = c.before.before.args in
     record { to = refl; stored = both args.out.now args.w (args.n / 256) (args.n % 256) }
 
-pub put-number-spec : {M : Type 1} → statement M
-put-number-spec =
+pub put_number_spec : {M : Type 1} → statement M
+put_number_spec =
     tie.close
     (tie.spec
     (λ c. search rules)
@@ -35,7 +35,7 @@ put-number-spec =
     (λ c. search rules)
     (λ c. search rules)
     (λ c. search rules)
-    slice-write-out-2
+    slice_write_out_2
     (λ c. search rules)
     (λ c. search rules)
-    returns-2)
+    returns_2)

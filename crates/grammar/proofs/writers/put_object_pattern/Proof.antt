@@ -4,7 +4,7 @@ use Prim.Native.Nat.{◌+◌}
 use native.Mathlib.Omega.{arith}
 use lib.ListN.{length}
 use Rattle.grammar.specs.Image.{entry, payload}
-use Rattle.grammar.proofs.WritingLaws.{and_then, head-is}
+use Rattle.grammar.proofs.WritingLaws.{and_then, head_is}
 use borrow.Author.Rules.{rules}
 use Rattle.grammar.proofs.writers.put_object_pattern.Statement.{statement}
 use Rattle.grammar.proofs.writers.put_object_pattern.Tie as tie
@@ -17,10 +17,10 @@ returns c =
     let number = byte.before.before.before.before in
     let head = number.before.before.before.before in
     let args = head.before.before.before.before.args in
-    and_then (and_then (and_then (head-is 28 (3 + length args.s.now) _ (omega arith) head.put-head.ensures) number.put-number.ensures) byte.put_byte.ensures) text.put-text.ensures
+    and_then (and_then (and_then (head_is 28 (3 + length args.s.now) _ (omega arith) head.put-head.ensures) number.put-number.ensures) byte.put_byte.ensures) text.put-text.ensures
 
-pub put-object-pattern-spec : {M : Type 1} → statement M
-put-object-pattern-spec =
+pub put_object_pattern_spec : {M : Type 1} → statement M
+put_object_pattern_spec =
     tie.close
     (tie.spec
     (λ c. search rules)

@@ -4,7 +4,7 @@ use Prim.Native.Nat.{◌+◌}
 use native.Mathlib.Omega.{arith}
 use lib.ListN.{length}
 use Rattle.grammar.specs.Image.{entry, payload}
-use Rattle.grammar.proofs.WritingLaws.{and_then, head-is}
+use Rattle.grammar.proofs.WritingLaws.{and_then, head_is}
 use borrow.Author.Rules.{rules}
 use Rattle.grammar.proofs.writers.put_pattern_field.Statement.{statement}
 use Rattle.grammar.proofs.writers.put_pattern_field.Tie as tie
@@ -18,10 +18,10 @@ returns c =
     let byte = byte2.before.before.before.before in
     let head = byte.before.before.before.before in
     let args = head.before.before.before.before.args in
-    and_then (and_then (and_then (and_then (head-is 29 (6 + length args.s.now) _ (omega arith) head.put-head.ensures) byte.put_byte.ensures) byte2.put-byte2.ensures) span.put-span.ensures) text.put-text.ensures
+    and_then (and_then (and_then (and_then (head_is 29 (6 + length args.s.now) _ (omega arith) head.put-head.ensures) byte.put_byte.ensures) byte2.put-byte2.ensures) span.put-span.ensures) text.put-text.ensures
 
-pub put-pattern-field-spec : {M : Type 1} → statement M
-put-pattern-field-spec =
+pub put_pattern_field_spec : {M : Type 1} → statement M
+put_pattern_field_spec =
     tie.close
     (tie.spec
     (λ c. search rules)

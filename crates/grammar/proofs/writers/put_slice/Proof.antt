@@ -16,8 +16,8 @@ returns c =
     let head = byte.before.before.before.before in
     and_then (and_then (and_then (and_then head.put-head.ensures byte.put_byte.ensures) span.put-span.ensures) span2.put-span2.ensures) span3.put-span3.ensures
 
-pub put-slice-spec : {M : Type 1} → statement M
-put-slice-spec =
+pub put_slice_spec : {M : Type 1} → statement M
+put_slice_spec =
     tie.close
     (tie.spec
     (λ c κs. search rules)

@@ -12,69 +12,69 @@ use Rattle.grammar.proofs.writers.put_some.Reads as reads
 use Rattle.grammar.proofs.writers.put_some.Lts as lts
 use Rattle.strings.proofs.put.Reads as put_reads
 
-abbrev invariant-loop : tie.invariant-loop
-invariant-loop out₀ w s i₀ out i = (i ≤ length s) × (out ≡ sets out₀ w (take i s))
+abbrev invariant_loop : tie.invariant-loop
+invariant_loop out₀ w s i₀ out i = (i ≤ length s) × (out ≡ sets out₀ w (take i s))
 
-abbrev decreases-loop : tie.decreases-loop
-decreases-loop out₀ w s i₀ out i = length s - i
+abbrev decreases_loop : tie.decreases-loop
+decreases_loop out₀ w s i₀ out i = length s - i
 
-add-result : tie.Need-overflow-add-result invariant-loop decreases-loop
-add-result c = omega arith
+add_result : tie.Need-overflow-add-result invariant_loop decreases_loop
+add_result c = omega arith
 
-returns : tie.Need-returns invariant-loop decreases-loop
+returns : tie.Need-returns invariant_loop decreases_loop
 returns c =
     let args = c.before.before.before.args in
     record { to = refl; stored = full args.out.now args.w args.s.now c.if1.true }
 
-loop-holds : tie.Need-loop-init invariant-loop decreases-loop
-loop-holds c = (omega arith, refl)
+loop_holds : tie.Need-loop-init invariant_loop decreases_loop
+loop_holds c = (omega arith, refl)
 
-add-put : tie.Need-overflow-add-put invariant-loop decreases-loop
-add-put c = omega arith
+add_put : tie.Need-overflow-add-put invariant_loop decreases_loop
+add_put c = omega arith
 
-shared-slice-read-put : tie.Need-shared-slice-read-put invariant-loop decreases-loop
-shared-slice-read-put c = omega arith
+shared_slice_read_put : tie.Need-shared-slice-read-put invariant_loop decreases_loop
+shared_slice_read_put c = omega arith
 
-put-requires : tie.Need-put-requires invariant-loop decreases-loop
-put-requires c κs = tt
+put_requires : tie.Need-put-requires invariant_loop decreases_loop
+put_requires c κs = tt
 
-add-i : tie.Need-overflow-add-i invariant-loop decreases-loop
-add-i c = omega arith
+add_i : tie.Need-overflow-add-i invariant_loop decreases_loop
+add_i c = omega arith
 
-loop-less : tie.Need-loop-smaller invariant-loop decreases-loop
-loop-less c = omega arith
+loop_less : tie.Need-loop-smaller invariant_loop decreases_loop
+loop_less c = omega arith
 
-loop-again : tie.Need-loop-preserved invariant-loop decreases-loop
-loop-again c =
+loop_again : tie.Need-loop-preserved invariant_loop decreases_loop
+loop_again c =
     let inv = c.before.before.before.before.before.before.loop.invariant in
     (omega arith, c.before.before.put.ensures ∙ copied _ _ _ _ _ (omega arith) inv.1)
 
-add-result-2 : tie.Need-overflow-add-result-2 invariant-loop decreases-loop
-add-result-2 c = omega arith
+add_result_2 : tie.Need-overflow-add-result-2 invariant_loop decreases_loop
+add_result_2 c = omega arith
 
-same_length : tie.Need-same-length invariant-loop decreases-loop
+same_length : tie.Need-same-length invariant_loop decreases_loop
 same_length c = ap length c.before.loop.invariant.1 ∙ simp length-sets
 
-returns-2 : tie.Need-returns-2 invariant-loop decreases-loop
-returns-2 c =
+returns_2 : tie.Need-returns-2 invariant_loop decreases_loop
+returns_2 c =
     let inv = c.before in
     record { to = refl; stored = inv.loop.invariant.1 ∙ ap (λ l. sets c.before.before.before.before.before.args.out.now c.before.before.before.before.before.args.w l) (take_all _ _ c.loop-test.false) }
 
-pub put-some-spec : {M : Type 1} → statement M
-put-some-spec =
+pub put_some_spec : {M : Type 1} → statement M
+put_some_spec =
     tie.close
     (tie.spec
-    invariant-loop
-    decreases-loop
-    add-result
+    invariant_loop
+    decreases_loop
+    add_result
     returns
-    loop-holds
-    add-put
-    shared-slice-read-put
-    put-requires
-    add-i
-    loop-less
-    loop-again
-    add-result-2
+    loop_holds
+    add_put
+    shared_slice_read_put
+    put_requires
+    add_i
+    loop_less
+    loop_again
+    add_result_2
     same_length
-    returns-2)
+    returns_2)

@@ -10,75 +10,75 @@ use Rattle.grammar.proofs.WritingLaws.{copied}
 use Rattle.grammar.proofs.writers.put_text.Statement.{statement}
 use Rattle.grammar.proofs.writers.put_text.Tie as tie
 
-abbrev invariant-loop : tie.invariant-loop
-invariant-loop out₀ w s i₀ out i = (i ≤ length s) × (out ≡ sets out₀ w (take i s)) × (w + length s ≤ length out)
+abbrev invariant_loop : tie.invariant-loop
+invariant_loop out₀ w s i₀ out i = (i ≤ length s) × (out ≡ sets out₀ w (take i s)) × (w + length s ≤ length out)
 
-abbrev decreases-loop : tie.decreases-loop
-decreases-loop out₀ w s i₀ out i = length s - i
+abbrev decreases_loop : tie.decreases-loop
+decreases_loop out₀ w s i₀ out i = length s - i
 
-add-if1 : tie.Need-overflow-add-if1 invariant-loop decreases-loop
-add-if1 c = omega arith
+add_if1 : tie.Need-overflow-add-if1 invariant_loop decreases_loop
+add_if1 c = omega arith
 
-put-some-requires : tie.Need-put-some-requires invariant-loop decreases-loop
-put-some-requires c κs = search rules
+put_some_requires : tie.Need-put-some-requires invariant_loop decreases_loop
+put_some_requires c κs = search rules
 
-same_length : tie.Need-same-length invariant-loop decreases-loop
+same_length : tie.Need-same-length invariant_loop decreases_loop
 same_length c = search rules
 
-returns : tie.Need-returns invariant-loop decreases-loop
+returns : tie.Need-returns invariant_loop decreases_loop
 returns c = c.before.before.put_some_lem.ensures
 
-loop-holds : tie.Need-loop-init invariant-loop decreases-loop
-loop-holds c = (omega arith, refl, omega arith)
+loop_holds : tie.Need-loop-init invariant_loop decreases_loop
+loop_holds c = (omega arith, refl, omega arith)
 
-shared-slice-read-out : tie.Need-shared-slice-read-out invariant-loop decreases-loop
-shared-slice-read-out c = omega arith
+shared_slice_read_out : tie.Need-shared-slice-read-out invariant_loop decreases_loop
+shared_slice_read_out c = omega arith
 
-add-out : tie.Need-overflow-add-out invariant-loop decreases-loop
-add-out c = omega arith
+add_out : tie.Need-overflow-add-out invariant_loop decreases_loop
+add_out c = omega arith
 
-slice-write-out : tie.Need-slice-write-out invariant-loop decreases-loop
-slice-write-out c = omega arith
+slice_write_out : tie.Need-slice-write-out invariant_loop decreases_loop
+slice_write_out c = omega arith
 
-add-i : tie.Need-overflow-add-i invariant-loop decreases-loop
-add-i c = omega arith
+add_i : tie.Need-overflow-add-i invariant_loop decreases_loop
+add_i c = omega arith
 
-loop-less : tie.Need-loop-smaller invariant-loop decreases-loop
-loop-less c = omega arith
+loop_less : tie.Need-loop-smaller invariant_loop decreases_loop
+loop_less c = omega arith
 
-loop-again : tie.Need-loop-preserved invariant-loop decreases-loop
-loop-again c =
+loop_again : tie.Need-loop-preserved invariant_loop decreases_loop
+loop_again c =
     let inv = c.before.before.loop.invariant in
     (omega arith, copied _ _ _ _ _ (omega arith) inv.1, simp length-set (omega arith))
 
-add-result : tie.Need-overflow-add-result invariant-loop decreases-loop
-add-result c = omega arith
+add_result : tie.Need-overflow-add-result invariant_loop decreases_loop
+add_result c = omega arith
 
-same-length-2 : tie.Need-same-length-2 invariant-loop decreases-loop
-same-length-2 c = ap length c.before.loop.invariant.1 ∙ simp length-sets
+same_length_2 : tie.Need-same-length-2 invariant_loop decreases_loop
+same_length_2 c = ap length c.before.loop.invariant.1 ∙ simp length-sets
 
-returns-2 : tie.Need-returns-2 invariant-loop decreases-loop
-returns-2 c =
+returns_2 : tie.Need-returns-2 invariant_loop decreases_loop
+returns_2 c =
     let args = c.before.before.before.before.before.args in
     record { to = refl; stored = c.before.loop.invariant.1 ∙ ap (λ l. sets args.out.now args.w l) (take_all _ _ c.loop-test.false) }
 
-pub put-text-spec : {M : Type 1} → statement M
-put-text-spec =
+pub put_text_spec : {M : Type 1} → statement M
+put_text_spec =
     tie.close
     (tie.spec
-    invariant-loop
-    decreases-loop
-    add-if1
-    put-some-requires
+    invariant_loop
+    decreases_loop
+    add_if1
+    put_some_requires
     same_length
     returns
-    loop-holds
-    shared-slice-read-out
-    add-out
-    slice-write-out
-    add-i
-    loop-less
-    loop-again
-    add-result
-    same-length-2
-    returns-2)
+    loop_holds
+    shared_slice_read_out
+    add_out
+    slice_write_out
+    add_i
+    loop_less
+    loop_again
+    add_result
+    same_length_2
+    returns_2)

@@ -3,65 +3,65 @@
 use borrow.Author.Rules.{rules}
 use lib.ListN.{get_or}
 use Rattle.images.specs.Inner.{forward}
-use Rattle.images.proofs.CodeLaws.{onward-not, onward-more, onward-last}
+use Rattle.images.proofs.CodeLaws.{onward_not, onward_more, onward_last}
 use Rattle.images.proofs.asks.forward.Statement.{statement}
 use Rattle.images.proofs.asks.forward.Tie as tie
 
-array-read-if1 : tie.Need-array-read-if1
-array-read-if1 c = search rules
+array_read_if1 : tie.Need-array-read-if1
+array_read_if1 c = search rules
 
 returns : tie.Need-returns
 unfolding forward
-returns c = onward-not _ _ c.if1.true
+returns c = onward_not _ _ c.if1.true
 
-array-read-if2 : tie.Need-array-read-if2
-array-read-if2 c = search rules
+array_read_if2 : tie.Need-array-read-if2
+array_read_if2 c = search rules
 
-returns-2 : tie.Need-returns-2
+returns_2 : tie.Need-returns-2
 unfolding forward
-returns-2 c = onward-more _ _ _ c.before.if1.false (onward-not _ _ c.if2.true)
+returns_2 c = onward_more _ _ _ c.before.if1.false (onward_not _ _ c.if2.true)
 
-array-read-if3 : tie.Need-array-read-if3
-array-read-if3 c = search rules
+array_read_if3 : tie.Need-array-read-if3
+array_read_if3 c = search rules
 
-returns-3 : tie.Need-returns-3
+returns_3 : tie.Need-returns-3
 unfolding forward
-returns-3 c = onward-more _ _ _ c.before.before.if1.false (onward-more _ _ _ c.before.if2.false (onward-not _ _ c.if3.true))
+returns_3 c = onward_more _ _ _ c.before.before.if1.false (onward_more _ _ _ c.before.if2.false (onward_not _ _ c.if3.true))
 
-array-read-if4 : tie.Need-array-read-if4
-array-read-if4 c = search rules
+array_read_if4 : tie.Need-array-read-if4
+array_read_if4 c = search rules
 
-returns-4 : tie.Need-returns-4
+returns_4 : tie.Need-returns-4
 unfolding forward
-returns-4 c = onward-more _ _ _ c.before.before.before.if1.false (onward-more _ _ _ c.before.before.if2.false (onward-more _ _ _ c.before.if3.false (onward-not _ _ c.if4.true)))
+returns_4 c = onward_more _ _ _ c.before.before.before.if1.false (onward_more _ _ _ c.before.before.if2.false (onward_more _ _ _ c.before.if3.false (onward_not _ _ c.if4.true)))
 
-array-read-if5 : tie.Need-array-read-if5
-array-read-if5 c = search rules
+array_read_if5 : tie.Need-array-read-if5
+array_read_if5 c = search rules
 
-returns-5 : tie.Need-returns-5
+returns_5 : tie.Need-returns-5
 unfolding forward
-returns-5 c = onward-more _ _ _ c.before.before.before.before.if1.false (onward-more _ _ _ c.before.before.before.if2.false (onward-more _ _ _ c.before.before.if3.false (onward-more _ _ _ c.before.if4.false (onward-not _ _ c.if5.true))))
+returns_5 c = onward_more _ _ _ c.before.before.before.before.if1.false (onward_more _ _ _ c.before.before.before.if2.false (onward_more _ _ _ c.before.before.if3.false (onward_more _ _ _ c.before.if4.false (onward_not _ _ c.if5.true))))
 
-array-read-result : tie.Need-array-read-result
-array-read-result c = search rules
+array_read_result : tie.Need-array-read-result
+array_read_result c = search rules
 
-returns-6 : tie.Need-returns-6
+returns_6 : tie.Need-returns-6
 unfolding forward
-returns-6 c = onward-more _ _ _ c.before.before.before.before.if1.false (onward-more _ _ _ c.before.before.before.if2.false (onward-more _ _ _ c.before.before.if3.false (onward-more _ _ _ c.before.if4.false (onward-more _ _ _ c.if5.false (onward-last (get_or c.before.before.before.before.before.args.t1 5 0))))))
+returns_6 c = onward_more _ _ _ c.before.before.before.before.if1.false (onward_more _ _ _ c.before.before.before.if2.false (onward_more _ _ _ c.before.before.if3.false (onward_more _ _ _ c.before.if4.false (onward_more _ _ _ c.if5.false (onward_last (get_or c.before.before.before.before.before.args.t1 5 0))))))
 
-pub forward-spec : {M : Type 1} → statement M
-forward-spec =
+pub forward_spec : {M : Type 1} → statement M
+forward_spec =
     tie.close
     (tie.spec
-    array-read-if1
+    array_read_if1
     returns
-    array-read-if2
-    returns-2
-    array-read-if3
-    returns-3
-    array-read-if4
-    returns-4
-    array-read-if5
-    returns-5
-    array-read-result
-    returns-6)
+    array_read_if2
+    returns_2
+    array_read_if3
+    returns_3
+    array_read_if4
+    returns_4
+    array_read_if5
+    returns_5
+    array_read_result
+    returns_6)

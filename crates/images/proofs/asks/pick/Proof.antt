@@ -9,9 +9,9 @@ returns : tie.Need-returns
 unfolding pick
 returns c = rw c.if1.true
 
-returns-2 : tie.Need-returns-2
+returns_2 : tie.Need-returns-2
 unfolding pick
-returns-2 c = rw (ne_eqb _ _ c.if1.false)
+returns_2 c = rw (ne_eqb _ _ c.if1.false)
 
 pub pick_spec : {M : Type 1} → statement M
-pick_spec = tie.close (tie.spec returns returns-2)
+pick_spec = tie.close (tie.spec returns returns_2)

@@ -7,8 +7,8 @@ use Rattle.images.proofs.asks.rest_kind.Tie as tie
 returns : tie.Need-returns
 returns c = rw c.if1.true
 
-returns-2 : tie.Need-returns-2
-returns-2 c = rw (ne_eqb _ _ c.if1.false)
+returns_2 : tie.Need-returns-2
+returns_2 c = rw (ne_eqb _ _ c.if1.false)
 
-pub rest-kind-spec : {M : Type 1} → statement M
-rest-kind-spec = tie.close (tie.spec returns returns-2)
+pub rest_kind_spec : {M : Type 1} → statement M
+rest_kind_spec = tie.close (tie.spec returns returns_2)

@@ -9,9 +9,9 @@ returns : tie.Need-returns
 unfolding unless
 returns c = rw c.if1.true
 
-returns-2 : tie.Need-returns-2
+returns_2 : tie.Need-returns-2
 unfolding unless
-returns-2 c = rw (ne_eqb _ _ c.if1.false)
+returns_2 c = rw (ne_eqb _ _ c.if1.false)
 
-pub unless-spec : {M : Type 1} → statement M
-unless-spec = tie.close (tie.spec returns returns-2)
+pub unless_spec : {M : Type 1} → statement M
+unless_spec = tie.close (tie.spec returns returns_2)

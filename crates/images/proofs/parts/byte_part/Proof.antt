@@ -3,43 +3,43 @@
 use native.Mathlib.Omega.{arith}
 use borrow.Author.Rules.{rules}
 use Rattle.images.specs.Inner.{Gets}
-use Rattle.images.proofs.CodeLaws.{get-byte}
+use Rattle.images.proofs.CodeLaws.{get_byte}
 use Rattle.images.proofs.parts.byte_part.Statement.{statement}
 use Rattle.images.proofs.parts.byte_part.Tie as tie
 
 returns : tie.Need-returns
 returns c = (Gets.no_byte c.before.before.requires.2 c.if1.true, omega arith)
 
-shared-slice-read-wide : tie.Need-shared-slice-read-wide
-shared-slice-read-wide c = search rules
+shared_slice_read_wide : tie.Need-shared-slice-read-wide
+shared_slice_read_wide c = search rules
 
-wide-requires : tie.Need-wide-requires
-wide-requires c κs = search rules
+wide_requires : tie.Need-wide-requires
+wide_requires c κs = search rules
 
-limit-requires : tie.Need-limit-requires
-limit-requires c κs = search rules
+limit_requires : tie.Need-limit-requires
+limit_requires c κs = search rules
 
-returns-2 : tie.Need-returns-2
-returns-2 c = (Gets.bad-byte c.before.before.before.before.before.before.requires.2 (omega arith) (omega (arith, c.before.before.wide.ensures, c.before.limit.ensures, c.if2.true)), omega arith)
+returns_2 : tie.Need-returns-2
+returns_2 c = (Gets.bad_byte c.before.before.before.before.before.before.requires.2 (omega arith) (omega (arith, c.before.before.wide.ensures, c.before.limit.ensures, c.if2.true)), omega arith)
 
-told-requires : tie.Need-told-requires
-told-requires c κs = search rules
+told_requires : tie.Need-told-requires
+told_requires c κs = search rules
 
-add-t11 : tie.Need-overflow-add-t11
-add-t11 c = search rules
+add_t11 : tie.Need-overflow-add-t11
+add_t11 c = search rules
 
-returns-3 : tie.Need-returns-3
-returns-3 c = (get-byte c.before.before.before.before.before.before.before.requires.2 (omega arith) c.before.before.before.wide.ensures.0 (omega (arith, c.before.before.limit.ensures, c.before.if2.false)) c.told.ensures.0, omega (arith, c.told.ensures.1))
+returns_3 : tie.Need-returns-3
+returns_3 c = (get_byte c.before.before.before.before.before.before.before.requires.2 (omega arith) c.before.before.before.wide.ensures.0 (omega (arith, c.before.before.limit.ensures, c.before.if2.false)) c.told.ensures.0, omega (arith, c.told.ensures.1))
 
-pub byte-part-spec : {M : Type 1} → statement M
-byte-part-spec =
+pub byte_part_spec : {M : Type 1} → statement M
+byte_part_spec =
     tie.close
     (tie.spec
     returns
-    shared-slice-read-wide
-    wide-requires
-    limit-requires
-    returns-2
-    told-requires
-    add-t11
-    returns-3)
+    shared_slice_read_wide
+    wide_requires
+    limit_requires
+    returns_2
+    told_requires
+    add_t11
+    returns_3)

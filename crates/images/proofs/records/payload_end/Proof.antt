@@ -7,31 +7,31 @@ use Rattle.images.proofs.CodeLaws.{ends_at}
 use Rattle.images.proofs.records.payload_end.Statement.{statement}
 use Rattle.images.proofs.records.payload_end.Tie as tie
 
-sub-left : tie.Need-overflow-sub-left
-sub-left c = search rules
+sub_left : tie.Need-overflow-sub-left
+sub_left c = search rules
 
 returns : tie.Need-returns
-returns c = Extends.cut-header (omega arith)
+returns c = Extends.cut_header (omega arith)
 
-add-number : tie.Need-overflow-add-number
-add-number c = search rules
+add_number : tie.Need-overflow-add-number
+add_number c = search rules
 
-number-requires : tie.Need-number-requires
-number-requires c κs = search rules
+number_requires : tie.Need-number-requires
+number_requires c κs = search rules
 
-returns-2 : tie.Need-returns-2
-returns-2 c = Extends.cut-payload (omega arith) (omega (arith, c.before.number.ensures.0))
+returns_2 : tie.Need-returns-2
+returns_2 c = Extends.cut_payload (omega arith) (omega (arith, c.before.number.ensures.0))
 
-add-t5 : tie.Need-overflow-add-t5
-add-t5 c = search rules
+add_t5 : tie.Need-overflow-add-t5
+add_t5 c = search rules
 
-add-t7 : tie.Need-overflow-add-t7
-add-t7 c = search rules
+add_t7 : tie.Need-overflow-add-t7
+add_t7 c = search rules
 
-returns-3 : tie.Need-returns-3
-returns-3 c = ends_at c.before.number.ensures.0 (omega arith)
+returns_3 : tie.Need-returns-3
+returns_3 c = ends_at c.before.number.ensures.0 (omega arith)
 
-pub payload-end-spec : {M : Type 1} → statement M
-payload-end-spec =
+pub payload_end_spec : {M : Type 1} → statement M
+payload_end_spec =
     tie.close
-    (tie.spec sub-left returns add-number number-requires returns-2 add-t5 add-t7 returns-3)
+    (tie.spec sub_left returns add_number number_requires returns_2 add_t5 add_t7 returns_3)

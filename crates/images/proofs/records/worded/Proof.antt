@@ -4,87 +4,87 @@ use mathlib.Core.Path.{refl}
 use Prim.Native.Nat.{◌-◌}
 use native.Mathlib.Omega.{arith}
 use borrow.Author.Rules.{rules}
-use Rattle.images.proofs.CodeLaws.{free-says, number-says, utf8-says, name-says, empty-says, none-says, part_length}
+use Rattle.images.proofs.CodeLaws.{free_says, number_says, utf8_says, name_says, empty_says, none_says, part_length}
 use Rattle.images.proofs.records.worded.Statement.{statement}
 use Rattle.images.proofs.records.worded.Tie as tie
 
-sub-from : tie.Need-overflow-sub-from
-sub-from c = search rules
+sub_from : tie.Need-overflow-sub-from
+sub_from c = search rules
 
-sub-is-number : tie.Need-overflow-sub-is-number
-sub-is-number c = search rules
+sub_is_number : tie.Need-overflow-sub-is-number
+sub_is_number c = search rules
 
-part-is-number-start : tie.Need-slice-bounds-is-number-start
-part-is-number-start c = search rules
+part_is_number_start : tie.Need-slice-bounds-is-number-start
+part_is_number_start c = search rules
 
-part-is-number-end : tie.Need-slice-bounds-is-number-end
-part-is-number-end c = search rules
+part_is_number_end : tie.Need-slice-bounds-is-number-end
+part_is_number_end c = search rules
 
-is-number-requires : tie.Need-is-number-requires
-is-number-requires c κs = search rules
+is_number_requires : tie.Need-is-number-requires
+is_number_requires c κs = search rules
 
-sub-is-utf8 : tie.Need-overflow-sub-is-utf8
-sub-is-utf8 c = search rules
+sub_is_utf8 : tie.Need-overflow-sub-is-utf8
+sub_is_utf8 c = search rules
 
-part-is-utf8-start : tie.Need-slice-bounds-is-utf8-start
-part-is-utf8-start c = search rules
+part_is_utf8_start : tie.Need-slice-bounds-is-utf8-start
+part_is_utf8_start c = search rules
 
-part-is-utf8-end : tie.Need-slice-bounds-is-utf8-end
-part-is-utf8-end c = search rules
+part_is_utf8_end : tie.Need-slice-bounds-is-utf8-end
+part_is_utf8_end c = search rules
 
-is-utf8-requires : tie.Need-is-utf8-requires
-is-utf8-requires c κs = search rules
+is_utf8_requires : tie.Need-is-utf8-requires
+is_utf8_requires c κs = search rules
 
-sub-is-name : tie.Need-overflow-sub-is-name
-sub-is-name c = search rules
+sub_is_name : tie.Need-overflow-sub-is-name
+sub_is_name c = search rules
 
-part-is-name-start : tie.Need-slice-bounds-is-name-start
-part-is-name-start c = search rules
+part_is_name_start : tie.Need-slice-bounds-is-name-start
+part_is_name_start c = search rules
 
-part-is-name-end : tie.Need-slice-bounds-is-name-end
-part-is-name-end c = search rules
+part_is_name_end : tie.Need-slice-bounds-is-name-end
+part_is_name_end c = search rules
 
-is-name-requires : tie.Need-is-name-requires
-is-name-requires c κs = search rules
+is_name_requires : tie.Need-is-name-requires
+is_name_requires c κs = search rules
 
 returns : tie.Need-returns
-returns c = free-says c.match.keys1
+returns c = free_says c.match.keys1
 
-returns-2 : tie.Need-returns-2
-returns-2 c = number-says c.before.before.match.keys2 c.is_number.ensures
+returns_2 : tie.Need-returns-2
+returns_2 c = number_says c.before.before.match.keys2 c.is_number.ensures
 
-returns-3 : tie.Need-returns-3
-returns-3 c = utf8-says c.before.before.match.keys3 c.is-utf8.ensures
+returns_3 : tie.Need-returns-3
+returns_3 c = utf8_says c.before.before.match.keys3 c.is-utf8.ensures
 
-returns-4 : tie.Need-returns-4
-returns-4 c = name-says c.before.before.match.keys4 c.is_name.ensures
+returns_4 : tie.Need-returns-4
+returns_4 c = name_says c.before.before.match.keys4 c.is_name.ensures
 
-returns-5 : tie.Need-returns-5
-returns-5 c = empty-says _ c.match.keys5 (part_length c.before.before.args.bytes.now c.before.before.args.size c.before.before.args.end c.before.before.requires.0 c.before.before.requires.1)
+returns_5 : tie.Need-returns-5
+returns_5 c = empty_says _ c.match.keys5 (part_length c.before.before.args.bytes.now c.before.before.args.size c.before.before.args.end c.before.before.requires.0 c.before.before.requires.1)
 
-returns-6 : tie.Need-returns-6
-returns-6 c = none-says (λ h. omega (arith, c.match.rest))
+returns_6 : tie.Need-returns-6
+returns_6 c = none_says (λ h. omega (arith, c.match.rest))
 
-pub worded-spec : {M : Type 1} → statement M
-worded-spec =
+pub worded_spec : {M : Type 1} → statement M
+worded_spec =
     tie.close
     (tie.spec
-    sub-from
-    sub-is-number
-    part-is-number-start
-    part-is-number-end
-    is-number-requires
-    sub-is-utf8
-    part-is-utf8-start
-    part-is-utf8-end
-    is-utf8-requires
-    sub-is-name
-    part-is-name-start
-    part-is-name-end
-    is-name-requires
+    sub_from
+    sub_is_number
+    part_is_number_start
+    part_is_number_end
+    is_number_requires
+    sub_is_utf8
+    part_is_utf8_start
+    part_is_utf8_end
+    is_utf8_requires
+    sub_is_name
+    part_is_name_start
+    part_is_name_end
+    is_name_requires
     returns
-    returns-2
-    returns-3
-    returns-4
-    returns-5
-    returns-6)
+    returns_2
+    returns_3
+    returns_4
+    returns_5
+    returns_6)

@@ -1,21 +1,21 @@
 -- `sorts::is` meets its contract.
 -- Assumes nothing.
 use borrow.Author.Rules.{rules}
-use Rattle.images.proofs.CodeLaws.{is-own, is-wider}
+use Rattle.images.proofs.CodeLaws.{is_own, is_wider}
 use Rattle.images.proofs.sorts.is.Statement.{statement}
 use Rattle.images.proofs.sorts.is.Tie as tie
 
-sort-of-requires : tie.Need-sort-of-requires
-sort-of-requires c κs = search rules
+sort_of_requires : tie.Need-sort-of-requires
+sort_of_requires c κs = search rules
 
 returns : tie.Need-returns
-returns c = is-own _ _ _ c.before.sort-of.ensures c.if1.true
+returns c = is_own _ _ _ c.before.sort_of.ensures c.if1.true
 
-wider-requires : tie.Need-wider-requires
-wider-requires c κs = search rules
+wider_requires : tie.Need-wider-requires
+wider_requires c κs = search rules
 
-returns-2 : tie.Need-returns-2
-returns-2 c = is-wider _ _ _ _ c.before.before.sort-of.ensures c.before.if1.false c.wider.ensures
+returns_2 : tie.Need-returns-2
+returns_2 c = is_wider _ _ _ _ c.before.before.sort_of.ensures c.before.if1.false c.wider.ensures
 
-pub is-spec : {M : Type 1} → statement M
-is-spec = tie.close (tie.spec sort-of-requires returns wider-requires returns-2)
+pub is_spec : {M : Type 1} → statement M
+is_spec = tie.close (tie.spec sort_of_requires returns wider_requires returns_2)

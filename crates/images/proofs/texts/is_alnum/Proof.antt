@@ -4,35 +4,35 @@ use mathlib.Core.Bool.{not}
 use native.Mathlib.Omega.{arith}
 use lib.Dec.{T}
 use borrow.Author.Rules.{rules}
-use Rattle.regex.specs.Regex.{inClass}
-use Rattle.regex.proofs.Bools.{implies, refutes, true-is, false-is}
+use Rattle.regex.specs.Regex.{in_class}
+use Rattle.regex.proofs.Bools.{implies, refutes, true_is, false_is}
 use Rattle.lexemes.specs.Rules.{alpha, alnum}
-use Rattle.images.proofs.TextLaws.{has, lacks, alnum-of, no-alnum, is-so, is-not}
+use Rattle.images.proofs.TextLaws.{has, lacks, alnum_of, no_alnum, is_so, is_not}
 use Rattle.images.proofs.texts.is_alnum.Statement.{statement}
 use Rattle.images.proofs.texts.is_alnum.Tie as tie
 
 returns : tie.Need-returns
 unfolding implies
-returns c = let at = c.before in lacks (inClass alnum) 0 47 at.args.b at.ranges.b.fits (omega arith) (omega arith) tt
+returns c = let at = c.before in lacks (in_class alnum) 0 47 at.args.b at.ranges.b.fits (omega arith) (omega arith) tt
 
-returns-2 : tie.Need-returns-2
+returns_2 : tie.Need-returns-2
 unfolding implies
-returns-2 c = let at = c.before.before in has (inClass alnum) 48 57 at.args.b at.ranges.b.fits (omega arith) (omega arith) tt
+returns_2 c = let at = c.before.before in has (in_class alnum) 48 57 at.args.b at.ranges.b.fits (omega arith) (omega arith) tt
 
-is-alpha-requires : tie.Need-is-alpha-requires
-is-alpha-requires c κs = search rules
+is_alpha_requires : tie.Need-is-alpha-requires
+is_alpha_requires c κs = search rules
 
-returns-3 : tie.Need-returns-3
-returns-3 c =
+returns_3 : tie.Need-returns-3
+returns_3 c =
     let at = c.before.before.before.before in
-    let letter : T (inClass alpha at.args.b) = is-so c.before.is-alpha.ensures c.if3.true in
-    true-is (inClass alnum at.args.b) (alnum-of at.ranges.b.fits letter)
+    let letter : T (in_class alpha at.args.b) = is_so c.before.is-alpha.ensures c.if3.true in
+    true_is (in_class alnum at.args.b) (alnum_of at.ranges.b.fits letter)
 
-returns-4 : tie.Need-returns-4
-returns-4 c =
+returns_4 : tie.Need-returns-4
+returns_4 c =
     let at = c.before.before.before.before in
-    let none : T (not (inClass alpha at.args.b)) = refutes (inClass alpha at.args.b) (is-not c.before.is-alpha.ensures c.if3.false) in
-    false-is (inClass alnum at.args.b) (no-alnum at.ranges.b.fits (omega arith) none)
+    let none : T (not (in_class alpha at.args.b)) = refutes (in_class alpha at.args.b) (is_not c.before.is-alpha.ensures c.if3.false) in
+    false_is (in_class alnum at.args.b) (no_alnum at.ranges.b.fits (omega arith) none)
 
-pub is-alnum-spec : {M : Type 1} → statement M
-is-alnum-spec = tie.close (tie.spec returns returns-2 is-alpha-requires returns-3 returns-4)
+pub is_alnum_spec : {M : Type 1} → statement M
+is_alnum_spec = tie.close (tie.spec returns returns_2 is_alpha_requires returns_3 returns_4)

@@ -13,8 +13,8 @@ use Rattle.blocks.specs.Inside.{holds, fails}
 use Rattle.images.proofs.texts.is_utf8.Statement.{statement}
 use Rattle.images.proofs.texts.is_utf8.Tie as tie
 
-valid-to-requires : tie.Need-valid-to-requires
-valid-to-requires c κs = search rules
+valid_to_requires : tie.Need-valid-to-requires
+valid_to_requires c κs = search rules
 
 returns : tie.Need-returns
 returns c =
@@ -22,11 +22,11 @@ returns c =
     let valid_to = c.before.valid_to in
     fails (λ u. omega (arith, c.if1.true, valid_to.ensures.longest (length s) (le_refl (length s)) (subst (λ (l : List ℕ). Utf8 l) (sym (take-length s)) u)))
 
-returns-2 : tie.Need-returns-2
-returns-2 c =
+returns_2 : tie.Need-returns-2
+returns_2 c =
     let s = c.before.before.before.args.text.now in
     let valid_to = c.before.valid_to in
     holds (subst (λ (l : List ℕ). Utf8 l) (take_all valid_to.result s c.if1.false) valid_to.ensures.valid)
 
-pub is-utf8-spec : {M : Type 1} → statement M
-is-utf8-spec = tie.close (tie.spec valid-to-requires returns returns-2)
+pub is_utf8_spec : {M : Type 1} → statement M
+is_utf8_spec = tie.close (tie.spec valid_to_requires returns returns_2)

@@ -1,15 +1,15 @@
 -- `begun` meets its contract.
 -- Assumes nothing.
 use mathlib.Core.Path.{sym, ◌∙◌}
-use Rattle.json.proofs.Scans.{begun-zero, begun-int}
+use Rattle.json.proofs.Scans.{begun_zero, begun_int}
 use Rattle.json.proofs.scan.begun.Statement.{statement}
 use Rattle.json.proofs.scan.begun.Tie as tie
 
 returns : tie.Need-returns
-returns c = sym (begun-zero c.before.args.b c.if1.true)
+returns c = sym (begun_zero c.before.args.b c.if1.true)
 
-returns-2 : tie.Need-returns-2
-returns-2 c = sym (begun-int c.before.args.b c.if1.false)
+returns_2 : tie.Need-returns-2
+returns_2 c = sym (begun_int c.before.args.b c.if1.false)
 
-pub begun-spec : {M : Type 1} → statement M
-begun-spec = tie.close (tie.spec returns returns-2)
+pub begun_spec : {M : Type 1} → statement M
+begun_spec = tie.close (tie.spec returns returns_2)

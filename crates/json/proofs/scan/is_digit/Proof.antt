@@ -1,4 +1,4 @@
--- `is_digit` meets its contract.
+-- `is_digit_lem` meets its contract.
 -- Assumes nothing.
 use mathlib.Core.Path.{◌≡◌, refl, sym}
 use mathlib.Core.Bool.{true}
@@ -12,8 +12,8 @@ use Rattle.json.proofs.scan.is_digit.Tie as tie
 returns : tie.Need-returns
 returns c = sym (below 0x30 0x39 c.before.args.b (omega arith))
 
-returns-2 : tie.Need-returns-2
-returns-2 c = let low : leb 0x30 c.before.args.b ≡ true = le-leb 0x30 c.before.args.b (omega arith) in rw low refl
+returns_2 : tie.Need-returns-2
+returns_2 c = let low : leb 0x30 c.before.args.b ≡ true = le-leb 0x30 c.before.args.b (omega arith) in rw low refl
 
-pub is-digit-spec : {M : Type 1} → statement M
-is-digit-spec = tie.close (tie.spec returns returns-2)
+pub is_digit_spec : {M : Type 1} → statement M
+is_digit_spec = tie.close (tie.spec returns returns_2)

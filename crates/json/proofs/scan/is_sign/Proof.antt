@@ -4,20 +4,20 @@ use mathlib.Core.Path.{refl, sym, ap}
 use Prim.Native.Nat.{ℕ}
 use native.Mathlib.Omega.{arith}
 use borrow.Author.Tests.{ne_eqb}
-use Rattle.json.specs.Machine.{isSign}
+use Rattle.json.specs.Machine.{is_sign}
 use Rattle.json.proofs.scan.is_sign.Statement.{statement}
 use Rattle.json.proofs.scan.is_sign.Tie as tie
 
 returns : tie.Need-returns
-returns c = sym (ap (λ (b : ℕ). isSign b) c.match.keys1)
+returns c = sym (ap (λ (b : ℕ). is_sign b) c.match.keys1)
 
-returns-2 : tie.Need-returns-2
-returns-2 c = sym (ap (λ (b : ℕ). isSign b) c.match.keys2)
+returns_2 : tie.Need-returns-2
+returns_2 c = sym (ap (λ (b : ℕ). is_sign b) c.match.keys2)
 
-returns-3 : tie.Need-returns-3
-returns-3 c =
+returns_3 : tie.Need-returns-3
+returns_3 c =
     let b = c.before.args.b in
     sym (rw (ne_eqb b 0x2B (λ z. omega (arith, z, c.match.rest)), ne_eqb b 0x2D (λ z. omega (arith, z, c.match.rest))) refl)
 
-pub is-sign-spec : {M : Type 1} → statement M
-is-sign-spec = tie.close (tie.spec returns returns-2 returns-3)
+pub is_sign_spec : {M : Type 1} → statement M
+is_sign_spec = tie.close (tie.spec returns returns_2 returns_3)

@@ -6,14 +6,14 @@ use borrow.Author.Rules.{rules}
 use Rattle.json.proofs.scan.peek.Statement.{statement}
 use Rattle.json.proofs.scan.peek.Tie as tie
 
-shared-slice-read-result : tie.Need-shared-slice-read-result
-shared-slice-read-result c = search rules
+shared_slice_read_result : tie.Need-shared-slice-read-result
+shared_slice_read_result c = search rules
 
 returns : tie.Need-returns
 returns c = search rules
 
-returns-2 : tie.Need-returns-2
-returns-2 c = sym (get_or-eq_default c.before.args.text.now 0 c.if1.false)
+returns_2 : tie.Need-returns-2
+returns_2 c = sym (get_or-eq_default c.before.args.text.now 0 c.if1.false)
 
 pub peek_spec : {M : Type 1} → statement M
-peek_spec = tie.close (tie.spec shared-slice-read-result returns returns-2)
+peek_spec = tie.close (tie.spec shared_slice_read_result returns returns_2)

@@ -6,15 +6,15 @@ use Prim.Native.Nat.{◌/◌, ◌%◌}
 use native.Mathlib.Omega.{arith}
 use lib.ListN.{length-set}
 use borrow.Author.Rules.{rules}
-use Rattle.json.proofs.NextPlaces.{then-byte}
+use Rattle.json.proofs.NextPlaces.{then_byte}
 use Rattle.json.proofs.text.put_head.Statement.{statement}
 use Rattle.json.proofs.text.put_head.Tie as tie
 
-add-end : tie.Need-overflow-add-end
-add-end c = search rules
+add_end : tie.Need-overflow-add-end
+add_end c = search rules
 
-put-head-requires : tie.Need-put-head-requires
-put-head-requires c κs = search rules
+put_head_requires : tie.Need-put-head-requires
+put_head_requires c κs = search rules
 
 same_length : tie.Need-same-length
 same_length c = search rules
@@ -22,52 +22,52 @@ same_length c = search rules
 returns : tie.Need-returns
 returns c = search rules
 
-slice-write-out : tie.Need-slice-write-out
-slice-write-out c = search rules
+slice_write_out : tie.Need-slice-write-out
+slice_write_out c = search rules
 
-cast-out : tie.Need-overflow-cast-out
-cast-out c = search rules
+cast_out : tie.Need-overflow-cast-out
+cast_out c = search rules
 
-add-out : tie.Need-overflow-add-out
-add-out c = search rules
+add_out : tie.Need-overflow-add-out
+add_out c = search rules
 
-slice-write-out-2 : tie.Need-slice-write-out-2
-slice-write-out-2 c = simp length-set (omega arith)
+slice_write_out_2 : tie.Need-slice-write-out-2
+slice_write_out_2 c = simp length-set (omega arith)
 
-cast-out-2 : tie.Need-overflow-cast-out-2
-cast-out-2 c = search rules
+cast_out_2 : tie.Need-overflow-cast-out-2
+cast_out_2 c = search rules
 
-add-out-2 : tie.Need-overflow-add-out-2
-add-out-2 c = search rules
+add_out_2 : tie.Need-overflow-add-out-2
+add_out_2 c = search rules
 
-slice-write-out-3 : tie.Need-slice-write-out-3
-slice-write-out-3 c = simp length-set (omega arith)
+slice_write_out_3 : tie.Need-slice-write-out-3
+slice_write_out_3 c = simp length-set (omega arith)
 
-same-length-2 : tie.Need-same-length-2
-same-length-2 c = simp length-set
+same_length_2 : tie.Need-same-length-2
+same_length_2 c = simp length-set
 
-returns-2 : tie.Need-returns-2
-returns-2 c =
+returns_2 : tie.Need-returns-2
+returns_2 c =
     let out = c.before.before.args.out.now in
     let w = c.before.before.args.w in
     let tag = c.before.before.args.tag in
     let n = c.before.before.args.n in
-    record { to = refl; stored = then-byte out w (tag ∷ n / 256 ∷ []) (n % 256) (then-byte out w (tag ∷ []) (n / 256) refl (omega arith)) (omega arith) }
+    record { to = refl; stored = then_byte out w (tag ∷ n / 256 ∷ []) (n % 256) (then_byte out w (tag ∷ []) (n / 256) refl (omega arith)) (omega arith) }
 
-pub put-head-spec : {M : Type 1} → statement M
-put-head-spec =
+pub put_head_spec : {M : Type 1} → statement M
+put_head_spec =
     tie.close
     (tie.spec
-    add-end
-    put-head-requires
+    add_end
+    put_head_requires
     same_length
     returns
-    slice-write-out
-    cast-out
-    add-out
-    slice-write-out-2
-    cast-out-2
-    add-out-2
-    slice-write-out-3
-    same-length-2
-    returns-2)
+    slice_write_out
+    cast_out
+    add_out
+    slice_write_out_2
+    cast_out_2
+    add_out_2
+    slice_write_out_3
+    same_length_2
+    returns_2)

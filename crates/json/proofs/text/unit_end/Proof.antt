@@ -1,80 +1,80 @@
 -- `unit_end` meets its contract: two digits, and a low half behind a high one.
 -- Assumes nothing.
 use mathlib.Core.Logic.{inl, inr}
-use Rattle.json.proofs.EscapePlaces.{unit-third, unit-fourth, unit-whole, unit-high}
+use Rattle.json.proofs.EscapePlaces.{unit_third, unit_fourth, unit_whole, unit_high}
 use borrow.Author.Rules.{rules}
 use Rattle.json.proofs.text.unit_end.Statement.{statement}
 use Rattle.json.proofs.text.unit_end.Tie as tie
 
-digit-at-requires : tie.Need-digit-at-requires
-digit-at-requires c κs = search rules
+digit_at_requires : tie.Need-digit-at-requires
+digit_at_requires c κs = search rules
 
 returns : tie.Need-returns
-returns c = unit-third _ c.before.digit_at.ensures c.if1.true
+returns c = unit_third _ c.before.digit_at.ensures c.if1.true
 
-add-digit-at : tie.Need-overflow-add-digit-at
-add-digit-at c = search rules
+add_digit_at : tie.Need-overflow-add-digit-at
+add_digit_at c = search rules
 
-digit-at-requires-2 : tie.Need-digit-at-requires-2
-digit-at-requires-2 c κs = search rules
+digit_at_requires_2 : tie.Need-digit-at-requires-2
+digit_at_requires_2 c κs = search rules
 
-add-t9 : tie.Need-overflow-add-t9
-add-t9 c = search rules
+add_t9 : tie.Need-overflow-add-t9
+add_t9 c = search rules
 
-returns-2 : tie.Need-returns-2
-returns-2 c = unit-fourth _ c.before.before.before.digit_at.ensures c.before.before.if1.false c.before.digit-at2.ensures c.if2.true
+returns_2 : tie.Need-returns-2
+returns_2 c = unit_fourth _ c.before.before.before.digit_at.ensures c.before.before.if1.false c.before.digit-at2.ensures c.if2.true
 
-mul-code : tie.Need-overflow-mul-code
-mul-code c = search rules
+mul_code : tie.Need-overflow-mul-code
+mul_code c = search rules
 
-add-code : tie.Need-overflow-add-code
-add-code c = search rules
+add_code : tie.Need-overflow-add-code
+add_code c = search rules
 
-mul-code-2 : tie.Need-overflow-mul-code-2
-mul-code-2 c = search rules
+mul_code_2 : tie.Need-overflow-mul-code-2
+mul_code_2 c = search rules
 
-add-code-2 : tie.Need-overflow-add-code-2
-add-code-2 c = search rules
+add_code_2 : tie.Need-overflow-add-code-2
+add_code_2 c = search rules
 
-add-t13 : tie.Need-overflow-add-t13
-add-t13 c = search rules
+add_t13 : tie.Need-overflow-add-t13
+add_t13 c = search rules
 
-returns-3 : tie.Need-returns-3
-returns-3 c = unit-whole _ c.before.before.before.before.digit_at.ensures c.before.before.before.if1.false c.before.before.digit-at2.ensures c.before.if2.false c.before.before.before.before.before.before.requires.1 (inl c.if3.true)
+returns_3 : tie.Need-returns-3
+returns_3 c = unit_whole _ c.before.before.before.before.digit_at.ensures c.before.before.before.if1.false c.before.before.digit-at2.ensures c.before.if2.false c.before.before.before.before.before.before.requires.1 (inl c.if3.true)
 
-add-t14 : tie.Need-overflow-add-t14
-add-t14 c = search rules
+add_t14 : tie.Need-overflow-add-t14
+add_t14 c = search rules
 
-returns-4 : tie.Need-returns-4
-returns-4 c = unit-whole _ c.before.before.before.before.before.digit_at.ensures c.before.before.before.before.if1.false c.before.before.before.digit-at2.ensures c.before.before.if2.false c.before.before.before.before.before.before.before.requires.1 (inr c.if4.true)
+returns_4 : tie.Need-returns-4
+returns_4 c = unit_whole _ c.before.before.before.before.before.digit_at.ensures c.before.before.before.before.if1.false c.before.before.before.digit-at2.ensures c.before.before.if2.false c.before.before.before.before.before.before.before.requires.1 (inr c.if4.true)
 
-add-low-half : tie.Need-overflow-add-low-half
-add-low-half c = search rules
+add_low_half : tie.Need-overflow-add-low-half
+add_low_half c = search rules
 
-low-half-requires : tie.Need-low-half-requires
-low-half-requires c κs = search rules
+low_half_requires : tie.Need-low-half-requires
+low_half_requires c κs = search rules
 
-returns-5 : tie.Need-returns-5
-returns-5 c = unit-high _ c.before.before.before.before.before.before.digit_at.ensures c.before.before.before.before.before.if1.false c.before.before.before.before.digit-at2.ensures c.before.before.before.if2.false (c.before.before.if3.false, c.before.if4.false) c.low_half_lem.ensures
+returns_5 : tie.Need-returns-5
+returns_5 c = unit_high _ c.before.before.before.before.before.before.digit_at.ensures c.before.before.before.before.before.if1.false c.before.before.before.before.digit-at2.ensures c.before.before.before.if2.false (c.before.before.if3.false, c.before.if4.false) c.low_half_lem.ensures
 
-pub unit-end-spec : {M : Type 1} → statement M
-unit-end-spec =
+pub unit_end_spec : {M : Type 1} → statement M
+unit_end_spec =
     tie.close
     (tie.spec
-    digit-at-requires
+    digit_at_requires
     returns
-    add-digit-at
-    digit-at-requires-2
-    add-t9
-    returns-2
-    mul-code
-    add-code
-    mul-code-2
-    add-code-2
-    add-t13
-    returns-3
-    add-t14
-    returns-4
-    add-low-half
-    low-half-requires
-    returns-5)
+    add_digit_at
+    digit_at_requires_2
+    add_t9
+    returns_2
+    mul_code
+    add_code
+    mul_code_2
+    add_code_2
+    add_t13
+    returns_3
+    add_t14
+    returns_4
+    add_low_half
+    low_half_requires
+    returns_5)

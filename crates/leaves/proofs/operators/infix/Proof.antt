@@ -9,32 +9,32 @@ use Rattle.leaves.proofs.operators.infix.Tie as tie
 use Rattle.leaves.proofs.operators.infix.Reads as reads
 use Rattle.leaves.proofs.operators.infix.Lts as lts
 
-binary-op-requires : tie.Need-binary-op-requires
-binary-op-requires c κs = search rules
+binary_op_requires : tie.Need-binary-op-requires
+binary_op_requires c κs = search rules
 
 returns : tie.Need-returns
 returns c =
     let binary-op' = c.binary-op in
     let args' = c.before.before.args in
     let if1' = c.before.if1 in
-    binary-op'.ensures ∙ FoundLaws.same-infix args'.set args'.kind if1'.true
+    binary-op'.ensures ∙ FoundLaws.same_infix args'.set args'.kind if1'.true
 
-has-null-coaelse-requires : tie.Need-has-null-coaelse-requires
-has-null-coaelse-requires c κs = search rules
+has_null_coaelse_requires : tie.Need-has-null-coaelse-requires
+has_null_coaelse_requires c κs = search rules
 
-returns-2 : tie.Need-returns-2
-returns-2 c =
+returns_2 : tie.Need-returns-2
+returns_2 c =
     let tested = c.before.has-null-coaelse in
     let else1 = c.before.before in
     let args' = else1.before.args in
-    FoundLaws.switched-on args'.set args'.kind else1.if1.false (sym tested.ensures ∙ c.if2.true)
+    FoundLaws.switched_on args'.set args'.kind else1.if1.false (sym tested.ensures ∙ c.if2.true)
 
-returns-3 : tie.Need-returns-3
-returns-3 c =
+returns_3 : tie.Need-returns-3
+returns_3 c =
     let tested = c.before.has-null-coaelse in
     let else1 = c.before.before in
     let args' = else1.before.args in
-    FoundLaws.switched-off args'.set args'.kind else1.if1.false (sym tested.ensures ∙ c.if2.false)
+    FoundLaws.switched_off args'.set args'.kind else1.if1.false (sym tested.ensures ∙ c.if2.false)
 
-pub infix-spec : {M : Type 1} → statement M
-infix-spec = tie.close (tie.spec binary-op-requires returns has-null-coaelse-requires returns-2 returns-3)
+pub infix_spec : {M : Type 1} → statement M
+infix_spec = tie.close (tie.spec binary_op_requires returns has_null_coaelse_requires returns_2 returns_3)

@@ -3,34 +3,34 @@
 use Prim.Native.Nat.{◌<◌}
 use native.Mathlib.Omega.{arith}
 use borrow.Author.Rules.{rules}
-use Rattle.leaves.proofs.LexemeLaws.{next-lies}
+use Rattle.leaves.proofs.LexemeLaws.{next_lies}
 use Rattle.leaves.proofs.parser.cursor_at.Statement.{statement}
 use Rattle.leaves.proofs.parser.cursor_at.Tie as tie
 
-next-kept-requires : tie.Need-next-kept-requires
-next-kept-requires c κs = search rules
+next_kept_requires : tie.Need-next-kept-requires
+next_kept_requires c κs = search rules
 
-cast-t4 : tie.Need-overflow-cast-t4
-cast-t4 c = search rules
+cast_t4 : tie.Need-overflow-cast-t4
+cast_t4 c = search rules
 
-cast-t5 : tie.Need-overflow-cast-t5
-cast-t5 c =
+cast_t5 : tie.Need-overflow-cast-t5
+cast_t5 c =
     let pre' = c.before.before.before.requires in
     let next' = c.before.next-kept in
-    let l = next-lies pre'.0 next'.ensures in
+    let l = next_lies pre'.0 next'.ensures in
     let start : next'.result.start < 65536 = omega (arith, l.on, l.within, pre'.1) in
     record { fits = start }
 
-cast-t6 : tie.Need-overflow-cast-t6
-cast-t6 c =
+cast_t6 : tie.Need-overflow-cast-t6
+cast_t6 c =
     let pre' = c.before.before.before.before.requires in
     let next' = c.before.before.next-kept in
-    let l = next-lies pre'.0 next'.ensures in
+    let l = next_lies pre'.0 next'.ensures in
     let end : next'.result.end < 65536 = omega (arith, l.within, pre'.1) in
     record { fits = end }
 
 returns : tie.Need-returns
 returns c = search rules
 
-pub cursor-at-spec : {M : Type 1} → statement M
-cursor-at-spec = tie.close (tie.spec next-kept-requires cast-t4 cast-t5 cast-t6 returns)
+pub cursor_at_spec : {M : Type 1} → statement M
+cursor_at_spec = tie.close (tie.spec next_kept_requires cast_t4 cast_t5 cast_t6 returns)

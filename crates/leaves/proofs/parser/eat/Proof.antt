@@ -12,8 +12,8 @@ use Rattle.leaves.proofs.parser.eat.Lts as lts
 use Rattle.leaves.proofs.parser.eat_any.Reads as eat-any-reads
 use Rattle.leaves.proofs.parser.error.Reads as error-reads
 
-eat-any-requires : tie.Need-eat-any-requires
-eat-any-requires c κs = search rules
+eat_any_requires : tie.Need-eat-any-requires
+eat_any_requires c κs = search rules
 
 returns : tie.Need-returns
 returns c =
@@ -22,15 +22,15 @@ returns c =
     let if1' = c.before.if1 in
     let args' = c.before.before.before.before.args in
     record {
-      eats = λ g d o. record { takes = λ b n. Steps.ends (omega arith) (Steps.count-is (omega arith) (Steps.taken pre'.0 pre'.1 eat-any'.ensures if1'.true Steps.here)) };
+      eats = λ g d o. record { takes = λ b n. Steps.ends (omega arith) (Steps.count_is (omega arith) (Steps.taken pre'.0 pre'.1 eat-any'.ensures if1'.true Steps.here)) };
       moved = λ c₁ w₁ j q. Steps.moved_to args'.c q (Steps.beyond (omega (arith, pre'.0, if1'.true)) pre'.1 eat-any'.ensures) eat-any'.ensures.at;
     }
 
-error-requires : tie.Need-error-requires
-error-requires c κs = search rules
+error_requires : tie.Need-error-requires
+error_requires c κs = search rules
 
-returns-2 : tie.Need-returns-2
-returns-2 c =
+returns_2 : tie.Need-returns-2
+returns_2 c =
     let pre' = c.before.before.before.before.requires in
     let if1' = c.before.if1 in
     let error' = c.error in
@@ -39,5 +39,5 @@ returns-2 c =
       moved = λ c₁ w₁ j q. absurd (Steps.not_done (sym error'.ensures ∙ q));
     }
 
-pub eat-spec : {M : Type 1} → statement M
-eat-spec = tie.close (tie.spec eat-any-requires returns error-requires returns-2)
+pub eat_spec : {M : Type 1} → statement M
+eat_spec = tie.close (tie.spec eat_any_requires returns error_requires returns_2)

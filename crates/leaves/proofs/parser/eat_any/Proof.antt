@@ -9,11 +9,11 @@ use Rattle.leaves.proofs.parser.eat_any.Reads as reads
 use Rattle.leaves.proofs.parser.eat_any.Lts as lts
 use Rattle.leaves.proofs.parser.cursor_at.Reads as cursor-at-reads
 
-cast-cursor-at : tie.Need-overflow-cast-cursor-at
-cast-cursor-at c = search rules
+cast_cursor_at : tie.Need-overflow-cast-cursor-at
+cast_cursor_at c = search rules
 
-cursor-at-requires : tie.Need-cursor-at-requires
-cursor-at-requires c κs =
+cursor_at_requires : tie.Need-cursor-at-requires
+cursor_at_requires c κs =
     let pre' = c.before.before.requires in
     ((lies pre').within, pre'.short)
 
@@ -22,5 +22,5 @@ returns c =
     let cursor-at' = c.cursor-at in
     record { at = cursor-at'.ensures.0; stands = cursor-at'.ensures.1 }
 
-pub eat-any-spec : {M : Type 1} → statement M
-eat-any-spec = tie.close (tie.spec cast-cursor-at cursor-at-requires returns)
+pub eat_any_spec : {M : Type 1} → statement M
+eat_any_spec = tie.close (tie.spec cast_cursor_at cursor_at_requires returns)

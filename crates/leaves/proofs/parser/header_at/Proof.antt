@@ -1,7 +1,7 @@
 -- `parser::header_at` meets its contract.
 -- Assumes nothing.
 use Prim.Native.Nat.{◌-◌}
-use Rattle.leaves.specs.Lexing.{header, off, no-bracket, no_key, not-closed, no-colon}
+use Rattle.leaves.specs.Lexing.{header, off, no_bracket, no_key, not_closed, no_colon}
 use mathlib.Core.Path.{sym, ◌∙◌}
 use borrow.Author.Rules.{rules}
 use borrow.Author.Tests.{not-true, not-false}
@@ -11,57 +11,57 @@ use Rattle.leaves.proofs.parser.header_at.Reads as reads
 use Rattle.leaves.proofs.parser.header_at.Lts as lts
 use Rattle.leaves.proofs.parser.eat_any.Reads as eat-any-reads
 
-has-object-iteration-requires : tie.Need-has-object-iteration-requires
-has-object-iteration-requires c κs = search rules
+has_object_iteration_requires : tie.Need-has-object-iteration-requires
+has_object_iteration_requires c κs = search rules
 
 returns : tie.Need-returns
 returns c =
     let tested = c.before.has-object-iteration in
     off (sym tested.ensures ∙ not-true tested.result c.if1.true)
 
-returns-2 : tie.Need-returns-2
-returns-2 c =
+returns_2 : tie.Need-returns-2
+returns_2 c =
     let if2' = c.if2 in
-    no-bracket if2'.true
+    no_bracket if2'.true
 
-eat-any-requires : tie.Need-eat-any-requires
-eat-any-requires c κs =
+eat_any_requires : tie.Need-eat-any-requires
+eat_any_requires c κs =
     let pre' = c.before.before.before.before.before.requires in
     pre'
 
-returns-3 : tie.Need-returns-3
-returns-3 c =
+returns_3 : tie.Need-returns-3
+returns_3 c =
     let eat-any' = c.before.before.eat-any in
     let if3' = c.if3 in
     no_key eat-any'.ensures if3'.true
 
-eat-any-requires-2 : tie.Need-eat-any-requires-2
-eat-any-requires-2 c κs =
+eat_any_requires_2 : tie.Need-eat-any-requires-2
+eat_any_requires_2 c κs =
     let eat-any' = c.before.before.eat-any in
     eat-any'.ensures.stands
 
-returns-4 : tie.Need-returns-4
-returns-4 c =
+returns_4 : tie.Need-returns-4
+returns_4 c =
     let eat-any' = c.before.before.before.before.before.eat-any in
     let eat-any2' = c.before.before.eat-any2 in
     let if4' = c.if4 in
-    not-closed eat-any'.ensures eat-any2'.ensures if4'.true
+    not_closed eat-any'.ensures eat-any2'.ensures if4'.true
 
-eat-any-requires-3 : tie.Need-eat-any-requires-3
-eat-any-requires-3 c κs =
+eat_any_requires_3 : tie.Need-eat-any-requires-3
+eat_any_requires_3 c κs =
     let eat-any2' = c.before.before.eat-any2 in
     eat-any2'.ensures.stands
 
-returns-5 : tie.Need-returns-5
-returns-5 c =
+returns_5 : tie.Need-returns-5
+returns_5 c =
     let eat-any' = c.before.before.before.before.before.before.before.before.eat-any in
     let eat-any2' = c.before.before.before.before.before.eat-any2 in
     let eat-any3' = c.before.before.eat-any3 in
     let if5' = c.if5 in
-    no-colon eat-any'.ensures eat-any2'.ensures eat-any3'.ensures if5'.true
+    no_colon eat-any'.ensures eat-any2'.ensures eat-any3'.ensures if5'.true
 
-returns-6 : tie.Need-returns-6
-returns-6 c =
+returns_6 : tie.Need-returns-6
+returns_6 c =
     let else1 = c.before.before.before.before.before.before.before.before.before.before.before in
     let tested = else1.before.has-object-iteration in
     let if2' = c.before.before.before.before.before.before.before.before.before.if2 in
@@ -73,5 +73,5 @@ returns-6 c =
     let if5' = c.if5 in
     header (sym tested.ensures ∙ not-false tested.result else1.if1.false) if2'.false eat-any'.ensures if3'.false eat-any2'.ensures if4'.false eat-any3'.ensures if5'.false
 
-pub header-at-spec : {M : Type 1} → statement M
-header-at-spec = tie.close (tie.spec has-object-iteration-requires returns returns-2 eat-any-requires returns-3 eat-any-requires-2 returns-4 eat-any-requires-3 returns-5 returns-6)
+pub header_at_spec : {M : Type 1} → statement M
+header_at_spec = tie.close (tie.spec has_object_iteration_requires returns returns_2 eat_any_requires returns_3 eat_any_requires_2 returns_4 eat_any_requires_3 returns_5 returns_6)

@@ -13,24 +13,24 @@ returns c =
     let if1' = c.if1 in
     no_name if1'.true
 
-eat-any-requires : tie.Need-eat-any-requires
-eat-any-requires c κs =
+eat_any_requires : tie.Need-eat-any-requires
+eat_any_requires c κs =
     let pre' = c.before.before.before.requires in
     pre'
 
-returns-2 : tie.Need-returns-2
-returns-2 c =
+returns_2 : tie.Need-returns-2
+returns_2 c =
     let if1' = c.before.before.before.if1 in
     let eat-any' = c.before.before.eat-any in
     let if2' = c.if2 in
     no_value if1'.false eat-any'.ensures if2'.true
 
-returns-3 : tie.Need-returns-3
-returns-3 c =
+returns_3 : tie.Need-returns-3
+returns_3 c =
     let if1' = c.before.before.before.if1 in
     let eat-any' = c.before.before.eat-any in
     let if2' = c.if2 in
     named if1'.false eat-any'.ensures if2'.false
 
-pub named-at-spec : {M : Type 1} → statement M
-named-at-spec = tie.close (tie.spec returns eat-any-requires returns-2 returns-3)
+pub named_at_spec : {M : Type 1} → statement M
+named_at_spec = tie.close (tie.spec returns eat_any_requires returns_2 returns_3)

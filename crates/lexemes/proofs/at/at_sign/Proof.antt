@@ -7,21 +7,21 @@ use native.Mathlib.Omega.{arith}
 use lib.ListN.{length}
 use borrow.Author.Tests.{not-true, not-false}
 use borrow.Author.Rules.{rules}
-use Rattle.regex.specs.Regex.{inClass}
+use Rattle.regex.specs.Regex.{in_class}
 use Rattle.lexemes.specs.Scan.{black}
 use Rattle.lexemes.proofs.Letters.{inside, sound, next-within}
-use Rattle.lexemes.proofs.Verbatim.{at-white, at_one, at_more, black-inside}
+use Rattle.lexemes.proofs.Verbatim.{at_white, at_one, at_more, black_inside}
 use Rattle.lexemes.proofs.at.at_sign.Statement.{statement}
 use Rattle.lexemes.proofs.at.at_sign.Tie as tie
 
-add-peek : tie.Need-overflow-add-peek
-add-peek c = search rules
+add_peek : tie.Need-overflow-add-peek
+add_peek c = search rules
 
-peek-requires : tie.Need-peek-requires
-peek-requires c κs = search rules
+peek_requires : tie.Need-peek-requires
+peek_requires c κs = search rules
 
-verbatim-at-requires : tie.Need-verbatim-at-requires
-verbatim-at-requires c κs =
+verbatim_at_requires : tie.Need-verbatim-at-requires
+verbatim_at_requires c κs =
     let args = c.before.before.before.args in
     let s = args.src.now in
     let peek = c.before.peek in
@@ -32,8 +32,8 @@ verbatim-at-requires c κs =
 returns : tie.Need-returns
 returns c = search rules
 
-verbatim-at-requires-2 : tie.Need-verbatim-at-requires-2
-verbatim-at-requires-2 c κs =
+verbatim_at_requires_2 : tie.Need-verbatim-at-requires-2
+verbatim_at_requires_2 c κs =
     let args = c.before.before.before.before.args in
     let s = args.src.now in
     let peek = c.before.before.peek in
@@ -41,67 +41,67 @@ verbatim-at-requires-2 c κs =
     let pre = c.before.before.before.before.requires in
     (inside s (args.at + 1) (omega (arith, peek.ensures, if2.true)), pre.1, sym peek.ensures ∙ if2.true, inr (refl, refl))
 
-returns-2 : tie.Need-returns-2
-returns-2 c = search rules
+returns_2 : tie.Need-returns-2
+returns_2 c = search rules
 
-add-letter-at : tie.Need-overflow-add-letter-at
-add-letter-at c = search rules
+add_letter_at : tie.Need-overflow-add-letter-at
+add_letter_at c = search rules
 
-letter-at-requires : tie.Need-letter-at-requires
-letter-at-requires c κs = search rules
+letter_at_requires : tie.Need-letter-at-requires
+letter_at_requires c κs = search rules
 
-is-black-requires : tie.Need-is-black-requires
-is-black-requires c κs =
+is_black_requires : tie.Need-is-black-requires
+is_black_requires c κs =
     let args = c.before.before.before.before.before.args in
     let letter_at = c.letter_at in
     let s = args.src.now in
     omega (arith, letter_at.ensures, (sound s).low (args.at + 1))
 
-add-t10 : tie.Need-overflow-add-t10
-add-t10 c = search rules
+add_t10 : tie.Need-overflow-add-t10
+add_t10 c = search rules
 
-returns-3 : tie.Need-returns-3
-returns-3 c =
+returns_3 : tie.Need-returns-3
+returns_3 c =
     let args = c.before.before.before.before.before.before.before.args in
-    let is-black = c.before.is-black in
+    let is_black = c.before.is_black in
     let letter_at = c.before.before.letter_at in
     let if3 = c.if3 in
     let s = args.src.now in
     let pre = c.before.before.before.before.before.before.before.requires in
-    let white = sym (is-black.ensures ∙ ap (inClass black) letter_at.ensures) ∙ not-true is-black.result if3.true in
-    at-white s args.at pre.1 white
+    let white = sym (is_black.ensures ∙ ap (in_class black) letter_at.ensures) ∙ not-true is_black.result if3.true in
+    at_white s args.at pre.1 white
 
-add-after : tie.Need-overflow-add-after
-add-after c = search rules
+add_after : tie.Need-overflow-add-after
+add_after c = search rules
 
-after-requires : tie.Need-after-requires
-after-requires c κs =
+after_requires : tie.Need-after-requires
+after_requires c κs =
     let args = c.before.before.before.before.before.before.before.args in
-    let is-black = c.before.is-black in
+    let is_black = c.before.is_black in
     let letter_at = c.before.before.letter_at in
     let if3 = c.if3 in
     let s = args.src.now in
-    let dark = sym (is-black.ensures ∙ ap (inClass black) letter_at.ensures) ∙ not-false is-black.result if3.false in
-    black-inside s (args.at + 1) dark
+    let dark = sym (is_black.ensures ∙ ap (in_class black) letter_at.ensures) ∙ not-false is_black.result if3.false in
+    black_inside s (args.at + 1) dark
 
-black-from-requires : tie.Need-black-from-requires
-black-from-requires c κs =
+black_from_requires : tie.Need-black-from-requires
+black_from_requires c κs =
     let args = c.before.before.before.before.before.before.before.before.args in
-    let is-black = c.before.before.is-black in
+    let is_black = c.before.before.is_black in
     let letter_at = c.before.before.before.letter_at in
     let if3 = c.before.if3 in
     let after = c.after in
     let s = args.src.now in
-    let dark = sym (is-black.ensures ∙ ap (inClass black) letter_at.ensures) ∙ not-false is-black.result if3.false in
-    omega (arith, after.ensures, next-within s (args.at + 1) (black-inside s (args.at + 1) dark))
+    let dark = sym (is_black.ensures ∙ ap (in_class black) letter_at.ensures) ∙ not-false is_black.result if3.false in
+    omega (arith, after.ensures, next-within s (args.at + 1) (black_inside s (args.at + 1) dark))
 
-add-t11 : tie.Need-overflow-add-t11
-add-t11 c = search rules
+add_t11 : tie.Need-overflow-add-t11
+add_t11 c = search rules
 
-returns-4 : tie.Need-returns-4
-returns-4 c =
+returns_4 : tie.Need-returns-4
+returns_4 c =
     let args = c.before.before.before.before.before.before.before.before.before.before.args in
-    let is-black = c.before.before.before.before.is-black in
+    let is_black = c.before.before.before.before.is_black in
     let letter_at = c.before.before.before.before.before.letter_at in
     let if3 = c.before.before.before.if3 in
     let s = args.src.now in
@@ -112,13 +112,13 @@ returns-4 c =
     let after = c.before.before.after in
     let if4 = c.if4 in
     let black-from = c.before.black-from in
-    let dark = sym (is-black.ensures ∙ ap (inClass black) letter_at.ensures) ∙ not-false is-black.result if3.false in
+    let dark = sym (is_black.ensures ∙ ap (in_class black) letter_at.ensures) ∙ not-false is_black.result if3.false in
     at_one s args.at pre.1 (λ e. if1.false (peek.ensures ∙ e)) (λ e. if2.false (peek.ensures ∙ e)) dark after.ensures if4.true black-from.ensures
 
-returns-5 : tie.Need-returns-5
-returns-5 c =
+returns_5 : tie.Need-returns-5
+returns_5 c =
     let args = c.before.before.before.before.before.before.before.before.before.before.args in
-    let is-black = c.before.before.before.before.is-black in
+    let is_black = c.before.before.before.before.is_black in
     let letter_at = c.before.before.before.before.before.letter_at in
     let if3 = c.before.before.before.if3 in
     let s = args.src.now in
@@ -129,27 +129,27 @@ returns-5 c =
     let after = c.before.before.after in
     let if4 = c.if4 in
     let black-from = c.before.black-from in
-    let dark = sym (is-black.ensures ∙ ap (inClass black) letter_at.ensures) ∙ not-false is-black.result if3.false in
+    let dark = sym (is_black.ensures ∙ ap (in_class black) letter_at.ensures) ∙ not-false is_black.result if3.false in
     at_more s args.at pre.1 (λ e. if1.false (peek.ensures ∙ e)) (λ e. if2.false (peek.ensures ∙ e)) dark after.ensures if4.false black-from.ensures
 
-pub at-sign-spec : {M : Type 1} → statement M
-at-sign-spec =
+pub at_sign_spec : {M : Type 1} → statement M
+at_sign_spec =
     tie.close
     (tie.spec
-    add-peek
-    peek-requires
-    verbatim-at-requires
+    add_peek
+    peek_requires
+    verbatim_at_requires
     returns
-    verbatim-at-requires-2
-    returns-2
-    add-letter-at
-    letter-at-requires
-    is-black-requires
-    add-t10
-    returns-3
-    add-after
-    after-requires
-    black-from-requires
-    add-t11
-    returns-4
-    returns-5)
+    verbatim_at_requires_2
+    returns_2
+    add_letter_at
+    letter_at_requires
+    is_black_requires
+    add_t10
+    returns_3
+    add_after
+    after_requires
+    black_from_requires
+    add_t11
+    returns_4
+    returns_5)

@@ -2,15 +2,15 @@
 -- Assumes nothing.
 use native.Mathlib.Omega.{arith}
 use borrow.Author.Rules.{rules}
-use Rattle.lexemes.proofs.Letters.{next-ascii, next-two, next-three, next-four}
+use Rattle.lexemes.proofs.Letters.{next-ascii, next-two, next-three, next_four}
 use Rattle.lexemes.proofs.bytes.after.Statement.{statement}
 use Rattle.lexemes.proofs.bytes.after.Tie as tie
 
-shared-slice-read-b : tie.Need-shared-slice-read-b
-shared-slice-read-b c = search rules
+shared_slice_read_b : tie.Need-shared-slice-read-b
+shared_slice_read_b c = search rules
 
-add-result : tie.Need-overflow-add-result
-add-result c = search rules
+add_result : tie.Need-overflow-add-result
+add_result c = search rules
 
 returns : tie.Need-returns
 returns c =
@@ -20,11 +20,11 @@ returns c =
     let if1 = c.if1 in
     omega (arith, next-ascii s args.i pre if1.true)
 
-clip-requires : tie.Need-clip-requires
-clip-requires c κs = search rules
+clip_requires : tie.Need-clip-requires
+clip_requires c κs = search rules
 
-returns-2 : tie.Need-returns-2
-returns-2 c =
+returns_2 : tie.Need-returns-2
+returns_2 c =
     let args = c.before.before.before.before.before.args in
     let s = args.src.now in
     let pre = c.before.before.before.before.before.requires in
@@ -33,11 +33,11 @@ returns-2 c =
     let clip = c.clip in
     omega (arith, next-two s args.i pre if1.false if2.true, clip.ensures)
 
-clip-requires-2 : tie.Need-clip-requires-2
-clip-requires-2 c κs = search rules
+clip_requires_2 : tie.Need-clip-requires-2
+clip_requires_2 c κs = search rules
 
-returns-3 : tie.Need-returns-3
-returns-3 c =
+returns_3 : tie.Need-returns-3
+returns_3 c =
     let args = c.before.before.before.before.before.before.args in
     let s = args.src.now in
     let pre = c.before.before.before.before.before.before.requires in
@@ -46,28 +46,28 @@ returns-3 c =
     let clip2 = c.clip2 in
     omega (arith, next-three s args.i pre if2.false if3.true, clip2.ensures)
 
-clip-requires-3 : tie.Need-clip-requires-3
-clip-requires-3 c κs = search rules
+clip_requires_3 : tie.Need-clip-requires-3
+clip_requires_3 c κs = search rules
 
-returns-4 : tie.Need-returns-4
-returns-4 c =
+returns_4 : tie.Need-returns-4
+returns_4 c =
     let args = c.before.before.before.before.before.before.args in
     let s = args.src.now in
     let pre = c.before.before.before.before.before.before.requires in
     let if3 = c.before.if3 in
     let clip3 = c.clip3 in
-    omega (arith, next-four s args.i pre if3.false, clip3.ensures)
+    omega (arith, next_four s args.i pre if3.false, clip3.ensures)
 
-pub after-spec : {M : Type 1} → statement M
-after-spec =
+pub after_spec : {M : Type 1} → statement M
+after_spec =
     tie.close
     (tie.spec
-    shared-slice-read-b
-    add-result
+    shared_slice_read_b
+    add_result
     returns
-    clip-requires
-    returns-2
-    clip-requires-2
-    returns-3
-    clip-requires-3
-    returns-4)
+    clip_requires
+    returns_2
+    clip_requires_2
+    returns_3
+    clip_requires_3
+    returns_4)

@@ -2,15 +2,15 @@
 -- Assumes nothing.
 use mathlib.Core.Path.{sym, ◌∙◌}
 use borrow.Author.Rules.{rules}
-use Rattle.lexemes.proofs.Slashes.{closed-scanned, never-closed, open-scanned, short-scanned, div-star}
+use Rattle.lexemes.proofs.Slashes.{closed_scanned, never_closed, open_scanned, short_scanned, div_star}
 use Rattle.lexemes.proofs.comments.comment_at.Statement.{statement}
 use Rattle.lexemes.proofs.comments.comment_at.Tie as tie
 
-add-close-from : tie.Need-overflow-add-close-from
-add-close-from c = search rules
+add_close_from : tie.Need-overflow-add-close-from
+add_close_from c = search rules
 
-close-from-requires : tie.Need-close-from-requires
-close-from-requires c κs = search rules
+close_from_requires : tie.Need-close-from-requires
+close_from_requires c κs = search rules
 
 returns : tie.Need-returns
 returns c =
@@ -19,19 +19,19 @@ returns c =
     let pre = c.before.before.before.requires in
     let if1 = c.if1 in
     let close-from = c.before.close-from in
-    closed-scanned s args.at pre.1 pre.2 if1.true close-from.ensures
+    closed_scanned s args.at pre.1 pre.2 if1.true close-from.ensures
 
-add-open-from : tie.Need-overflow-add-open-from
-add-open-from c = search rules
+add_open_from : tie.Need-overflow-add-open-from
+add_open_from c = search rules
 
-open-from-requires : tie.Need-open-from-requires
-open-from-requires c κs = search rules
+open_from_requires : tie.Need-open-from-requires
+open_from_requires c κs = search rules
 
-add-if2 : tie.Need-overflow-add-if2
-add-if2 c = search rules
+add_if2 : tie.Need-overflow-add-if2
+add_if2 c = search rules
 
-returns-2 : tie.Need-returns-2
-returns-2 c =
+returns_2 : tie.Need-returns-2
+returns_2 c =
     let args = c.before.before.before.before.before.args in
     let s = args.src.now in
     let pre = c.before.before.before.before.before.requires in
@@ -39,20 +39,20 @@ returns-2 c =
     let close-from = c.before.before.before.close-from in
     let if2 = c.if2 in
     let open-from = c.before.open-from in
-    let unclosed = never-closed s args.at pre.1 pre.2 if1.false close-from.ensures in
-    open-scanned s args.at pre.1 pre.2 unclosed if2.true open-from.ensures
+    let unclosed = never_closed s args.at pre.1 pre.2 if1.false close-from.ensures in
+    open_scanned s args.at pre.1 pre.2 unclosed if2.true open-from.ensures
 
-add-peek : tie.Need-overflow-add-peek
-add-peek c = search rules
+add_peek : tie.Need-overflow-add-peek
+add_peek c = search rules
 
-peek-requires : tie.Need-peek-requires
-peek-requires c κs = search rules
+peek_requires : tie.Need-peek-requires
+peek_requires c κs = search rules
 
-add-t8 : tie.Need-overflow-add-t8
-add-t8 c = search rules
+add_t8 : tie.Need-overflow-add-t8
+add_t8 c = search rules
 
-returns-3 : tie.Need-returns-3
-returns-3 c =
+returns_3 : tie.Need-returns-3
+returns_3 c =
     let args = c.before.before.before.before.before.before.before.args in
     let s = args.src.now in
     let pre = c.before.before.before.before.before.before.before.requires in
@@ -60,14 +60,14 @@ returns-3 c =
     let close-from = c.before.before.before.before.before.close-from in
     let peek = c.before.peek in
     let if3 = c.if3 in
-    let unclosed = never-closed s args.at pre.1 pre.2 if1.false close-from.ensures in
-    short-scanned s args.at pre.1 pre.2 unclosed (sym peek.ensures ∙ if3.true)
+    let unclosed = never_closed s args.at pre.1 pre.2 if1.false close-from.ensures in
+    short_scanned s args.at pre.1 pre.2 unclosed (sym peek.ensures ∙ if3.true)
 
-add-t5 : tie.Need-overflow-add-t5
-add-t5 c = search rules
+add_t5 : tie.Need-overflow-add-t5
+add_t5 c = search rules
 
-returns-4 : tie.Need-returns-4
-returns-4 c =
+returns_4 : tie.Need-returns-4
+returns_4 c =
     let args = c.before.before.before.before.before.before.before.args in
     let s = args.src.now in
     let pre = c.before.before.before.before.before.before.before.requires in
@@ -77,23 +77,23 @@ returns-4 c =
     let open-from = c.before.before.before.open-from in
     let if3 = c.if3 in
     let peek = c.before.peek in
-    let unclosed = never-closed s args.at pre.1 pre.2 if1.false close-from.ensures in
-    div-star s args.at pre.1 pre.2 unclosed if2.false open-from.ensures (λ e. if3.false (peek.ensures ∙ e))
+    let unclosed = never_closed s args.at pre.1 pre.2 if1.false close-from.ensures in
+    div_star s args.at pre.1 pre.2 unclosed if2.false open-from.ensures (λ e. if3.false (peek.ensures ∙ e))
 
-pub comment-at-spec : {M : Type 1} → statement M
-comment-at-spec =
+pub comment_at_spec : {M : Type 1} → statement M
+comment_at_spec =
     tie.close
     (tie.spec
-    add-close-from
-    close-from-requires
+    add_close_from
+    close_from_requires
     returns
-    add-open-from
-    open-from-requires
-    add-if2
-    returns-2
-    add-peek
-    peek-requires
-    add-t8
-    returns-3
-    add-t5
-    returns-4)
+    add_open_from
+    open_from_requires
+    add_if2
+    returns_2
+    add_peek
+    peek_requires
+    add_t8
+    returns_3
+    add_t5
+    returns_4)

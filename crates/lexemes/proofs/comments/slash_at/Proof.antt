@@ -6,21 +6,21 @@ use native.Mathlib.Omega.{arith}
 use lib.ListN.{length}
 use borrow.Author.Rules.{rules}
 use Rattle.lexemes.proofs.Letters.{inside}
-use Rattle.lexemes.proofs.Slashes.{line-scanned, div-scanned}
+use Rattle.lexemes.proofs.Slashes.{line_scanned, div_scanned}
 use Rattle.lexemes.proofs.comments.slash_at.Statement.{statement}
 use Rattle.lexemes.proofs.comments.slash_at.Tie as tie
 
-add-peek : tie.Need-overflow-add-peek
-add-peek c = search rules
+add_peek : tie.Need-overflow-add-peek
+add_peek c = search rules
 
-peek-requires : tie.Need-peek-requires
-peek-requires c κs = search rules
+peek_requires : tie.Need-peek-requires
+peek_requires c κs = search rules
 
-add-line-from : tie.Need-overflow-add-line-from
-add-line-from c = search rules
+add_line_from : tie.Need-overflow-add-line-from
+add_line_from c = search rules
 
-line-from-requires : tie.Need-line-from-requires
-line-from-requires c κs =
+line_from_requires : tie.Need-line-from-requires
+line_from_requires c κs =
     let args = c.before.before.before.args in
     let s = args.src.now in
     let peek = c.before.peek in
@@ -35,10 +35,10 @@ returns c =
     let peek = c.before.before.peek in
     let if1 = c.before.if1 in
     let line-from = c.line-from in
-    line-scanned s args.at pre.1 (sym peek.ensures ∙ if1.true) line-from.ensures
+    line_scanned s args.at pre.1 (sym peek.ensures ∙ if1.true) line-from.ensures
 
-comment-at-requires : tie.Need-comment-at-requires
-comment-at-requires c κs =
+comment_at_requires : tie.Need-comment-at-requires
+comment_at_requires c κs =
     let args = c.before.before.before.before.args in
     let s = args.src.now in
     let peek = c.before.before.peek in
@@ -46,32 +46,32 @@ comment-at-requires c κs =
     let pre = c.before.before.before.before.requires in
     (inside s (args.at + 1) (omega (arith, peek.ensures, if2.true)), pre.1, sym peek.ensures ∙ if2.true)
 
-returns-2 : tie.Need-returns-2
-returns-2 c = search rules
+returns_2 : tie.Need-returns-2
+returns_2 c = search rules
 
-add-t4 : tie.Need-overflow-add-t4
-add-t4 c = search rules
+add_t4 : tie.Need-overflow-add-t4
+add_t4 c = search rules
 
-returns-3 : tie.Need-returns-3
-returns-3 c =
+returns_3 : tie.Need-returns-3
+returns_3 c =
     let args = c.before.before.before.before.args in
     let s = args.src.now in
     let pre = c.before.before.before.before.requires in
     let if1 = c.before.if1 in
     let peek = c.before.before.peek in
     let if2 = c.if2 in
-    div-scanned s args.at pre.1 (λ e. if1.false (peek.ensures ∙ e)) (λ e. if2.false (peek.ensures ∙ e))
+    div_scanned s args.at pre.1 (λ e. if1.false (peek.ensures ∙ e)) (λ e. if2.false (peek.ensures ∙ e))
 
-pub slash-at-spec : {M : Type 1} → statement M
-slash-at-spec =
+pub slash_at_spec : {M : Type 1} → statement M
+slash_at_spec =
     tie.close
     (tie.spec
-    add-peek
-    peek-requires
-    add-line-from
-    line-from-requires
+    add_peek
+    peek_requires
+    add_line_from
+    line_from_requires
     returns
-    comment-at-requires
-    returns-2
-    add-t4
-    returns-3)
+    comment_at_requires
+    returns_2
+    add_t4
+    returns_3)

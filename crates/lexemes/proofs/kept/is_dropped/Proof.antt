@@ -1,7 +1,7 @@
 -- `lexemes::kept::is_dropped` meets its contract, by a test of all kinds.
 -- Assumes nothing.
 use native.Mathlib.Omega.{arith}
-use Rattle.lexemes.proofs.Fates.{all-dropped, none_dropped, drops, keeps}
+use Rattle.lexemes.proofs.Fates.{all_dropped, none_dropped, drops, keeps}
 use Rattle.lexemes.proofs.kept.is_dropped.Statement.{statement}
 use Rattle.lexemes.proofs.kept.is_dropped.Tie as tie
 
@@ -12,19 +12,19 @@ returns c =
     let fits = c.before.ranges in
     keeps 0 55 args.kind fits.kind.fits (omega arith) (omega arith) tt
 
-returns-2 : tie.Need-returns-2
+returns_2 : tie.Need-returns-2
 unfolding none_dropped
-returns-2 c =
+returns_2 c =
     let args = c.before.before.args in
     let fits = c.before.before.ranges in
     keeps 60 255 args.kind fits.kind.fits (omega arith) (omega arith) tt
 
-returns-3 : tie.Need-returns-3
-unfolding all-dropped
-returns-3 c =
+returns_3 : tie.Need-returns-3
+unfolding all_dropped
+returns_3 c =
     let args = c.before.before.args in
     let fits = c.before.before.ranges in
     drops 56 59 args.kind fits.kind.fits (omega arith) (omega arith) tt
 
-pub is-dropped-spec : {M : Type 1} → statement M
-is-dropped-spec = tie.close (tie.spec returns returns-2 returns-3)
+pub is_dropped_spec : {M : Type 1} → statement M
+is_dropped_spec = tie.close (tie.spec returns returns_2 returns_3)

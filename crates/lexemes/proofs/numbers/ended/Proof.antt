@@ -10,10 +10,10 @@ returns c =
     let if1 = c.if1 in
     inl (if1.true, refl, refl)
 
-returns-2 : tie.Need-returns-2
-returns-2 c =
+returns_2 : tie.Need-returns-2
+returns_2 c =
     let if1 = c.if1 in
     inr (if1.false, refl, refl)
 
-pub ended-spec : {M : Type 1} → statement M
-ended-spec = tie.close (tie.spec returns returns-2)
+pub ended_spec : {M : Type 1} → statement M
+ended_spec = tie.close (tie.spec returns returns_2)

@@ -1,15 +1,15 @@
--- `lexemes::numbers::is_digit` meets its contract.
+-- `lexemes::numbers::is_digit_lem` meets its contract.
 -- Assumes nothing.
 use Prim.Native.Nat.{◌≤◌}
 use native.Mathlib.Omega.{arith}
 use lib.ListN.{get_or}
 use borrow.Author.Rules.{rules}
-use Rattle.lexemes.proofs.Classes.{digit-class, class-digit}
+use Rattle.lexemes.proofs.Classes.{digit_class, class_digit}
 use Rattle.lexemes.proofs.numbers.is_digit.Statement.{statement}
 use Rattle.lexemes.proofs.numbers.is_digit.Tie as tie
 
-peek-requires : tie.Need-peek-requires
-peek-requires c κs = search rules
+peek_requires : tie.Need-peek-requires
+peek_requires c κs = search rules
 
 returns : tie.Need-returns
 returns c =
@@ -17,24 +17,24 @@ returns c =
     let peek = c.before.peek in
     let if1 = c.if1 in
     let s = args.src.now in
-    λ d. omega (arith, peek.ensures, if1.true, class-digit (get_or s args.i 0) d.0 d.1)
+    λ d. omega (arith, peek.ensures, if1.true, class_digit (get_or s args.i 0) d.0 d.1)
 
-returns-2 : tie.Need-returns-2
-returns-2 c =
+returns_2 : tie.Need-returns-2
+returns_2 c =
     let args = c.before.before.before.before.args in
     let peek = c.before.before.peek in
     let if2 = c.if2 in
     let s = args.src.now in
-    λ d. omega (arith, peek.ensures, if2.true, class-digit (get_or s args.i 0) d.0 d.1)
+    λ d. omega (arith, peek.ensures, if2.true, class_digit (get_or s args.i 0) d.0 d.1)
 
-returns-3 : tie.Need-returns-3
-returns-3 c =
+returns_3 : tie.Need-returns-3
+returns_3 c =
     let args = c.before.before.before.before.args in
     let s = args.src.now in
     let peek = c.before.before.peek in
     let if1 = c.before.if1 in
     let if2 = c.if2 in
-    digit-class (get_or s args.i 0) (omega (arith, peek.ensures, if1.false)) (omega (arith, peek.ensures, if2.false))
+    digit_class (get_or s args.i 0) (omega (arith, peek.ensures, if1.false)) (omega (arith, peek.ensures, if2.false))
 
-pub is-digit-spec : {M : Type 1} → statement M
-is-digit-spec = tie.close (tie.spec peek-requires returns returns-2 returns-3)
+pub is_digit_spec : {M : Type 1} → statement M
+is_digit_spec = tie.close (tie.spec peek_requires returns returns_2 returns_3)

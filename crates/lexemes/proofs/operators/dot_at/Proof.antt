@@ -2,18 +2,18 @@
 -- Assumes nothing.
 use mathlib.Core.Path.{sym, ◌∙◌}
 use borrow.Author.Rules.{rules}
-use Rattle.lexemes.proofs.Operations.{dot-scanned, dots-scanned, two-dots-scanned}
+use Rattle.lexemes.proofs.Operations.{dot_scanned, dots_scanned, two_dots_scanned}
 use Rattle.lexemes.proofs.operators.dot_at.Statement.{statement}
 use Rattle.lexemes.proofs.operators.dot_at.Tie as tie
 
-add-peek : tie.Need-overflow-add-peek
-add-peek c = search rules
+add_peek : tie.Need-overflow-add-peek
+add_peek c = search rules
 
-peek-requires : tie.Need-peek-requires
-peek-requires c κs = search rules
+peek_requires : tie.Need-peek-requires
+peek_requires c κs = search rules
 
-add-t6 : tie.Need-overflow-add-t6
-add-t6 c = search rules
+add_t6 : tie.Need-overflow-add-t6
+add_t6 c = search rules
 
 returns : tie.Need-returns
 returns c =
@@ -22,19 +22,19 @@ returns c =
     let pre = c.before.before.before.requires in
     let if1 = c.if1 in
     let peek = c.before.peek in
-    dot-scanned s args.at pre.1 (λ e. if1.true (peek.ensures ∙ e))
+    dot_scanned s args.at pre.1 (λ e. if1.true (peek.ensures ∙ e))
 
-add-peek-2 : tie.Need-overflow-add-peek-2
-add-peek-2 c = search rules
+add_peek_2 : tie.Need-overflow-add-peek-2
+add_peek_2 c = search rules
 
-peek-requires-2 : tie.Need-peek-requires-2
-peek-requires-2 c κs = search rules
+peek_requires_2 : tie.Need-peek-requires-2
+peek_requires_2 c κs = search rules
 
-add-t7 : tie.Need-overflow-add-t7
-add-t7 c = search rules
+add_t7 : tie.Need-overflow-add-t7
+add_t7 c = search rules
 
-returns-2 : tie.Need-returns-2
-returns-2 c =
+returns_2 : tie.Need-returns-2
+returns_2 c =
     let args = c.before.before.before.before.before.args in
     let s = args.src.now in
     let pre = c.before.before.before.before.before.requires in
@@ -42,13 +42,13 @@ returns-2 c =
     let if1 = c.before.before.if1 in
     let peek2 = c.before.peek2 in
     let if2 = c.if2 in
-    dots-scanned s args.at pre.1 (sym peek.ensures ∙ if1.false) (sym peek2.ensures ∙ if2.true)
+    dots_scanned s args.at pre.1 (sym peek.ensures ∙ if1.false) (sym peek2.ensures ∙ if2.true)
 
-add-t4 : tie.Need-overflow-add-t4
-add-t4 c = search rules
+add_t4 : tie.Need-overflow-add-t4
+add_t4 c = search rules
 
-returns-3 : tie.Need-returns-3
-returns-3 c =
+returns_3 : tie.Need-returns-3
+returns_3 c =
     let args = c.before.before.before.before.before.args in
     let s = args.src.now in
     let pre = c.before.before.before.before.before.requires in
@@ -56,19 +56,19 @@ returns-3 c =
     let if1 = c.before.before.if1 in
     let if2 = c.if2 in
     let peek2 = c.before.peek2 in
-    two-dots-scanned s args.at pre.1 (sym peek.ensures ∙ if1.false) (λ e. if2.false (peek2.ensures ∙ e))
+    two_dots_scanned s args.at pre.1 (sym peek.ensures ∙ if1.false) (λ e. if2.false (peek2.ensures ∙ e))
 
-pub dot-at-spec : {M : Type 1} → statement M
-dot-at-spec =
+pub dot_at_spec : {M : Type 1} → statement M
+dot_at_spec =
     tie.close
     (tie.spec
-    add-peek
-    peek-requires
-    add-t6
+    add_peek
+    peek_requires
+    add_t6
     returns
-    add-peek-2
-    peek-requires-2
-    add-t7
-    returns-2
-    add-t4
-    returns-3)
+    add_peek_2
+    peek_requires_2
+    add_t7
+    returns_2
+    add_t4
+    returns_3)

@@ -4,7 +4,7 @@ use mathlib.Core.Path.{sym, ◌∙◌, ap, ap₂}
 use Prim.Native.Nat.{ℕ}
 use borrow.Author.Tests.{ne_eqb}
 use Rattle.lexemes.specs.Scan.{pair}
-use Rattle.lexemes.proofs.Operations.{pair-none, twin-none}
+use Rattle.lexemes.proofs.Operations.{pair_none, twin_none}
 use Rattle.lexemes.proofs.operators.pair_kind.Statement.{statement}
 use Rattle.lexemes.proofs.operators.pair_kind.Tie as tie
 
@@ -15,100 +15,100 @@ returns c =
     let if1 = c.before.if1 in
     sym (ap₂ pair match.keys1 if1.true)
 
-returns-2 : tie.Need-returns-2
+returns_2 : tie.Need-returns-2
 unfolding pair
-returns-2 c =
+returns_2 c =
     let match = c.match in
     let if1 = c.before.if1 in
     sym (ap₂ pair match.keys2 if1.true)
 
-returns-3 : tie.Need-returns-3
+returns_3 : tie.Need-returns-3
 unfolding pair
-returns-3 c =
+returns_3 c =
     let match = c.match in
     let if1 = c.before.if1 in
     sym (ap₂ pair match.keys3 if1.true)
 
-returns-4 : tie.Need-returns-4
+returns_4 : tie.Need-returns-4
 unfolding pair
-returns-4 c =
+returns_4 c =
     let match = c.match in
     let if1 = c.before.if1 in
     sym (ap₂ pair match.keys4 if1.true)
 
-returns-5 : tie.Need-returns-5
-returns-5 c =
+returns_5 : tie.Need-returns-5
+returns_5 c =
     let args = c.before.before.args in
     let fits = c.before.before.ranges in
     let match = c.match in
     let if1 = c.before.if1 in
-    pair-none args.b fits.b.fits match.rest ∙ sym (ap (λ (x : ℕ). pair args.b x) if1.true)
+    pair_none args.b fits.b.fits match.rest ∙ sym (ap (λ (x : ℕ). pair args.b x) if1.true)
 
-returns-6 : tie.Need-returns-6
+returns_6 : tie.Need-returns-6
 unfolding pair
-returns-6 c =
+returns_6 c =
     let args = c.before.before.args in
     let if1 = c.before.if1 in
     let if2 = c.if2 in
     simp (ne_eqb args.c 61 if1.false, ne_eqb args.b args.c if2.true)
 
-returns-7 : tie.Need-returns-7
+returns_7 : tie.Need-returns-7
 unfolding pair
-returns-7 c =
+returns_7 c =
     let match2 = c.match2 in
     let if2 = c.before.if2 in
     sym (ap₂ pair match2.keys1 (sym if2.false ∙ match2.keys1))
 
-returns-8 : tie.Need-returns-8
+returns_8 : tie.Need-returns-8
 unfolding pair
-returns-8 c =
+returns_8 c =
     let match2 = c.match2 in
     let if2 = c.before.if2 in
     sym (ap₂ pair match2.keys2 (sym if2.false ∙ match2.keys2))
 
-returns-9 : tie.Need-returns-9
+returns_9 : tie.Need-returns-9
 unfolding pair
-returns-9 c =
+returns_9 c =
     let match2 = c.match2 in
     let if2 = c.before.if2 in
     sym (ap₂ pair match2.keys3 (sym if2.false ∙ match2.keys3))
 
-returns-10 : tie.Need-returns-10
+returns_10 : tie.Need-returns-10
 unfolding pair
-returns-10 c =
+returns_10 c =
     let match2 = c.match2 in
     let if2 = c.before.if2 in
     sym (ap₂ pair match2.keys4 (sym if2.false ∙ match2.keys4))
 
-returns-11 : tie.Need-returns-11
+returns_11 : tie.Need-returns-11
 unfolding pair
-returns-11 c =
+returns_11 c =
     let match2 = c.match2 in
     let if2 = c.before.if2 in
     sym (ap₂ pair match2.keys5 (sym if2.false ∙ match2.keys5))
 
-returns-12 : tie.Need-returns-12
-returns-12 c =
+returns_12 : tie.Need-returns-12
+returns_12 c =
     let args = c.before.before.before.args in
     let fits = c.before.before.before.ranges in
     let match2 = c.match2 in
     let if1 = c.before.before.if1 in
     let if2 = c.before.if2 in
-    twin-none args.b fits.b.fits match2.rest (λ e. if1.false (sym if2.false ∙ e)) ∙ ap (pair args.b) if2.false
+    twin_none args.b fits.b.fits match2.rest (λ e. if1.false (sym if2.false ∙ e)) ∙ ap (pair args.b) if2.false
 
-pub pair-kind-spec : {M : Type 1} → statement M
-pair-kind-spec =
+pub pair_kind_spec : {M : Type 1} → statement M
+pair_kind_spec =
     tie.close
     (tie.spec
     returns
-    returns-2
-    returns-3
-    returns-4
-    returns-5
-    returns-6
-    returns-7
-    returns-8
-    returns-9
-    returns-10
-    returns-11
-    returns-12)
+    returns_2
+    returns_3
+    returns_4
+    returns_5
+    returns_6
+    returns_7
+    returns_8
+    returns_9
+    returns_10
+    returns_11
+    returns_12)

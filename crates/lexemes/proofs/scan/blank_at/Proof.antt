@@ -1,15 +1,15 @@
 -- `lexemes::scan::blank_at` meets its contract: a run of blanks.
 -- Assumes nothing.
 use borrow.Author.Rules.{rules}
-use Rattle.lexemes.proofs.Firsts.{blank-scanned}
+use Rattle.lexemes.proofs.Firsts.{blank_scanned}
 use Rattle.lexemes.proofs.scan.blank_at.Statement.{statement}
 use Rattle.lexemes.proofs.scan.blank_at.Tie as tie
 
-add-blanks : tie.Need-overflow-add-blanks
-add-blanks c = search rules
+add_blanks : tie.Need-overflow-add-blanks
+add_blanks c = search rules
 
-blanks-requires : tie.Need-blanks-requires
-blanks-requires c κs = search rules
+blanks_requires : tie.Need-blanks-requires
+blanks_requires c κs = search rules
 
 returns : tie.Need-returns
 returns c =
@@ -17,7 +17,7 @@ returns c =
     let s = args.src.now in
     let pre = c.before.before.requires in
     let blanks = c.blanks in
-    blank-scanned s args.at pre.1 blanks.ensures
+    blank_scanned s args.at pre.1 blanks.ensures
 
-pub blank-at-spec : {M : Type 1} → statement M
-blank-at-spec = tie.close (tie.spec add-blanks blanks-requires returns)
+pub blank_at_spec : {M : Type 1} → statement M
+blank_at_spec = tie.close (tie.spec add_blanks blanks_requires returns)

@@ -11,22 +11,22 @@ returns c =
     let if1 = c.if1 in
     end if1.true refl
 
-shared-slice-read-class-of : tie.Need-shared-slice-read-class-of
-shared-slice-read-class-of c = search rules
+shared_slice_read_class_of : tie.Need-shared-slice-read-class-of
+shared_slice_read_class_of c = search rules
 
-class-of-requires : tie.Need-class-of-requires
-class-of-requires c κs = search rules
+class_of_requires : tie.Need-class-of-requires
+class_of_requires c κs = search rules
 
-matched-at-requires : tie.Need-matched-at-requires
-matched-at-requires c κs = search rules
+matched_at_requires : tie.Need-matched-at-requires
+matched_at_requires c κs = search rules
 
-lexeme-of-requires : tie.Need-lexeme-of-requires
-lexeme-of-requires c κs = search rules
+lexeme_of_requires : tie.Need-lexeme-of-requires
+lexeme_of_requires c κs = search rules
 
-returns-2 : tie.Need-returns-2
-returns-2 c =
+returns_2 : tie.Need-returns-2
+returns_2 c =
     let lexeme-of = c.lexeme-of in
     lexeme-of.ensures
 
-pub lexeme-by-spec : {M : Type 1} → statement M
-lexeme-by-spec = tie.close (tie.spec returns shared-slice-read-class-of class-of-requires matched-at-requires lexeme-of-requires returns-2)
+pub lexeme_by_spec : {M : Type 1} → statement M
+lexeme_by_spec = tie.close (tie.spec returns shared_slice_read_class_of class_of_requires matched_at_requires lexeme_of_requires returns_2)

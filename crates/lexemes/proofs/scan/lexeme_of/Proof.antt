@@ -13,14 +13,14 @@ returns c =
     let if1 = c.if1 in
     rule pre.0 pre.1 if1.true refl
 
-block-at-requires : tie.Need-block-at-requires
-block-at-requires c κs = search rules
+block_at_requires : tie.Need-block-at-requires
+block_at_requires c κs = search rules
 
-of-block-requires : tie.Need-of-block-requires
-of-block-requires c κs = search rules
+of_block_requires : tie.Need-of-block-requires
+of_block_requires c κs = search rules
 
-returns-2 : tie.Need-returns-2
-returns-2 c =
+returns_2 : tie.Need-returns-2
+returns_2 c =
     let args = c.before.before.before.before.args in
     let pre = c.before.before.before.before.requires in
     let s = args.src.now in
@@ -29,5 +29,5 @@ returns-2 c =
     let of-block = c.of-block in
     block pre.0 (subst (λ (k : ℕ). Ruled s args.at k args.m.end) if1.false pre.1) block_at.ensures of-block.ensures
 
-pub lexeme-of-spec : {M : Type 1} → statement M
-lexeme-of-spec = tie.close (tie.spec returns block-at-requires of-block-requires returns-2)
+pub lexeme_of_spec : {M : Type 1} → statement M
+lexeme_of_spec = tie.close (tie.spec returns block_at_requires of_block_requires returns_2)

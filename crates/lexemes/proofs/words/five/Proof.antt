@@ -9,25 +9,25 @@ use Rattle.lexemes.proofs.Keywords.{shift, join, below}
 use Rattle.lexemes.proofs.words.five.Statement.{statement}
 use Rattle.lexemes.proofs.words.five.Tie as tie
 
-four-requires : tie.Need-four-requires
-four-requires c κs = search rules
+four_requires : tie.Need-four-requires
+four_requires c κs = search rules
 
-add-one : tie.Need-overflow-add-one
-add-one c = search rules
+add_one : tie.Need-overflow-add-one
+add_one c = search rules
 
-one-requires : tie.Need-one-requires
-one-requires c κs = search rules
+one_requires : tie.Need-one-requires
+one_requires c κs = search rules
 
-mul-result : tie.Need-overflow-mul-result
+mul_result : tie.Need-overflow-mul-result
 unfolding shift
-mul-result c =
+mul_result c =
     let args = c.before.before.before.args in
     let second = c.one in
     omega (arith, below args.src.now 1 (args.at + 4) second.result second.ensures)
 
-add-result : tie.Need-overflow-add-result
+add_result : tie.Need-overflow-add-result
 unfolding shift
-add-result c =
+add_result c =
     let args = c.before.before.before.args in
     let first = c.before.four in
     let second = c.one in
@@ -42,5 +42,5 @@ returns c =
     subst (λ (r : ℕ). Makes args.src.now args.at 5 r) (omega arith)
     (join args.src.now 4 1 5 args.at first.result second.result refl first.ensures second.ensures)
 
-pub five-spec : {M : Type 1} → statement M
-five-spec = tie.close (tie.spec four-requires add-one one-requires mul-result add-result returns)
+pub five_spec : {M : Type 1} → statement M
+five_spec = tie.close (tie.spec four_requires add_one one_requires mul_result add_result returns)

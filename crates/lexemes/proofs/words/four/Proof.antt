@@ -9,25 +9,25 @@ use Rattle.lexemes.proofs.Keywords.{shift, join, below}
 use Rattle.lexemes.proofs.words.four.Statement.{statement}
 use Rattle.lexemes.proofs.words.four.Tie as tie
 
-two-requires : tie.Need-two-requires
-two-requires c κs = search rules
+two_requires : tie.Need-two-requires
+two_requires c κs = search rules
 
-add-two : tie.Need-overflow-add-two
-add-two c = search rules
+add_two : tie.Need-overflow-add-two
+add_two c = search rules
 
-two-requires-2 : tie.Need-two-requires-2
-two-requires-2 c κs = search rules
+two_requires_2 : tie.Need-two-requires-2
+two_requires_2 c κs = search rules
 
-mul-result : tie.Need-overflow-mul-result
+mul_result : tie.Need-overflow-mul-result
 unfolding shift
-mul-result c =
+mul_result c =
     let args = c.before.before.before.args in
     let second = c.two2 in
     omega (arith, below args.src.now 2 (args.at + 2) second.result second.ensures)
 
-add-result : tie.Need-overflow-add-result
+add_result : tie.Need-overflow-add-result
 unfolding shift
-add-result c =
+add_result c =
     let args = c.before.before.before.args in
     let first = c.before.two in
     let second = c.two2 in
@@ -42,5 +42,5 @@ returns c =
     subst (λ (r : ℕ). Makes args.src.now args.at 4 r) (omega arith)
     (join args.src.now 2 2 4 args.at first.result second.result refl first.ensures second.ensures)
 
-pub four-spec : {M : Type 1} → statement M
-four-spec = tie.close (tie.spec two-requires add-two two-requires-2 mul-result add-result returns)
+pub four_spec : {M : Type 1} → statement M
+four_spec = tie.close (tie.spec two_requires add_two two_requires_2 mul_result add_result returns)

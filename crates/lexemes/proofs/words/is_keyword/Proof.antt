@@ -7,30 +7,30 @@ use native.Mathlib.Omega.{arith}
 use lib.ListN.{length}
 use borrow.Author.Rules.{rules}
 use Rattle.lexemes.specs.Texts.{TellsKeyword, keywords, Among}
-use Rattle.lexemes.proofs.TextLaws.{keyword-among, none-among, empty-among}
+use Rattle.lexemes.proofs.TextLaws.{keyword_among, none_among, empty_among}
 use Rattle.lexemes.proofs.words.is_keyword.Statement.{statement}
 use Rattle.lexemes.proofs.words.is_keyword.Tie as tie
 
 -- A text of no byte is no keyword.
 empty : (s : List ℕ) → length s ≡ 0 → Among s keywords → ⊥
-empty [] e m = empty-among m
+empty [] e m = empty_among m
 empty (b ∷ s) e m = omega arith
 
 returns : tie.Need-returns
 returns c = TellsKeyword.other (empty c.before.before.args.text.now c.if1.true)
 
-keyword-requires : tie.Need-keyword-requires
-keyword-requires c κs = search rules
+keyword_requires : tie.Need-keyword-requires
+keyword_requires c κs = search rules
 
-returns-2 : tie.Need-returns-2
-returns-2 c =
+returns_2 : tie.Need-returns-2
+returns_2 c =
     let s = c.before.before.before.before.args.text.now in
-    TellsKeyword.other (none-among s c.before.keyword.ensures c.if2.true)
+    TellsKeyword.other (none_among s c.before.keyword.ensures c.if2.true)
 
-returns-3 : tie.Need-returns-3
-returns-3 c =
+returns_3 : tie.Need-returns-3
+returns_3 c =
     let s = c.before.before.before.before.args.text.now in
-    TellsKeyword.keyword (keyword-among s c.before.keyword.ensures c.if2.false)
+    TellsKeyword.keyword (keyword_among s c.before.keyword.ensures c.if2.false)
 
-pub is-keyword-spec : {M : Type 1} → statement M
-is-keyword-spec = tie.close (tie.spec returns keyword-requires returns-2 returns-3)
+pub is_keyword_spec : {M : Type 1} → statement M
+is_keyword_spec = tie.close (tie.spec returns keyword_requires returns_2 returns_3)

@@ -2,26 +2,26 @@
 -- Assumes nothing.
 use mathlib.Core.List.{[], ◌∷◌}
 use borrow.Author.Rules.{rules}
-use Rattle.lexemes.proofs.Keywords.{has, numbered, is-keyword, no-keyword}
+use Rattle.lexemes.proofs.Keywords.{has, numbered, is_keyword, no_keyword}
 use Rattle.lexemes.proofs.words.of_eight.Statement.{statement}
 use Rattle.lexemes.proofs.words.of_eight.Tie as tie
 
-eight-requires : tie.Need-eight-requires
-eight-requires c κs = search rules
+eight_requires : tie.Need-eight-requires
+eight_requires c κs = search rules
 
 returns : tie.Need-returns
 unfolding has
 returns c =
     let args = c.before.before.before.args in
     let eight = c.before.eight in
-    is-keyword args.src.now args.at 8 8 7957695015192261990 74 tt eight.result eight.ensures c.match.keys1
+    is_keyword args.src.now args.at 8 8 7957695015192261990 74 tt eight.result eight.ensures c.match.keys1
 
-returns-2 : tie.Need-returns-2
+returns_2 : tie.Need-returns-2
 unfolding numbered
-returns-2 c =
+returns_2 c =
     let args = c.before.before.before.args in
     let eight = c.before.eight in
-    no-keyword args.src.now args.at 8 (7957695015192261990 ∷ []) tt eight.result eight.ensures c.match.rest
+    no_keyword args.src.now args.at 8 (7957695015192261990 ∷ []) tt eight.result eight.ensures c.match.rest
 
-pub of-eight-spec : {M : Type 1} → statement M
-of-eight-spec = tie.close (tie.spec eight-requires returns returns-2)
+pub of_eight_spec : {M : Type 1} → statement M
+of_eight_spec = tie.close (tie.spec eight_requires returns returns_2)

@@ -2,33 +2,33 @@
 -- Assumes nothing.
 use mathlib.Core.List.{[], ◌∷◌}
 use borrow.Author.Rules.{rules}
-use Rattle.lexemes.proofs.Keywords.{has, numbered, is-keyword, no-keyword}
+use Rattle.lexemes.proofs.Keywords.{has, numbered, is_keyword, no_keyword}
 use Rattle.lexemes.proofs.words.of_six.Statement.{statement}
 use Rattle.lexemes.proofs.words.of_six.Tie as tie
 
-six-requires : tie.Need-six-requires
-six-requires c κs = search rules
+six_requires : tie.Need-six-requires
+six_requires c κs = search rules
 
 returns : tie.Need-returns
 unfolding has
 returns c =
     let args = c.before.before.before.args in
     let six = c.before.six in
-    is-keyword args.src.now args.at 4 6 128034844732777 70 tt six.result six.ensures c.match.keys1
+    is_keyword args.src.now args.at 4 6 128034844732777 70 tt six.result six.ensures c.match.keys1
 
-returns-2 : tie.Need-returns-2
+returns_2 : tie.Need-returns-2
 unfolding has
-returns-2 c =
+returns_2 c =
     let args = c.before.before.before.args in
     let six = c.before.six in
-    is-keyword args.src.now args.at 17 6 128034677158753 84 tt six.result six.ensures c.match.keys2
+    is_keyword args.src.now args.at 17 6 128034677158753 84 tt six.result six.ensures c.match.keys2
 
-returns-3 : tie.Need-returns-3
+returns_3 : tie.Need-returns-3
 unfolding numbered
-returns-3 c =
+returns_3 c =
     let args = c.before.before.before.args in
     let six = c.before.six in
-    no-keyword args.src.now args.at 6 (128034677158753 ∷ 128034844732777 ∷ []) tt six.result six.ensures c.match.rest
+    no_keyword args.src.now args.at 6 (128034677158753 ∷ 128034844732777 ∷ []) tt six.result six.ensures c.match.rest
 
-pub of-six-spec : {M : Type 1} → statement M
-of-six-spec = tie.close (tie.spec six-requires returns returns-2 returns-3)
+pub of_six_spec : {M : Type 1} → statement M
+of_six_spec = tie.close (tie.spec six_requires returns returns_2 returns_3)

@@ -6,54 +6,54 @@ use Prim.Native.Nat.{ℕ, ◌+◌, ◌*◌, ◌<◌}
 use native.Mathlib.Omega.{arith}
 use borrow.Author.Rules.{rules}
 use Rattle.lexemes.specs.Words.{Makes, KeywordAt}
-use Rattle.lexemes.proofs.Keywords.{has, numbered, shift, join, below, is-keyword, no-keyword}
+use Rattle.lexemes.proofs.Keywords.{has, numbered, shift, join, below, is_keyword, no_keyword}
 use Rattle.lexemes.proofs.words.of_ten.Statement.{statement}
 use Rattle.lexemes.proofs.words.of_ten.Tie as tie
 
-eight-requires : tie.Need-eight-requires
-eight-requires c κs = search rules
+eight_requires : tie.Need-eight-requires
+eight_requires c κs = search rules
 
-add-two : tie.Need-overflow-add-two
-add-two c = search rules
+add_two : tie.Need-overflow-add-two
+add_two c = search rules
 
-two-requires : tie.Need-two-requires
-two-requires c κs = search rules
+two_requires : tie.Need-two-requires
+two_requires c κs = search rules
 
 module _ (s : List ℕ) (at v x : ℕ) (f : Makes s at 8 v) (g : Makes s (at + 8) 2 x) where
   whole : Makes s at 10 (v + x * 18446744073709551616)
   unfolding shift
   whole = subst (λ (r : ℕ). Makes s at 10 r) (omega arith) (join s 8 2 10 at v x refl f g)
 
-  is-tailstrict : v ≡ 7598263560416354676 → x ≡ 29795 → KeywordAt s at (at + 10) 66
+  is_tailstrict : v ≡ 7598263560416354676 → x ≡ 29795 → KeywordAt s at (at + 10) 66
   unfolding has
-  is-tailstrict a b = is-keyword s at 0 10 549628337939736506753396 66 tt (v + x * 18446744073709551616) whole (omega (arith, a, b))
+  is_tailstrict a b = is_keyword s at 0 10 549628337939736506753396 66 tt (v + x * 18446744073709551616) whole (omega (arith, a, b))
 
   is_none : (v ≡ 7598263560416354676 → x ≡ 29795 → ⊥) → KeywordAt s at (at + 10) 55
   unfolding numbered shift
   is_none n0 =
       let low : v < 18446744073709551616 = below s 8 at v f in
-      no-keyword s at 10 (549628337939736506753396 ∷ []) tt (v + x * 18446744073709551616) whole (tt, λ e. n0 (omega (arith, e, low)) (omega (arith, e, low)))
+      no_keyword s at 10 (549628337939736506753396 ∷ []) tt (v + x * 18446744073709551616) whole (tt, λ e. n0 (omega (arith, e, low)) (omega (arith, e, low)))
 
 returns : tie.Need-returns
 returns c =
     let args = c.before.before.before.before.before.args in
     let eight = c.before.before.before.eight in
     let rest = c.before.before.two in
-    is-tailstrict args.src.now args.at eight.result rest.result eight.ensures rest.ensures c.before.if1.true c.if2.true
+    is_tailstrict args.src.now args.at eight.result rest.result eight.ensures rest.ensures c.before.if1.true c.if2.true
 
-returns-2 : tie.Need-returns-2
-returns-2 c =
+returns_2 : tie.Need-returns-2
+returns_2 c =
     let args = c.before.before.before.before.before.args in
     let eight = c.before.before.before.eight in
     let rest = c.before.before.two in
     is_none args.src.now args.at eight.result rest.result eight.ensures rest.ensures (λ a b. c.if2.false b)
 
-returns-3 : tie.Need-returns-3
-returns-3 c =
+returns_3 : tie.Need-returns-3
+returns_3 c =
     let args = c.before.before.before.before.args in
     let eight = c.before.before.eight in
     let rest = c.before.two in
     is_none args.src.now args.at eight.result rest.result eight.ensures rest.ensures (λ a b. c.if1.false a)
 
-pub of-ten-spec : {M : Type 1} → statement M
-of-ten-spec = tie.close (tie.spec eight-requires add-two two-requires returns returns-2 returns-3)
+pub of_ten_spec : {M : Type 1} → statement M
+of_ten_spec = tie.close (tie.spec eight_requires add_two two_requires returns returns_2 returns_3)

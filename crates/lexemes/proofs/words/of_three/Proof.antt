@@ -2,26 +2,26 @@
 -- Assumes nothing.
 use mathlib.Core.List.{[], ◌∷◌}
 use borrow.Author.Rules.{rules}
-use Rattle.lexemes.proofs.Keywords.{has, numbered, is-keyword, no-keyword}
+use Rattle.lexemes.proofs.Keywords.{has, numbered, is_keyword, no_keyword}
 use Rattle.lexemes.proofs.words.of_three.Statement.{statement}
 use Rattle.lexemes.proofs.words.of_three.Tie as tie
 
-three-requires : tie.Need-three-requires
-three-requires c κs = search rules
+three_requires : tie.Need-three-requires
+three_requires c κs = search rules
 
 returns : tie.Need-returns
 unfolding has
 returns c =
     let args = c.before.before.before.args in
     let three = c.before.three in
-    is-keyword args.src.now args.at 16 3 7499622 83 tt three.result three.ensures c.match.keys1
+    is_keyword args.src.now args.at 16 3 7499622 83 tt three.result three.ensures c.match.keys1
 
-returns-2 : tie.Need-returns-2
+returns_2 : tie.Need-returns-2
 unfolding numbered
-returns-2 c =
+returns_2 c =
     let args = c.before.before.before.args in
     let three = c.before.three in
-    no-keyword args.src.now args.at 3 (7499622 ∷ []) tt three.result three.ensures c.match.rest
+    no_keyword args.src.now args.at 3 (7499622 ∷ []) tt three.result three.ensures c.match.rest
 
-pub of-three-spec : {M : Type 1} → statement M
-of-three-spec = tie.close (tie.spec three-requires returns returns-2)
+pub of_three_spec : {M : Type 1} → statement M
+of_three_spec = tie.close (tie.spec three_requires returns returns_2)

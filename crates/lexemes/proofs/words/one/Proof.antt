@@ -7,11 +7,11 @@ use Rattle.lexemes.specs.Words.{Makes}
 use Rattle.lexemes.proofs.words.one.Statement.{statement}
 use Rattle.lexemes.proofs.words.one.Tie as tie
 
-shared-slice-read-wide : tie.Need-shared-slice-read-wide
-shared-slice-read-wide c = search rules
+shared_slice_read_wide : tie.Need-shared-slice-read-wide
+shared_slice_read_wide c = search rules
 
-wide-requires : tie.Need-wide-requires
-wide-requires c κs = search rules
+wide_requires : tie.Need-wide-requires
+wide_requires c κs = search rules
 
 returns : tie.Need-returns
 unfolding Makes
@@ -20,4 +20,4 @@ returns c =
     (0, wide.ensures.1, refl, omega (arith, wide.ensures.0))
 
 pub one_spec : {M : Type 1} → statement M
-one_spec = tie.close (tie.spec shared-slice-read-wide wide-requires returns)
+one_spec = tie.close (tie.spec shared_slice_read_wide wide_requires returns)

@@ -9,25 +9,25 @@ use Rattle.lexemes.proofs.Keywords.{shift, join, below}
 use Rattle.lexemes.proofs.words.six.Statement.{statement}
 use Rattle.lexemes.proofs.words.six.Tie as tie
 
-four-requires : tie.Need-four-requires
-four-requires c κs = search rules
+four_requires : tie.Need-four-requires
+four_requires c κs = search rules
 
-add-two : tie.Need-overflow-add-two
-add-two c = search rules
+add_two : tie.Need-overflow-add-two
+add_two c = search rules
 
-two-requires : tie.Need-two-requires
-two-requires c κs = search rules
+two_requires : tie.Need-two-requires
+two_requires c κs = search rules
 
-mul-result : tie.Need-overflow-mul-result
+mul_result : tie.Need-overflow-mul-result
 unfolding shift
-mul-result c =
+mul_result c =
     let args = c.before.before.before.args in
     let second = c.two in
     omega (arith, below args.src.now 2 (args.at + 4) second.result second.ensures)
 
-add-result : tie.Need-overflow-add-result
+add_result : tie.Need-overflow-add-result
 unfolding shift
-add-result c =
+add_result c =
     let args = c.before.before.before.args in
     let first = c.before.four in
     let second = c.two in
@@ -42,5 +42,5 @@ returns c =
     subst (λ (r : ℕ). Makes args.src.now args.at 6 r) (omega arith)
     (join args.src.now 4 2 6 args.at first.result second.result refl first.ensures second.ensures)
 
-pub six-spec : {M : Type 1} → statement M
-six-spec = tie.close (tie.spec four-requires add-two two-requires mul-result add-result returns)
+pub six_spec : {M : Type 1} → statement M
+six_spec = tie.close (tie.spec four_requires add_two two_requires mul_result add_result returns)

@@ -2,18 +2,18 @@
 -- Assumes nothing.
 use native.Mathlib.Omega.{arith}
 use borrow.Author.Rules.{rules}
-use Rattle.lexemes.proofs.Keywords.{word-scanned}
+use Rattle.lexemes.proofs.Keywords.{word_scanned}
 use Rattle.lexemes.proofs.words.word_at.Statement.{statement}
 use Rattle.lexemes.proofs.words.word_at.Tie as tie
 
-add-word-end : tie.Need-overflow-add-word-end
-add-word-end c = search rules
+add_word_end : tie.Need-overflow-add-word-end
+add_word_end c = search rules
 
-word-end-requires : tie.Need-word-end-requires
-word-end-requires c κs = search rules
+word_end_requires : tie.Need-word-end-requires
+word_end_requires c κs = search rules
 
-keyword-requires : tie.Need-keyword-requires
-keyword-requires c κs =
+keyword_requires : tie.Need-keyword-requires
+keyword_requires c κs =
     let word-end = c.word-end in
     omega (arith, word-end.ensures.start, word-end.ensures.end)
 
@@ -24,7 +24,7 @@ returns c =
     let word-end = c.before.word-end in
     let pre = c.before.before.before.requires in
     let keyword = c.keyword in
-    word-scanned s args.at word-end.result pre.1 word-end.ensures keyword.ensures
+    word_scanned s args.at word-end.result pre.1 word-end.ensures keyword.ensures
 
-pub word-at-spec : {M : Type 1} → statement M
-word-at-spec = tie.close (tie.spec add-word-end word-end-requires keyword-requires returns)
+pub word_at_spec : {M : Type 1} → statement M
+word_at_spec = tie.close (tie.spec add_word_end word_end_requires keyword_requires returns)

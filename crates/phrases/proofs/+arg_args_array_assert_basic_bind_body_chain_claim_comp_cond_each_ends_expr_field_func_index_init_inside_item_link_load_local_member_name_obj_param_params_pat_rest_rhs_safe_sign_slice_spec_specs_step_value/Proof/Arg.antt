@@ -10,38 +10,38 @@ use Prim.Native.Nat.{ℕ, ◌+◌, ◌-◌, ◌<◌, ◌^◌}
 use Rattle.leaves.proofs.Steps
 use Rattle.phrases.proofs.arg.Reads.{Post}
 use Rattle.phrases.proofs.+arg_args_array_assert_basic_bind_body_chain_claim_comp_cond_each_ends_expr_field_func_index_init_inside_item_link_load_local_member_name_obj_param_params_pat_rest_rhs_safe_sign_slice_spec_specs_step_value.Lts-arg as lts
-use Rattle.phrases.proofs.+arg_args_array_assert_basic_bind_body_chain_claim_comp_cond_each_ends_expr_field_func_index_init_inside_item_link_load_local_member_name_obj_param_params_pat_rest_rhs_safe_sign_slice_spec_specs_step_value.Proof.Frame.{arg-claims as K, arg-at as P}
+use Rattle.phrases.proofs.+arg_args_array_assert_basic_bind_body_chain_claim_comp_cond_each_ends_expr_field_func_index_init_inside_item_link_load_local_member_name_obj_param_params_pat_rest_rhs_safe_sign_slice_spec_specs_step_value.Proof.Frame.{arg_claims as K, arg_at as P}
 use Rattle.lexemes.specs.Kinds.{IDENT, ASSIGN}
-use Rattle.grammar.specs.Tags.{NAMED-ARGUMENT}
+use Rattle.grammar.specs.Tags.{NAMED_ARGUMENT}
 use Rattle.grammar.specs.Trees.{text}
-use Rattle.grammar.specs.Productions.{Body, goto, end, close, ◌▸◌, expression, named-argument}
+use Rattle.grammar.specs.Productions.{Body, goto, end, close, ◌▸◌, expression, named_argument}
 use Rattle.leaves.specs.Meets.{state, Seg}
 use Rattle.leaves.specs.declared.Cursor.{Cursor}
 use Rattle.leaves.proofs.LexemeLaws.{lies}
-use Rattle.leaves.proofs.LeafLaws.{bytes-short, within}
-use Rattle.leaves.proofs.PartLaws.{wrote-lent}
-use Rattle.phrases.proofs.SuffixLaws.{is-named, argues-plain, argues-fault, argues-named, name-taken, name-closed}
+use Rattle.leaves.proofs.LeafLaws.{bytes_short, within}
+use Rattle.leaves.proofs.PartLaws.{wrote_lent}
+use Rattle.phrases.proofs.SuffixLaws.{is_named, argues_plain, argues_fault, argues_named, name_taken, name_closed}
 
 module _ (t : ℕ) where
   -- a stretch of a named argument, which has taken its name and `=`
   abbrev So : lts.Start (K t) (P t) Post → Body → ℕ → Cursor → ℕ → List ℕ → Type 0
-  So a b n c w o = let x = a.args in Seg x.set x.src.now x.left (state (goto named-argument) 0 x.c x.w x.out.now) (0 + (x.c.end - x.c.at) + 1) 0 (state b n c w o)
+  So a b n c w o = let x = a.args in Seg x.set x.src.now x.left (state (goto named_argument) 0 x.c x.w x.out.now) (0 + (x.c.end - x.c.at) + 1) 0 (state b n c w o)
 
   -- the record of all its trees
   abbrev record_of : lts.Start (K t) (P t) Post → Body
-  record_of a = let x = a.args in close NAMED-ARGUMENT (text (slice x.c.start x.c.end x.src.now) ∷ []) ▸ end
+  record_of a = let x = a.args in close NAMED_ARGUMENT (text (slice x.c.start x.c.end x.src.now) ∷ []) ▸ end
 
   abbrev a₁ : lts.After-eat-any (K t) (P t) Post → lts.Start (K t) (P t) Post
   a₁ c = c.before.before.before.before
 
   named : (c : lts.After-eat-any (K t) (P t) Post) → ((a₁ c).args.c.kind ≡ IDENT) × (c.eat-any.result.kind ≡ ASSIGN) × ((a₁ c).args.k ≡ 1)
-  named c = is-named (a₁ c).requires.1.1 c.before.if1.false c.eat-any.ensures
+  named c = is_named (a₁ c).requires.1.1 c.before.if1.false c.eat-any.ensures
 
   abbrev a₂ : lts.After-eat-any2 (K t) (P t) Post → lts.Start (K t) (P t) Post
   a₂ c = a₁ c.before.before
 
   headed : (c : lts.After-eat-any2 (K t) (P t) Post) → So (a₂ c) (expression ▸ record_of (a₂ c)) 0 c.eat-any2.result (a₂ c).args.w (a₂ c).args.out.now
-  headed c = let e = c.before.before in name-taken (a₂ c).requires.1.0.stands (named e).0 e.eat-any.ensures (named e).1 c.eat-any2.ensures
+  headed c = let e = c.before.before in name_taken (a₂ c).requires.1.0.stands (named e).0 e.eat-any.ensures (named e).1 c.eat-any2.ensures
 
   abbrev c₃ : lts.After-a (K t) (P t) Post → lts.After-eat-any2 (K t) (P t) Post
   c₃ c = c.before.before.before.before.before
@@ -53,58 +53,58 @@ module _ (t : ℕ) where
   valued c = Steps.took c.before.before.before.before.expr2.ensures c.a.given.1 (headed (c₃ c))
 
   -- ── What each call asks ─────────────────────────────────────────────────────────────────────────
-  expr-requires-2 : lts.Need-expr-requires-2 (K t) (P t) Post
-  expr-requires-2 c κs = let p = (a₂ c).requires in (omega (arith, p.0), Steps.ready p.1.0 (omega arith) (headed c))
+  expr_requires_2 : lts.Need-expr-requires-2 (K t) (P t) Post
+  expr_requires_2 c κs = let p = (a₂ c).requires in (omega (arith, p.0), Steps.ready p.1.0 (omega arith) (headed c))
 
-  cast-put-word : lts.Need-overflow-cast-put-word (K t) (P t) Post
-  cast-put-word c =
+  cast_put_word : lts.Need-overflow-cast-put-word (K t) (P t) Post
+  cast_put_word c =
       let a = a₃ c.before.before in let fits : a.args.c.start < 2 ^ 64 = omega (arith, (within a.pre.1.0).0) in
       record { fits = fits }
 
-  cast-put-word-2 : lts.Need-overflow-cast-put-word-2 (K t) (P t) Post
-  cast-put-word-2 c =
+  cast_put_word_2 : lts.Need-overflow-cast-put-word-2 (K t) (P t) Post
+  cast_put_word_2 c =
       let a = a₃ c.before.before in let fits : a.args.c.end < 2 ^ 64 = omega (arith, (within a.pre.1.0).1) in
       record { fits = fits }
 
-  sub-put-word : lts.Need-overflow-sub-put-word (K t) (P t) Post
-  sub-put-word c = (lies (a₃ c.before.before).pre.1.0.stands).on
+  sub_put_word : lts.Need-overflow-sub-put-word (K t) (P t) Post
+  sub_put_word c = (lies (a₃ c.before.before).pre.1.0.stands).on
 
-  part-put-word-end : lts.Need-slice-bounds-put-word-end (K t) (P t) Post
-  part-put-word-end c = (lies (a₃ c.before.before).pre.1.0.stands).within
+  part_put_word_end : lts.Need-slice-bounds-put-word-end (K t) (P t) Post
+  part_put_word_end c = (lies (a₃ c.before.before).pre.1.0.stands).within
 
-  put-word-requires : lts.Need-put-word-requires (K t) (P t) Post
-  put-word-requires c κs = let a = c.before.before.before in let p = (a₃ a).requires.1.0 in (Steps.fits p (lit≤ tt) (valued a), omega (arith, bytes-short p))
+  put_word_requires : lts.Need-put-word-requires (K t) (P t) Post
+  put_word_requires c κs = let a = c.before.before.before in let p = (a₃ a).requires.1.0 in (Steps.fits p (lit≤ tt) (valued a), omega (arith, bytes_short p))
 
   -- ── What each return owes ───────────────────────────────────────────────────────────────────────
   returns : lts.Need-returns (K t) (P t) Post
-  returns c = let x = c.before.before in let p = x.before.before.before.requires.1 in argues-fault p.0.stands p.1 x.if1.true c.before.if2.true c.error.ensures
+  returns c = let x = c.before.before in let p = x.before.before.before.requires.1 in argues_fault p.0.stands p.1 x.if1.true c.before.if2.true c.error.ensures
 
-  returns-2 : lts.Need-returns-2 (K t) (P t) Post
-  returns-2 c =
+  returns_2 : lts.Need-returns-2 (K t) (P t) Post
+  returns_2 c =
       let x = c.before.before.before.before in
       let p = x.before.before.before.before.requires.1 in
-      argues-plain p.0.stands p.1 x.before.if1.true x.if2.false c.before.before.expr.ensures
+      argues_plain p.0.stands p.1 x.before.if1.true x.if2.false c.before.before.expr.ensures
 
-  returns-3 : lts.Need-returns-3 (K t) (P t) Post
-  returns-3 c =
+  returns_3 : lts.Need-returns-3 (K t) (P t) Post
+  returns_3 c =
       let x = c.before.before.before.before in
       let h = x.before in
       let e = h.before.before in
       let is = named e in
-      argues-named (a₂ h).requires.1.0.stands is.0 e.eat-any.ensures is.1 is.2 (Steps.as-sub (Steps.passed (Steps.takes-broken x.expr2.ensures c.before.match.keys2) (headed h)))
+      argues_named (a₂ h).requires.1.0.stands is.0 e.eat-any.ensures is.1 is.2 (Steps.as_sub (Steps.passed (Steps.takes_broken x.expr2.ensures c.before.match.keys2) (headed h)))
 
-  returns-4 : lts.Need-returns-4 (K t) (P t) Post
-  returns-4 c =
+  returns_4 : lts.Need-returns-4 (K t) (P t) Post
+  returns_4 c =
       let x = c.before.before in
       let v = x.before.before.before.before in
       let e = (c₃ v).before.before in
       let is = named e in
       let g = (a₁ e).args in
       let st = (a₁ e).pre.1.0.stands in
-      argues-named st is.0 e.eat-any.ensures is.1 is.2
-      (name-closed st (omega arith) (valued v) (wrote-lent NAMED-ARGUMENT (λ (l : List ℕ). text l ∷ []) g.src.now g.c.start g.c.end x.put_word.ensures))
+      argues_named st is.0 e.eat-any.ensures is.1 is.2
+      (name_closed st (omega arith) (valued v) (wrote_lent NAMED_ARGUMENT (λ (l : List ℕ). text l ∷ []) g.src.now g.c.start g.c.end x.put_word.ensures))
 
   -- All of them, in the order of the code.
   pub met : {M : Type 1} → lts.Closed (K t) (P t) Post M
-  met = lts.spec (K t) (P t) Post (λ c κs. search rules) returns (λ c κs. search rules) (λ c. search rules) returns-2 (λ c κs. search rules) (λ c κs. search rules) expr-requires-2
-      (λ c. search rules) (λ c. search rules) (λ c. search rules) returns-3 cast-put-word cast-put-word-2 sub-put-word sub-put-word part-put-word-end put-word-requires (λ c. search rules) returns-4
+  met = lts.spec (K t) (P t) Post (λ c κs. search rules) returns (λ c κs. search rules) (λ c. search rules) returns_2 (λ c κs. search rules) (λ c κs. search rules) expr_requires_2
+      (λ c. search rules) (λ c. search rules) (λ c. search rules) returns_3 cast_put_word cast_put_word_2 sub_put_word sub_put_word part_put_word_end put_word_requires (λ c. search rules) returns_4

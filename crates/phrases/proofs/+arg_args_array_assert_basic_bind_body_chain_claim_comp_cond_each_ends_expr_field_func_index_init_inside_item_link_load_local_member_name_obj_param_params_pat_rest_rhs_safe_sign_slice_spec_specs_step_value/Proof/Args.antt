@@ -9,28 +9,28 @@ use Prim.Native.Nat.{ℕ, ◌+◌, ◌-◌, ◌≤◌}
 use Rattle.leaves.proofs.Steps
 use Rattle.phrases.proofs.args.Reads.{Post}
 use Rattle.phrases.proofs.+arg_args_array_assert_basic_bind_body_chain_claim_comp_cond_each_ends_expr_field_func_index_init_inside_item_link_load_local_member_name_obj_param_params_pat_rest_rhs_safe_sign_slice_spec_specs_step_value.Lts-args as lts
-use Rattle.phrases.proofs.+arg_args_array_assert_basic_bind_body_chain_claim_comp_cond_each_ends_expr_field_func_index_init_inside_item_link_load_local_member_name_obj_param_params_pat_rest_rhs_safe_sign_slice_spec_specs_step_value.Proof.Frame.{args-claims as K, args_at as P}
-use Rattle.grammar.specs.Productions.{Body, goto, arguments, argument, argument-end}
+use Rattle.phrases.proofs.+arg_args_array_assert_basic_bind_body_chain_claim_comp_cond_each_ends_expr_field_func_index_init_inside_item_link_load_local_member_name_obj_param_params_pat_rest_rhs_safe_sign_slice_spec_specs_step_value.Proof.Frame.{args_claims as K, args_at as P}
+use Rattle.grammar.specs.Productions.{Body, goto, arguments, argument, argument_end}
 use Rattle.leaves.specs.Lexing.{Stands}
 use Rattle.leaves.specs.Meets.{state, Seg}
 use Rattle.leaves.specs.declared.Cursor.{Cursor}
 use Rattle.leaves.proofs.LeafLaws.{moved_on}
-use Rattle.phrases.proofs.CountLaws.{argument-grows}
-use Rattle.phrases.proofs.SuffixLaws.{named-few, arguments-over, arguments-on, argument-over, argument-on}
+use Rattle.phrases.proofs.CountLaws.{argument_grows}
+use Rattle.phrases.proofs.SuffixLaws.{named_few, arguments_over, arguments_on, argument_over, argument_on}
 
 abbrev pub Inv-loop : lts.invariant-loop
 Inv-loop src out₀ w left set from cur₀ at₀ unnamed₀ named₀ out cur at unnamed named =
     Steps.Turns set src left (goto (arguments from 0 0)) 1 cur₀ at₀ out₀ (goto (arguments from unnamed named)) (1 + (unnamed + named)) cur at out × (unnamed + named ≤ cur.at)
 
-abbrev pub μ-loop : lts.decreases-loop
-μ-loop src out₀ w left set from cur₀ at₀ unnamed₀ named₀ out cur at unnamed named = length src - cur.at
+abbrev pub μ_loop : lts.decreases-loop
+μ_loop src out₀ w left set from cur₀ at₀ unnamed₀ named₀ out cur at unnamed named = length src - cur.at
 
 module _ (t : ℕ) where
   abbrev Turn : Type 0
-  Turn = lts.At-loop (K t) (P t) Post Inv-loop μ-loop
+  Turn = lts.At-loop (K t) (P t) Post Inv-loop μ_loop
 
   -- the function's start
-  abbrev a₀ : Turn → lts.Start (K t) (P t) Post Inv-loop μ-loop
+  abbrev a₀ : Turn → lts.Start (K t) (P t) Post Inv-loop μ_loop
   a₀ l = l.before.before.before
 
   -- a stretch of one turn, of which e bytes are taken
@@ -40,95 +40,95 @@ module _ (t : ℕ) where
       let x = l.loop in
       Seg a.set a.src.now a.left (state (goto (arguments a.from x.unnamed x.named)) (1 + (x.unnamed + x.named)) x.cur x.at x.out) e 0 (state b n c w o)
 
-  abbrev l₁ : lts.Else1 (K t) (P t) Post Inv-loop μ-loop → Turn
+  abbrev l₁ : lts.Else1 (K t) (P t) Post Inv-loop μ_loop → Turn
   l₁ c = c.before.before
 
-  one : (c : lts.Else1 (K t) (P t) Post Inv-loop μ-loop) → let x = (l₁ c).loop in
+  one : (c : lts.Else1 (K t) (P t) Post Inv-loop μ_loop) → let x = (l₁ c).loop in
       So (l₁ c) 0 (goto (argument (a₀ (l₁ c)).args.from x.unnamed x.named)) (1 + (x.unnamed + x.named)) x.cur x.at x.out
-  one c = arguments-on (l₁ c).loop.invariant.0.ok.stands c.if1.false Steps.here
+  one c = arguments_on (l₁ c).loop.invariant.0.ok.stands c.if1.false Steps.here
 
-  abbrev x₂ : lts.After-a (K t) (P t) Post Inv-loop μ-loop → lts.After-arg (K t) (P t) Post Inv-loop μ-loop
+  abbrev x₂ : lts.After-a (K t) (P t) Post Inv-loop μ_loop → lts.After-arg (K t) (P t) Post Inv-loop μ_loop
   x₂ c = c.before.before.before.before
 
-  abbrev l₂ : lts.After-a (K t) (P t) Post Inv-loop μ-loop → Turn
+  abbrev l₂ : lts.After-a (K t) (P t) Post Inv-loop μ_loop → Turn
   l₂ c = l₁ (x₂ c).before.before.before
 
-  few : (c : lts.After-a (K t) (P t) Post Inv-loop μ-loop) → (x₂ c).before.before.named-at.result ≤ 1
-  few c = named-few (x₂ c).before.before.named-at.ensures
+  few : (c : lts.After-a (K t) (P t) Post Inv-loop μ_loop) → (x₂ c).before.before.named-at.result ≤ 1
+  few c = named_few (x₂ c).before.before.named-at.ensures
 
   -- how many are unnamed then, and named
-  abbrev unnamed : lts.After-a (K t) (P t) Post Inv-loop μ-loop → ℕ
+  abbrev unnamed : lts.After-a (K t) (P t) Post Inv-loop μ_loop → ℕ
   unnamed c = (l₂ c).loop.unnamed + (1 - (x₂ c).before.before.named-at.result)
 
-  abbrev named : lts.After-a (K t) (P t) Post Inv-loop μ-loop → ℕ
+  abbrev named : lts.After-a (K t) (P t) Post Inv-loop μ_loop → ℕ
   named c = (l₂ c).loop.named + (x₂ c).before.before.named-at.result
 
-  took : (c : lts.After-a (K t) (P t) Post Inv-loop μ-loop)
-      → So (l₂ c) 0 (goto (argument-end (a₀ (l₂ c)).args.from (unnamed c) (named c))) (1 + (unnamed c + named c)) c.a.given.0.0 c.a.given.0.1.0 (x₂ c).arg.new.1.0
+  took : (c : lts.After-a (K t) (P t) Post Inv-loop μ_loop)
+      → So (l₂ c) 0 (goto (argument_end (a₀ (l₂ c)).args.from (unnamed c) (named c))) (1 + (unnamed c + named c)) c.a.given.0.0 c.a.given.0.1.0 (x₂ c).arg.new.1.0
   took c =
       let x = (l₂ c).loop in
       let went = Steps.went ((x₂ c).arg.ensures.argues (a₀ (l₂ c)).args.from x.unnamed (1 + (x.unnamed + x.named))) c.a.given.1 (one (x₂ c).before.before.before) in
-      Steps.count-is (omega (arith, few c)) went
+      Steps.count_is (omega (arith, few c)) went
 
-  there : (c : lts.After-a (K t) (P t) Post Inv-loop μ-loop) → Stands (a₀ (l₂ c)).args.src.now c.a.given.0.0
+  there : (c : lts.After-a (K t) (P t) Post Inv-loop μ_loop) → Stands (a₀ (l₂ c)).args.src.now c.a.given.0.0
   there c = (took c).stands (l₂ c).loop.invariant.0.ok.stands
 
-  enough : (c : lts.After-a (K t) (P t) Post Inv-loop μ-loop) → unnamed c + named c ≤ c.a.given.0.0.at
-  enough c = omega (arith, (l₂ c).loop.invariant.1, argument-grows (x₂ c).arg.ensures c.a.given.1, few c)
+  enough : (c : lts.After-a (K t) (P t) Post Inv-loop μ_loop) → unnamed c + named c ≤ c.a.given.0.0.at
+  enough c = omega (arith, (l₂ c).loop.invariant.1, argument_grows (x₂ c).arg.ensures c.a.given.1, few c)
 
-  next : (c : lts.After-eat-any (K t) (P t) Post Inv-loop μ-loop) → let a = c.before.before.before.before in
+  next : (c : lts.After-eat-any (K t) (P t) Post Inv-loop μ_loop) → let a = c.before.before.before.before in
       So (l₂ a) 1 (goto (arguments (a₀ (l₂ a)).args.from (unnamed a) (named a))) (1 + (unnamed a + named a)) c.eat-any.result a.a.given.0.1.0 (x₂ a).arg.new.1.0
-  next c = let a = c.before.before.before.before in argument-on (there a) c.before.if2.false c.eat-any.ensures (took a)
+  next c = let a = c.before.before.before.before in argument_on (there a) c.before.if2.false c.eat-any.ensures (took a)
 
   -- ── What each call asks ─────────────────────────────────────────────────────────────────────────
-  call-close-requires-2 : lts.Need-call-close-requires-2 (K t) (P t) Post Inv-loop μ-loop
-  call-close-requires-2 c κs =
+  call_close_requires_2 : lts.Need-call-close-requires-2 (K t) (P t) Post Inv-loop μ_loop
+  call_close_requires_2 c κs =
       let a = c.before.before.before.before in
       (Steps.ready (l₂ a).loop.invariant.0.ok (lit≤ tt) (took a), (a₀ (l₂ a)).pre.1.1, omega (arith, enough a), omega (arith, enough a))
 
-  eat-any-requires : lts.Need-eat-any-requires (K t) (P t) Post Inv-loop μ-loop
-  eat-any-requires c κs = there c.before.before.before
+  eat_any_requires : lts.Need-eat-any-requires (K t) (P t) Post Inv-loop μ_loop
+  eat_any_requires c κs = there c.before.before.before
 
-  sub-unnamed : lts.Need-overflow-sub-unnamed (K t) (P t) Post Inv-loop μ-loop
-  sub-unnamed c = few c.before
+  sub_unnamed : lts.Need-overflow-sub-unnamed (K t) (P t) Post Inv-loop μ_loop
+  sub_unnamed c = few c.before
 
-  add-unnamed : lts.Need-overflow-add-unnamed (K t) (P t) Post Inv-loop μ-loop
-  add-unnamed c = let i = (l₂ c.before).loop.inv in omega (arith, i.1, few c.before, i.0.ok.stands.short, i.0.ok.stands.within)
+  add_unnamed : lts.Need-overflow-add-unnamed (K t) (P t) Post Inv-loop μ_loop
+  add_unnamed c = let i = (l₂ c.before).loop.inv in omega (arith, i.1, few c.before, i.0.ok.stands.short, i.0.ok.stands.within)
 
-  add-named : lts.Need-overflow-add-named (K t) (P t) Post Inv-loop μ-loop
-  add-named c = let i = (l₂ c.before).loop.inv in omega (arith, i.1, few c.before, i.0.ok.stands.short, i.0.ok.stands.within)
+  add_named : lts.Need-overflow-add-named (K t) (P t) Post Inv-loop μ_loop
+  add_named c = let i = (l₂ c.before).loop.inv in omega (arith, i.1, few c.before, i.0.ok.stands.short, i.0.ok.stands.within)
 
   -- ── The loop, and what each return owes ─────────────────────────────────────────────────────────
-  loop-holds : lts.Need-loop-init (K t) (P t) Post Inv-loop μ-loop
-  loop-holds c = (Steps.begun c.before.before.requires.1.0, omega arith)
+  loop_holds : lts.Need-loop-init (K t) (P t) Post Inv-loop μ_loop
+  loop_holds c = (Steps.begun c.before.before.requires.1.0, omega arith)
 
-  loop-less : lts.Need-loop-smaller (K t) (P t) Post Inv-loop μ-loop
-  loop-less c = Steps.closer (l₂ c.before.before.before.before).loop.inv.0.ok (lit≤ tt) (next c)
+  loop_less : lts.Need-loop-smaller (K t) (P t) Post Inv-loop μ_loop
+  loop_less c = Steps.closer (l₂ c.before.before.before.before).loop.inv.0.ok (lit≤ tt) (next c)
 
-  loop-again : lts.Need-loop-preserved (K t) (P t) Post Inv-loop μ-loop
-  loop-again c = let a = c.before.before.before.before in (Steps.turned (l₂ a).loop.invariant.0 (lit≤ tt) (next c), omega (arith, enough a, moved_on (there a) c.eat-any.ensures))
+  loop_again : lts.Need-loop-preserved (K t) (P t) Post Inv-loop μ_loop
+  loop_again c = let a = c.before.before.before.before in (Steps.turned (l₂ a).loop.invariant.0 (lit≤ tt) (next c), omega (arith, enough a, moved_on (there a) c.eat-any.ensures))
 
-  returns : lts.Need-returns (K t) (P t) Post Inv-loop μ-loop
+  returns : lts.Need-returns (K t) (P t) Post Inv-loop μ_loop
   returns c =
       let x = c.before.before in
       let e = x.before.before in
       let i = e.before.before.loop.invariant.0 in
-      Steps.tail-telling (lit≤ tt) (x.call-close.ensures.tells _ _ _) (arguments-over i.ok.stands e.if1.true i.seg)
+      Steps.tail_telling (lit≤ tt) (x.call_close.ensures.tells _ _ _) (arguments_over i.ok.stands e.if1.true i.seg)
 
-  returns-2 : lts.Need-returns-2 (K t) (P t) Post Inv-loop μ-loop
-  returns-2 c =
+  returns_2 : lts.Need-returns-2 (K t) (P t) Post Inv-loop μ_loop
+  returns_2 c =
       let x = c.before.before.before.before in
       let e = x.before.before.before in
-      Steps.passed-telling (Steps.leads-broken (x.arg.ensures.argues _ _ _) c.before.match.keys2) (Steps.then (l₁ e).loop.invariant.0.seg (one e))
+      Steps.passed_telling (Steps.leads_broken (x.arg.ensures.argues _ _ _) c.before.match.keys2) (Steps.then (l₁ e).loop.invariant.0.seg (one e))
 
-  returns-3 : lts.Need-returns-3 (K t) (P t) Post Inv-loop μ-loop
-  returns-3 c =
+  returns_3 : lts.Need-returns-3 (K t) (P t) Post Inv-loop μ_loop
+  returns_3 c =
       let x = c.before.before in
       let e = x.before.before in
       let a = e.before.before.before in
-      Steps.tail-telling (lit≤ tt) (x.call-close2.ensures.tells _ _ _) (argument-over (there a) e.if2.true (Steps.then (l₂ a).loop.invariant.0.seg (took a)))
+      Steps.tail_telling (lit≤ tt) (x.call-close2.ensures.tells _ _ _) (argument_over (there a) e.if2.true (Steps.then (l₂ a).loop.invariant.0.seg (took a)))
 
   -- All of them, in the order of the code.
   pub met : {M : Type 1} → lts.Closed (K t) (P t) Post M
-  met = lts.spec (K t) (P t) Post Inv-loop μ-loop loop-holds (λ c κs. search rules) (λ c. search rules) returns (λ c κs. search rules) (λ c κs. search rules) (λ c. search rules)
-      (λ c. search rules) (λ c. search rules) returns-2 sub-unnamed add-unnamed add-named call-close-requires-2 (λ c. search rules) returns-3 eat-any-requires loop-less loop-again
+  met = lts.spec (K t) (P t) Post Inv-loop μ_loop loop_holds (λ c κs. search rules) (λ c. search rules) returns (λ c κs. search rules) (λ c κs. search rules) (λ c. search rules)
+      (λ c. search rules) (λ c. search rules) returns_2 sub_unnamed add_unnamed add_named call_close_requires_2 (λ c. search rules) returns_3 eat_any_requires loop_less loop_again

@@ -9,8 +9,8 @@ use Prim.Native.Nat.{ℕ, ◌<◌}
 use Rattle.leaves.proofs.Steps
 use Rattle.phrases.proofs.assert.Reads.{Post}
 use Rattle.phrases.proofs.+arg_args_array_assert_basic_bind_body_chain_claim_comp_cond_each_ends_expr_field_func_index_init_inside_item_link_load_local_member_name_obj_param_params_pat_rest_rhs_safe_sign_slice_spec_specs_step_value.Lts-assert as lts
-use Rattle.phrases.proofs.+arg_args_array_assert_basic_bind_body_chain_claim_comp_cond_each_ends_expr_field_func_index_init_inside_item_link_load_local_member_name_obj_param_params_pat_rest_rhs_safe_sign_slice_spec_specs_step_value.Proof.Frame.{assert-claims as K, assert-at as P}
-use Rattle.lexemes.specs.Kinds.{COLON, ASSERT-KW}
+use Rattle.phrases.proofs.+arg_args_array_assert_basic_bind_body_chain_claim_comp_cond_each_ends_expr_field_func_index_init_inside_item_link_load_local_member_name_obj_param_params_pat_rest_rhs_safe_sign_slice_spec_specs_step_value.Proof.Frame.{assert_claims as K, assert_at as P}
+use Rattle.lexemes.specs.Kinds.{COLON, ASSERT_KW}
 use Rattle.grammar.specs.Tags.{ASSERT}
 use Rattle.grammar.specs.Image.{entry, payload}
 use Rattle.grammar.specs.Trees.{byte, span}
@@ -20,7 +20,7 @@ use Rattle.leaves.specs.Meets.{state, Seg}
 use Rattle.leaves.specs.declared.Cursor.{Cursor}
 use Rattle.leaves.proofs.LeafLaws.{within}
 use Rattle.phrases.proofs.FieldLaws.{place}
-use Rattle.phrases.proofs.KeywordLaws.{asserts-on, conditions, with-message, no-message}
+use Rattle.phrases.proofs.KeywordLaws.{asserts_on, conditions, with_message, no_message}
 
 module _ (t : ℕ) where
   -- a stretch from the start, of which e bytes are taken, to a body with n trees
@@ -28,8 +28,8 @@ module _ (t : ℕ) where
   So a e b n c w o = let x = a.args in Seg x.set x.src.now x.left (state (goto assertion) 0 x.c x.w x.out.now) e 0 (state b n c w o)
 
   -- ── `assert` e ──────────────────────────────────────────────────────────────────────────────────
-  begun : (a : lts.Start (K t) (P t) Post) → So a 0 (eat ASSERT-KW ▸ goto condition) 0 a.args.c a.args.w a.args.out.now
-  begun a = let x = a.args in Steps.known (eat ASSERT-KW ▸ goto condition) a.requires.1.stands refl (λ xs t. asserts-on x.set x.c xs 0 x.c.kind t) Steps.here
+  begun : (a : lts.Start (K t) (P t) Post) → So a 0 (eat ASSERT_KW ▸ goto condition) 0 a.args.c a.args.w a.args.out.now
+  begun a = let x = a.args in Steps.known (eat ASSERT_KW ▸ goto condition) a.requires.1.stands refl (λ xs t. asserts_on x.set x.c xs 0 x.c.kind t) Steps.here
 
   abbrev a₁ : lts.After-a (K t) (P t) Post → lts.Start (K t) (P t) Post
   a₁ c = c.before.before.before.before.before
@@ -73,7 +73,7 @@ module _ (t : ℕ) where
       let b = c₃ c in
       let colon = c.before.before.if1.false in
       Steps.taken (lit< tt) (there b) c.eat-any.ensures colon
-      (Steps.known (eat COLON ▸ expression ▸ record_of b 1) (there b) colon (λ xs t. with-message (a₂ b).args.set b.b.given.0.0 xs 1 (from (c₂ b)) t) (judged b))
+      (Steps.known (eat COLON ▸ expression ▸ record_of b 1) (there b) colon (λ xs t. with_message (a₂ b).args.set b.b.given.0.0 xs 1 (from (c₂ b)) t) (judged b))
 
   abbrev c₄ : lts.After-d (K t) (P t) Post → lts.After-eat-any (K t) (P t) Post
   c₄ c = c.before.before.before.before.before
@@ -83,53 +83,53 @@ module _ (t : ℕ) where
   valued c = Steps.took c.before.before.before.before.expr2.ensures c.d.given.1 (past (c₄ c))
 
   -- ── What each call asks ─────────────────────────────────────────────────────────────────────────
-  expr-requires : lts.Need-expr-requires (K t) (P t) Post
-  expr-requires c κs = let a = c.before.before in let p = (a₁ a).requires in (omega (arith, p.0), Steps.ready p.1 (lit≤ tt) (opened a))
+  expr_requires : lts.Need-expr-requires (K t) (P t) Post
+  expr_requires c κs = let a = c.before.before in let p = (a₁ a).requires in (omega (arith, p.0), Steps.ready p.1 (lit≤ tt) (opened a))
 
-  eat-any-requires : lts.Need-eat-any-requires (K t) (P t) Post
-  eat-any-requires c κs = there c.before.before.before.before
+  eat_any_requires : lts.Need-eat-any-requires (K t) (P t) Post
+  eat_any_requires c κs = there c.before.before.before.before
 
-  expr-requires-2 : lts.Need-expr-requires-2 (K t) (P t) Post
-  expr-requires-2 c κs = let p = (a₂ (c₃ c)).pre in (omega (arith, p.0), Steps.ready p.1 (lit≤ tt) (past c))
+  expr_requires_2 : lts.Need-expr-requires-2 (K t) (P t) Post
+  expr_requires_2 c κs = let p = (a₂ (c₃ c)).pre in (omega (arith, p.0), Steps.ready p.1 (lit≤ tt) (past c))
 
   -- the range of the condition
   short : (c : lts.After-b (K t) (P t) Post) → (from (c₂ c) < 65536) × (c.b.given.0.0.at < 65536)
   short c = let p = (a₂ c).requires.1 in ((within (Steps.ready p (lit≤ tt) (opened (c₂ c)))).0, place p (there c))
 
-  put-marked-requires : lts.Need-put-marked-requires (K t) (P t) Post
-  put-marked-requires c κs = let b = c.before.before.before.before in (Steps.fits (a₂ b).requires.1 (lit≤ tt) (judged b), (short b).0, (short b).1)
+  put_marked_requires : lts.Need-put-marked-requires (K t) (P t) Post
+  put_marked_requires c κs = let b = c.before.before.before.before in (Steps.fits (a₂ b).requires.1 (lit≤ tt) (judged b), (short b).0, (short b).1)
 
-  put-marked-requires-2 : lts.Need-put-marked-requires-2 (K t) (P t) Post
-  put-marked-requires-2 c κs = let d = c.before.before in let b = c₃ (c₄ d) in (Steps.fits (a₂ b).pre.1 (lit≤ tt) (valued d), (short b).0, (short b).1)
+  put_marked_requires_2 : lts.Need-put-marked-requires-2 (K t) (P t) Post
+  put_marked_requires_2 c κs = let d = c.before.before in let b = c₃ (c₄ d) in (Steps.fits (a₂ b).pre.1 (lit≤ tt) (valued d), (short b).0, (short b).1)
 
   -- ── What each return owes ───────────────────────────────────────────────────────────────────────
   returns : lts.Need-returns (K t) (P t) Post
-  returns c = let x = c.before.before in Steps.as-sub (Steps.passed (Steps.eats-broken x.eat.ensures c.before.match.keys2) (begun x.before.before.before))
+  returns c = let x = c.before.before in Steps.as_sub (Steps.passed (Steps.eats_broken x.eat.ensures c.before.match.keys2) (begun x.before.before.before))
 
-  returns-2 : lts.Need-returns-2 (K t) (P t) Post
-  returns-2 c = let x = c.before.before.before.before in Steps.as-sub (Steps.passed (Steps.takes-broken x.expr.ensures c.before.match2.keys2) (opened x.before.before.before))
+  returns_2 : lts.Need-returns-2 (K t) (P t) Post
+  returns_2 c = let x = c.before.before.before.before in Steps.as_sub (Steps.passed (Steps.takes_broken x.expr.ensures c.before.match2.keys2) (opened x.before.before.before))
 
-  returns-3 : lts.Need-returns-3 (K t) (P t) Post
+  returns_3 : lts.Need-returns-3 (K t) (P t) Post
   unfolding entry payload
-  returns-3 c =
+  returns_3 c =
       let x = c.before.before in
       let b = x.before.before.before.before.before in
       let c₂ = b.b.given.0.0 in
-      let bare = Steps.known (record_of b 0) (there b) refl (λ xs t. no-message (a₂ b).args.set c₂ xs 1 _ c₂.kind t x.before.before.if1.true) (judged b) in
-      Steps.as-sub (Steps.ends (lit≤ tt) (Steps.closed 8 (lit≤ tt) x.put-marked.ensures bare))
+      let bare = Steps.known (record_of b 0) (there b) refl (λ xs t. no_message (a₂ b).args.set c₂ xs 1 _ c₂.kind t x.before.before.if1.true) (judged b) in
+      Steps.as_sub (Steps.ends (lit≤ tt) (Steps.closed 8 (lit≤ tt) x.put-marked.ensures bare))
 
-  returns-4 : lts.Need-returns-4 (K t) (P t) Post
-  returns-4 c = let x = c.before.before.before.before in Steps.as-sub (Steps.passed (Steps.takes-broken x.expr2.ensures c.before.match3.keys2) (past x.before))
+  returns_4 : lts.Need-returns-4 (K t) (P t) Post
+  returns_4 c = let x = c.before.before.before.before in Steps.as_sub (Steps.passed (Steps.takes_broken x.expr2.ensures c.before.match3.keys2) (past x.before))
 
-  returns-5 : lts.Need-returns-5 (K t) (P t) Post
+  returns_5 : lts.Need-returns-5 (K t) (P t) Post
   unfolding entry payload
-  returns-5 c = let x = c.before.before in Steps.as-sub (Steps.ends (lit≤ tt) (Steps.closed 8 (lit≤ tt) x.put-marked2.ensures (valued x.before.before.before)))
+  returns_5 c = let x = c.before.before in Steps.as_sub (Steps.ends (lit≤ tt) (Steps.closed 8 (lit≤ tt) x.put-marked2.ensures (valued x.before.before.before)))
 
-  same-length-4 : lts.Need-same-length-4 (K t) (P t) Post
-  same-length-4 c = let x = c.before.before in omega (arith, Steps.same (valued x.before.before.before), x.put-marked2.auto)
+  same_length_4 : lts.Need-same-length-4 (K t) (P t) Post
+  same_length_4 c = let x = c.before.before in omega (arith, Steps.same (valued x.before.before.before), x.put-marked2.auto)
 
   -- All of them, in the order of the code.
   pub met : {M : Type 1} → lts.Closed (K t) (P t) Post M
-  met = lts.spec (K t) (P t) Post (λ c κs. search rules) (λ c. search rules) (λ c. search rules) returns expr-requires (λ c. search rules) (λ c. search rules) (λ c. search rules) returns-2
-      put-marked-requires (λ c. search rules) returns-3 eat-any-requires expr-requires-2 (λ c. search rules) (λ c. search rules) (λ c. search rules) returns-4 put-marked-requires-2 same-length-4
-      returns-5
+  met = lts.spec (K t) (P t) Post (λ c κs. search rules) (λ c. search rules) (λ c. search rules) returns expr_requires (λ c. search rules) (λ c. search rules) (λ c. search rules) returns_2
+      put_marked_requires (λ c. search rules) returns_3 eat_any_requires expr_requires_2 (λ c. search rules) (λ c. search rules) (λ c. search rules) returns_4 put_marked_requires_2 same_length_4
+      returns_5

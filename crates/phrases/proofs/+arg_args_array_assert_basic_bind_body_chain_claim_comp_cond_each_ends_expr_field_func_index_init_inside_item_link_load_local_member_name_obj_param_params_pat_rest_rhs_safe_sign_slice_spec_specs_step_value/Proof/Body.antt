@@ -9,12 +9,12 @@ use Prim.Native.Nat.{ℕ, ◌+◌}
 use Rattle.leaves.proofs.Steps
 use Rattle.phrases.proofs.body.Reads.{Post}
 use Rattle.phrases.proofs.+arg_args_array_assert_basic_bind_body_chain_claim_comp_cond_each_ends_expr_field_func_index_init_inside_item_link_load_local_member_name_obj_param_params_pat_rest_rhs_safe_sign_slice_spec_specs_step_value.Lts-body as lts
-use Rattle.phrases.proofs.+arg_args_array_assert_basic_bind_body_chain_claim_comp_cond_each_ends_expr_field_func_index_init_inside_item_link_load_local_member_name_obj_param_params_pat_rest_rhs_safe_sign_slice_spec_specs_step_value.Proof.Frame.{body-claims as K, body_at as P}
+use Rattle.phrases.proofs.+arg_args_array_assert_basic_bind_body_chain_claim_comp_cond_each_ends_expr_field_func_index_init_inside_item_link_load_local_member_name_obj_param_params_pat_rest_rhs_safe_sign_slice_spec_specs_step_value.Proof.Frame.{body_claims as K, body_at as P}
 use Rattle.lexemes.specs.Kinds.{SEMI}
 use Rattle.grammar.specs.Tags.{LOCAL}
 use Rattle.grammar.specs.Image.{entry, payload}
 use Rattle.grammar.specs.Trees.{number}
-use Rattle.grammar.specs.Productions.{Body, goto, end, eat, close, ◌▸◌, rule, expression, local-body}
+use Rattle.grammar.specs.Productions.{Body, goto, end, eat, close, ◌▸◌, rule, expression, local_body}
 use Rattle.grammar.specs.Reading.{choose, has}
 use Rattle.leaves.specs.Meets.{state, Seg}
 use Rattle.leaves.specs.declared.Cursor.{Cursor}
@@ -24,7 +24,7 @@ use Rattle.leaves.proofs.LexemeLaws.{sight}
 module _ (t : ℕ) where
   -- a stretch from the start, of which e bytes are taken, to a body with n trees
   abbrev So : lts.Start (K t) (P t) Post → ℕ → Body → ℕ → Cursor → ℕ → List ℕ → Type 0
-  So a e b n c w o = let x = a.args in Seg x.set x.src.now x.left (state (goto local-body) x.n x.c x.w x.out.now) e 0 (state b n c w o)
+  So a e b n c w o = let x = a.args in Seg x.set x.src.now x.left (state (goto local_body) x.n x.c x.w x.out.now) e 0 (state b n c w o)
 
   -- the record of all its trees
   abbrev record_of : lts.Start (K t) (P t) Post → Body
@@ -48,24 +48,24 @@ module _ (t : ℕ) where
   valued c = Steps.took c.before.before.before.before.expr.ensures c.b.given.1 (opened (c₂ c))
 
   -- ── What each call asks ─────────────────────────────────────────────────────────────────────────
-  expr-requires : lts.Need-expr-requires (K t) (P t) Post
-  expr-requires c κs = let a = c.before.before in let p = (a₁ a).requires in (omega (arith, p.0), Steps.ready p.1.0 (lit≤ tt) (opened a))
+  expr_requires : lts.Need-expr-requires (K t) (P t) Post
+  expr_requires c κs = let a = c.before.before in let p = (a₁ a).requires in (omega (arith, p.0), Steps.ready p.1.0 (lit≤ tt) (opened a))
 
-  put-count-requires : lts.Need-put-count-requires (K t) (P t) Post
-  put-count-requires c κs = let b = c.before.before in let p = (a₁ (c₂ b)).pre.1 in (Steps.fits p.0 (lit≤ tt) (valued b), few p.0 p.1)
+  put_count_requires : lts.Need-put-count-requires (K t) (P t) Post
+  put_count_requires c κs = let b = c.before.before in let p = (a₁ (c₂ b)).pre.1 in (Steps.fits p.0 (lit≤ tt) (valued b), few p.0 p.1)
 
   -- ── What each return owes ───────────────────────────────────────────────────────────────────────
   returns : lts.Need-returns (K t) (P t) Post
-  returns c = let x = c.before.before in Steps.passed (Steps.eats-broken x.eat.ensures c.before.match.keys2) (begun x.before.before.before)
+  returns c = let x = c.before.before in Steps.passed (Steps.eats_broken x.eat.ensures c.before.match.keys2) (begun x.before.before.before)
 
-  returns-2 : lts.Need-returns-2 (K t) (P t) Post
-  returns-2 c = let x = c.before.before.before.before in Steps.passed (Steps.takes-broken x.expr.ensures c.before.match2.keys2) (opened x.before.before.before)
+  returns_2 : lts.Need-returns-2 (K t) (P t) Post
+  returns_2 c = let x = c.before.before.before.before in Steps.passed (Steps.takes_broken x.expr.ensures c.before.match2.keys2) (opened x.before.before.before)
 
-  returns-3 : lts.Need-returns-3 (K t) (P t) Post
+  returns_3 : lts.Need-returns-3 (K t) (P t) Post
   unfolding entry payload
-  returns-3 c = let x = c.before.before in Steps.ends (lit≤ tt) (Steps.closed 5 (lit≤ tt) x.put_count.ensures (valued x.before.before.before))
+  returns_3 c = let x = c.before.before in Steps.ends (lit≤ tt) (Steps.closed 5 (lit≤ tt) x.put_count.ensures (valued x.before.before.before))
 
   -- All of them, in the order of the code.
   pub met : {M : Type 1} → lts.Closed (K t) (P t) Post M
-  met = lts.spec (K t) (P t) Post (λ c κs. search rules) (λ c. search rules) (λ c. search rules) returns expr-requires (λ c. search rules) (λ c. search rules) (λ c. search rules) returns-2
-      put-count-requires (λ c. search rules) returns-3
+  met = lts.spec (K t) (P t) Post (λ c κs. search rules) (λ c. search rules) (λ c. search rules) returns expr_requires (λ c. search rules) (λ c. search rules) (λ c. search rules) returns_2
+      put_count_requires (λ c. search rules) returns_3

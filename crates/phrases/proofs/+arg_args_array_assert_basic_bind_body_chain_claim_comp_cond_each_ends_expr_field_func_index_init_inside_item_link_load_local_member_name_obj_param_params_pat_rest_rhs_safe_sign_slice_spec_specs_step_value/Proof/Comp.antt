@@ -9,15 +9,15 @@ use Prim.Native.Nat.{ℕ, ◌+◌, ◌≤◌}
 use Rattle.leaves.proofs.Steps
 use Rattle.phrases.proofs.comp.Reads.{Post}
 use Rattle.phrases.proofs.+arg_args_array_assert_basic_bind_body_chain_claim_comp_cond_each_ends_expr_field_func_index_init_inside_item_link_load_local_member_name_obj_param_params_pat_rest_rhs_safe_sign_slice_spec_specs_step_value.Lts-comp as lts
-use Rattle.phrases.proofs.+arg_args_array_assert_basic_bind_body_chain_claim_comp_cond_each_ends_expr_field_func_index_init_inside_item_link_load_local_member_name_obj_param_params_pat_rest_rhs_safe_sign_slice_spec_specs_step_value.Proof.Frame.{comp-claims as K, comp-at as P}
-use Rattle.grammar.specs.Tags.{OBJECT-COMP}
+use Rattle.phrases.proofs.+arg_args_array_assert_basic_bind_body_chain_claim_comp_cond_each_ends_expr_field_func_index_init_inside_item_link_load_local_member_name_obj_param_params_pat_rest_rhs_safe_sign_slice_spec_specs_step_value.Proof.Frame.{comp_claims as K, comp_at as P}
+use Rattle.grammar.specs.Tags.{OBJECT_COMP}
 use Rattle.grammar.specs.Image.{entry, payload}
 use Rattle.grammar.specs.Trees.{number}
-use Rattle.grammar.specs.Productions.{Body, goto, end, fail, sub, close, ◌▸◌, comprehension, comprehension-end, clauses}
+use Rattle.grammar.specs.Productions.{Body, goto, end, fail, sub, close, ◌▸◌, comprehension, comprehension_end, clauses}
 use Rattle.leaves.specs.Meets.{state, Seg, Takes}
 use Rattle.leaves.specs.declared.Answer.TheVariants.{Done}
 use Rattle.leaves.proofs.LeafLaws.{few}
-use Rattle.phrases.proofs.KeywordLaws.{clauses-break, good-clauses, bad-clauses, clauses-end}
+use Rattle.phrases.proofs.KeywordLaws.{clauses_break, good_clauses, bad_clauses, clauses_end}
 
 module _ (t : ℕ) where
   abbrev a₁ : lts.After-a (K t) (P t) Post → lts.Start (K t) (P t) Post
@@ -45,18 +45,18 @@ module _ (t : ℕ) where
       let a = c.before.before in
       let x = (a₁ a).args in
       Steps.took (listed a).0 refl
-      (Steps.known (sub clauses ▸ fail 8 x.fault) (a₁ a).requires.1.0.stands refl (λ xs t. bad-clauses x.set x.c xs x.n x.fault x.c.kind t c.if1.true) Steps.here)
+      (Steps.known (sub clauses ▸ fail 8 x.fault) (a₁ a).requires.1.0.stands refl (λ xs t. bad_clauses x.set x.c xs x.n x.fault x.c.kind t c.if1.true) Steps.here)
 
-  read : (c : lts.Else1 (K t) (P t) Post) → let a = c.before.before in To a (goto (comprehension-end (a₁ a).args.n))
+  read : (c : lts.Else1 (K t) (P t) Post) → let a = c.before.before in To a (goto (comprehension_end (a₁ a).args.n))
   read c =
       let a = c.before.before in
       let x = (a₁ a).args in
       Steps.took (listed a).0 refl
-      (Steps.known (sub clauses ▸ goto (comprehension-end x.n)) (a₁ a).requires.1.0.stands refl (λ xs t. good-clauses x.set x.c xs x.n x.fault x.c.kind t c.if1.false) Steps.here)
+      (Steps.known (sub clauses ▸ goto (comprehension_end x.n)) (a₁ a).requires.1.0.stands refl (λ xs t. good_clauses x.set x.c xs x.n x.fault x.c.kind t c.if1.false) Steps.here)
 
   -- ── What each call asks ─────────────────────────────────────────────────────────────────────────
-  put-counts-requires : lts.Need-put-counts-requires (K t) (P t) Post
-  put-counts-requires c κs =
+  put_counts_requires : lts.Need-put-counts-requires (K t) (P t) Post
+  put_counts_requires c κs =
       let e = c.before in
       let a = e.before.before in
       let p = (a₁ a).requires.1 in
@@ -67,14 +67,14 @@ module _ (t : ℕ) where
   returns c =
       let x = c.before.before.before.before in
       let a = x.before.before.before.before in
-      clauses-break a.args.fault a.requires.1.0.stands x.specs.ensures c.before.match.keys2
+      clauses_break a.args.fault a.requires.1.0.stands x.specs.ensures c.before.match.keys2
 
-  returns-2 : lts.Need-returns-2 (K t) (P t) Post
-  returns-2 c = let e = c.before in Steps.broke (Steps.fails ((faulty e).stands (a₁ e.before.before).pre.1.0.stands) (faulty e)) c.error.ensures
+  returns_2 : lts.Need-returns-2 (K t) (P t) Post
+  returns_2 c = let e = c.before in Steps.broke (Steps.fails ((faulty e).stands (a₁ e.before.before).pre.1.0.stands) (faulty e)) c.error.ensures
 
-  returns-3 : lts.Need-returns-3 (K t) (P t) Post
+  returns_3 : lts.Need-returns-3 (K t) (P t) Post
   unfolding entry payload
-  returns-3 c =
+  returns_3 c =
       let x = c.before.before in
       let e = x.before.before in
       let a = e.before.before in
@@ -82,9 +82,9 @@ module _ (t : ℕ) where
       let c₁ = a.a.given.0.0 in
       let st = (read e).stands (a₁ a).requires.1.0.stands in
       Steps.owes (lit≤ tt) (Steps.closed 7 (lit≤ tt) x.put-counts.ensures
-      (Steps.known (close OBJECT-COMP (number g.n ∷ number (many a) ∷ []) ▸ end) st refl (λ xs t. clauses-end g.set c₁ xs g.n (many a) c₁.kind t) (read e)))
+      (Steps.known (close OBJECT_COMP (number g.n ∷ number (many a) ∷ []) ▸ end) st refl (λ xs t. clauses_end g.set c₁ xs g.n (many a) c₁.kind t) (read e)))
 
   -- All of them, in the order of the code.
   pub met : {M : Type 1} → lts.Closed (K t) (P t) Post M
-  met = lts.spec (K t) (P t) Post (λ c κs. search rules) (λ c. search rules) (λ c. search rules) (λ c. search rules) returns (λ c κs. search rules) (λ c. search rules) returns-2
-      put-counts-requires (λ c. search rules) returns-3
+  met = lts.spec (K t) (P t) Post (λ c κs. search rules) (λ c. search rules) (λ c. search rules) (λ c. search rules) returns (λ c κs. search rules) (λ c. search rules) returns_2
+      put_counts_requires (λ c. search rules) returns_3

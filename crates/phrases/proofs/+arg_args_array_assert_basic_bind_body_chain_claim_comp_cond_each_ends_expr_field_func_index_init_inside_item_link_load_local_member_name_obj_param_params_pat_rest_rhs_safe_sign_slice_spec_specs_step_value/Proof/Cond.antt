@@ -8,14 +8,14 @@ use Prim.Native.Nat.{ℕ}
 use Rattle.leaves.proofs.Steps
 use Rattle.phrases.proofs.cond.Reads.{Post}
 use Rattle.phrases.proofs.+arg_args_array_assert_basic_bind_body_chain_claim_comp_cond_each_ends_expr_field_func_index_init_inside_item_link_load_local_member_name_obj_param_params_pat_rest_rhs_safe_sign_slice_spec_specs_step_value.Lts-cond as lts
-use Rattle.phrases.proofs.+arg_args_array_assert_basic_bind_body_chain_claim_comp_cond_each_ends_expr_field_func_index_init_inside_item_link_load_local_member_name_obj_param_params_pat_rest_rhs_safe_sign_slice_spec_specs_step_value.Proof.Frame.{cond-claims as K, cond-at as P}
+use Rattle.phrases.proofs.+arg_args_array_assert_basic_bind_body_chain_claim_comp_cond_each_ends_expr_field_func_index_init_inside_item_link_load_local_member_name_obj_param_params_pat_rest_rhs_safe_sign_slice_spec_specs_step_value.Proof.Frame.{cond_claims as K, cond_at as P}
 use Rattle.grammar.specs.Image.{entry, payload}
 use Rattle.grammar.specs.Trees.{byte, span}
-use Rattle.grammar.specs.Productions.{Body, goto, end, eat, close, ◌▸◌, expression, basic, else-part}
+use Rattle.grammar.specs.Productions.{Body, goto, end, eat, close, ◌▸◌, expression, basic, else_part}
 use Rattle.leaves.specs.Meets.{state, Seg}
 use Rattle.leaves.specs.declared.Cursor.{Cursor}
 use Rattle.leaves.proofs.LeafLaws.{within}
-use Rattle.phrases.proofs.KeywordLaws.{ifs-on, else-on, no-else}
+use Rattle.phrases.proofs.KeywordLaws.{ifs_on, else_on, no_else}
 
 module _ (t : ℕ) where
   -- a stretch from the start, of which e bytes are taken, to a body with n trees
@@ -24,7 +24,7 @@ module _ (t : ℕ) where
 
   -- what comes after the second expression
   abbrev tail : lts.Start (K t) (P t) Post → Body
-  tail a = goto (else-part a.args.c.start a.args.c.end)
+  tail a = goto (else_part a.args.c.start a.args.c.end)
 
   -- ── `if` e `then` e ─────────────────────────────────────────────────────────────────────────────
   abbrev a₀ : lts.After-eat-any (K t) (P t) Post → lts.Start (K t) (P t) Post
@@ -35,7 +35,7 @@ module _ (t : ℕ) where
       let a = a₀ c in
       let st = a.pre.1.0.stands in
       Steps.taken (lit< tt) st c.eat-any.ensures a.pre.1.1
-      (Steps.known (eat 71 ▸ expression ▸ eat 72 ▸ expression ▸ tail a) st a.pre.1.1 (λ xs t. ifs-on a.args.set a.args.c xs 0 t) Steps.here)
+      (Steps.known (eat 71 ▸ expression ▸ eat 72 ▸ expression ▸ tail a) st a.pre.1.1 (λ xs t. ifs_on a.args.set a.args.c xs 0 t) Steps.here)
 
   abbrev c₁ : lts.After-a (K t) (P t) Post → lts.After-eat-any (K t) (P t) Post
   c₁ c = c.before.before.before.before.before
@@ -67,9 +67,9 @@ module _ (t : ℕ) where
       let a = a₃ (c₄ c) in
       let here = chosen (c₄ c) in
       let st = here.stands a.pre.1.0.stands in
-      let at-else = c.before.before.if1.false in
-      Steps.taken (lit< tt) st c.eat-any2.ensures at-else
-      (Steps.known (eat 73 ▸ expression ▸ close 22 (span a.args.c.start a.args.c.end ∷ byte 1 ∷ []) ▸ end) st at-else (λ xs t. else-on a.args.set (c₄ c).d.given.0.0 xs 2 a.args.c.start a.args.c.end t) here)
+      let at_else = c.before.before.if1.false in
+      Steps.taken (lit< tt) st c.eat-any2.ensures at_else
+      (Steps.known (eat 73 ▸ expression ▸ close 22 (span a.args.c.start a.args.c.end ∷ byte 1 ∷ []) ▸ end) st at_else (λ xs t. else_on a.args.set (c₄ c).d.given.0.0 xs 2 a.args.c.start a.args.c.end t) here)
 
   abbrev c₅ : lts.After-e (K t) (P t) Post → lts.After-eat-any2 (K t) (P t) Post
   c₅ c = c.before.before.before.before.before
@@ -78,68 +78,68 @@ module _ (t : ℕ) where
   value c = Steps.took c.before.before.before.before.expr3.ensures c.e.given.1 (past (c₅ c))
 
   -- ── What each call asks ─────────────────────────────────────────────────────────────────────────
-  eat-any-requires : lts.Need-eat-any-requires (K t) (P t) Post
-  eat-any-requires c κs = c.before.before.before.requires.1.0.stands
+  eat_any_requires : lts.Need-eat-any-requires (K t) (P t) Post
+  eat_any_requires c κs = c.before.before.before.requires.1.0.stands
 
-  expr-requires : lts.Need-expr-requires (K t) (P t) Post
-  expr-requires c κs = let p = (a₀ c).requires in (omega (arith, p.0), Steps.ready p.1.0 (lit≤ tt) (opened c))
+  expr_requires : lts.Need-expr-requires (K t) (P t) Post
+  expr_requires c κs = let p = (a₀ c).requires in (omega (arith, p.0), Steps.ready p.1.0 (lit≤ tt) (opened c))
 
-  eat-requires : lts.Need-eat-requires (K t) (P t) Post
-  eat-requires c κs = (lit< tt, (judged c.before).stands (a₀ (c₁ c.before)).pre.1.0.stands)
+  eat_requires : lts.Need-eat-requires (K t) (P t) Post
+  eat_requires c κs = (lit< tt, (judged c.before).stands (a₀ (c₁ c.before)).pre.1.0.stands)
 
-  expr-requires-2 : lts.Need-expr-requires-2 (K t) (P t) Post
-  expr-requires-2 c κs = let b = c.before.before in let p = (a₀ (c₁ (c₂ b))).pre in (omega (arith, p.0), Steps.ready p.1.0 (lit≤ tt) (thened b))
+  expr_requires_2 : lts.Need-expr-requires-2 (K t) (P t) Post
+  expr_requires_2 c κs = let b = c.before.before in let p = (a₀ (c₁ (c₂ b))).pre in (omega (arith, p.0), Steps.ready p.1.0 (lit≤ tt) (thened b))
 
-  put-marked-requires : lts.Need-put-marked-requires (K t) (P t) Post
-  put-marked-requires c κs = let d = c.before.before.before.before in let p = (a₃ d).requires.1.0 in (Steps.fits p (lit≤ tt) (chosen d), (within p).0, (within p).1)
+  put_marked_requires : lts.Need-put-marked-requires (K t) (P t) Post
+  put_marked_requires c κs = let d = c.before.before.before.before in let p = (a₃ d).requires.1.0 in (Steps.fits p (lit≤ tt) (chosen d), (within p).0, (within p).1)
 
-  eat-any-requires-2 : lts.Need-eat-any-requires-2 (K t) (P t) Post
-  eat-any-requires-2 c κs = let d = c.before.before.before.before in (chosen d).stands (a₃ d).requires.1.0.stands
+  eat_any_requires_2 : lts.Need-eat-any-requires-2 (K t) (P t) Post
+  eat_any_requires_2 c κs = let d = c.before.before.before.before in (chosen d).stands (a₃ d).requires.1.0.stands
 
-  expr-requires-3 : lts.Need-expr-requires-3 (K t) (P t) Post
-  expr-requires-3 c κs = let p = (a₃ (c₄ c)).pre in (omega (arith, p.0), Steps.ready p.1.0 (lit≤ tt) (past c))
+  expr_requires_3 : lts.Need-expr-requires-3 (K t) (P t) Post
+  expr_requires_3 c κs = let p = (a₃ (c₄ c)).pre in (omega (arith, p.0), Steps.ready p.1.0 (lit≤ tt) (past c))
 
-  put-marked-requires-2 : lts.Need-put-marked-requires-2 (K t) (P t) Post
-  put-marked-requires-2 c κs = let e = c.before.before in let p = (a₃ (c₄ (c₅ e))).pre.1.0 in (Steps.fits p (lit≤ tt) (value e), (within p).0, (within p).1)
+  put_marked_requires_2 : lts.Need-put-marked-requires-2 (K t) (P t) Post
+  put_marked_requires_2 c κs = let e = c.before.before in let p = (a₃ (c₄ (c₅ e))).pre.1.0 in (Steps.fits p (lit≤ tt) (value e), (within p).0, (within p).1)
 
   -- ── What each return owes ───────────────────────────────────────────────────────────────────────
   returns : lts.Need-returns (K t) (P t) Post
-  returns c = let x = c.before.before.before.before in Steps.passed (Steps.takes-broken x.expr.ensures c.before.match.keys2) (opened x.before)
+  returns c = let x = c.before.before.before.before in Steps.passed (Steps.takes_broken x.expr.ensures c.before.match.keys2) (opened x.before)
 
-  returns-2 : lts.Need-returns-2 (K t) (P t) Post
-  returns-2 c = let x = c.before.before in Steps.passed (Steps.eats-broken x.eat.ensures c.before.match2.keys2) (judged x.before.before)
+  returns_2 : lts.Need-returns-2 (K t) (P t) Post
+  returns_2 c = let x = c.before.before in Steps.passed (Steps.eats_broken x.eat.ensures c.before.match2.keys2) (judged x.before.before)
 
-  returns-3 : lts.Need-returns-3 (K t) (P t) Post
-  returns-3 c = let x = c.before.before.before.before in Steps.passed (Steps.takes-broken x.expr2.ensures c.before.match3.keys2) (thened x.before.before.before)
+  returns_3 : lts.Need-returns-3 (K t) (P t) Post
+  returns_3 c = let x = c.before.before.before.before in Steps.passed (Steps.takes_broken x.expr2.ensures c.before.match3.keys2) (thened x.before.before.before)
 
-  returns-4 : lts.Need-returns-4 (K t) (P t) Post
+  returns_4 : lts.Need-returns-4 (K t) (P t) Post
   unfolding entry payload
-  returns-4 c =
+  returns_4 c =
       let x = c.before.before in
       let d = x.before.before.before.before.before in
       let a = a₃ d in
       let c₆ = d.d.given.0.0 in
-      let bare = Steps.known (close 22 (span a.args.c.start a.args.c.end ∷ byte 0 ∷ []) ▸ end) ((chosen d).stands a.pre.1.0.stands) refl (λ xs t. no-else a.args.set c₆ xs 2 a.args.c.start a.args.c.end c₆.kind t x.before.before.if1.true) (chosen d) in
+      let bare = Steps.known (close 22 (span a.args.c.start a.args.c.end ∷ byte 0 ∷ []) ▸ end) ((chosen d).stands a.pre.1.0.stands) refl (λ xs t. no_else a.args.set c₆ xs 2 a.args.c.start a.args.c.end c₆.kind t x.before.before.if1.true) (chosen d) in
       Steps.ends (lit≤ tt) (Steps.closed 8 (lit≤ tt) x.put-marked.ensures bare)
 
-  returns-5 : lts.Need-returns-5 (K t) (P t) Post
-  returns-5 c = let x = c.before.before.before.before in Steps.passed (Steps.takes-broken x.expr3.ensures c.before.match4.keys2) (past x.before)
+  returns_5 : lts.Need-returns-5 (K t) (P t) Post
+  returns_5 c = let x = c.before.before.before.before in Steps.passed (Steps.takes_broken x.expr3.ensures c.before.match4.keys2) (past x.before)
 
-  returns-6 : lts.Need-returns-6 (K t) (P t) Post
+  returns_6 : lts.Need-returns-6 (K t) (P t) Post
   unfolding entry payload
-  returns-6 c = let x = c.before.before in Steps.ends (lit≤ tt) (Steps.closed 8 (lit≤ tt) x.put-marked2.ensures (value x.before.before.before))
+  returns_6 c = let x = c.before.before in Steps.ends (lit≤ tt) (Steps.closed 8 (lit≤ tt) x.put-marked2.ensures (value x.before.before.before))
 
-  same-length-4 : lts.Need-same-length-4 (K t) (P t) Post
-  same-length-4 c = let x = c.before.before in omega (arith, Steps.same (chosen x.before.before.before.before.before), x.put-marked.auto)
+  same_length_4 : lts.Need-same-length-4 (K t) (P t) Post
+  same_length_4 c = let x = c.before.before in omega (arith, Steps.same (chosen x.before.before.before.before.before), x.put-marked.auto)
 
-  same-length-5 : lts.Need-same-length-5 (K t) (P t) Post
-  same-length-5 c = let x = c.before.before.before.before in omega (arith, Steps.same (past x.before), x.expr3.auto)
+  same_length_5 : lts.Need-same-length-5 (K t) (P t) Post
+  same_length_5 c = let x = c.before.before.before.before in omega (arith, Steps.same (past x.before), x.expr3.auto)
 
-  same-length-6 : lts.Need-same-length-6 (K t) (P t) Post
-  same-length-6 c = let x = c.before.before in omega (arith, Steps.same (value x.before.before.before), x.put-marked2.auto)
+  same_length_6 : lts.Need-same-length-6 (K t) (P t) Post
+  same_length_6 c = let x = c.before.before in omega (arith, Steps.same (value x.before.before.before), x.put-marked2.auto)
 
   -- All of them, in the order of the code.
   pub met : {M : Type 1} → lts.Closed (K t) (P t) Post M
-  met = lts.spec (K t) (P t) Post eat-any-requires expr-requires (λ c. search rules) (λ c. search rules) (λ c. search rules) returns eat-requires (λ c. search rules) (λ c. search rules)
-      (λ c. search rules) returns-2 expr-requires-2 (λ c. search rules) (λ c. search rules) (λ c. search rules) returns-3 put-marked-requires same-length-4 returns-4 eat-any-requires-2
-      expr-requires-3 (λ c. search rules) (λ c. search rules) same-length-5 returns-5 put-marked-requires-2 same-length-6 returns-6
+  met = lts.spec (K t) (P t) Post eat_any_requires expr_requires (λ c. search rules) (λ c. search rules) (λ c. search rules) returns eat_requires (λ c. search rules) (λ c. search rules)
+      (λ c. search rules) returns_2 expr_requires_2 (λ c. search rules) (λ c. search rules) (λ c. search rules) returns_3 put_marked_requires same_length_4 returns_4 eat_any_requires_2
+      expr_requires_3 (λ c. search rules) (λ c. search rules) same_length_5 returns_5 put_marked_requires_2 same_length_6 returns_6

@@ -8,15 +8,15 @@ use Prim.Native.Nat.{ℕ, ◌+◌, ◌-◌, ◌<◌, ◌^◌}
 use Rattle.leaves.proofs.Steps
 use Rattle.phrases.proofs.each.Reads.{Post}
 use Rattle.phrases.proofs.+arg_args_array_assert_basic_bind_body_chain_claim_comp_cond_each_ends_expr_field_func_index_init_inside_item_link_load_local_member_name_obj_param_params_pat_rest_rhs_safe_sign_slice_spec_specs_step_value.Lts-each as lts
-use Rattle.phrases.proofs.+arg_args_array_assert_basic_bind_body_chain_claim_comp_cond_each_ends_expr_field_func_index_init_inside_item_link_load_local_member_name_obj_param_params_pat_rest_rhs_safe_sign_slice_spec_specs_step_value.Proof.Frame.{each-claims as K, each_at as P}
+use Rattle.phrases.proofs.+arg_args_array_assert_basic_bind_body_chain_claim_comp_cond_each_ends_expr_field_func_index_init_inside_item_link_load_local_member_name_obj_param_params_pat_rest_rhs_safe_sign_slice_spec_specs_step_value.Proof.Frame.{each_claims as K, each_at as P}
 use Rattle.grammar.specs.Trees.{byte, text}
-use Rattle.grammar.specs.Productions.{Body, goto, end, eat, sub, close, ◌▸◌, expression, pattern, for-clause}
+use Rattle.grammar.specs.Productions.{Body, goto, end, eat, sub, close, ◌▸◌, expression, pattern, for_clause}
 use Rattle.leaves.specs.Lexing.{Stands}
 use Rattle.leaves.specs.Meets.{state, Seg}
 use Rattle.leaves.specs.declared.Cursor.{Cursor}
 use Rattle.leaves.proofs.LexemeLaws.{lies}
-use Rattle.leaves.proofs.PartLaws.{lent-short}
-use Rattle.phrases.proofs.ClauseLaws.{too-deep-clause, iterates, iteration-closed}
+use Rattle.leaves.proofs.PartLaws.{lent_short}
+use Rattle.phrases.proofs.ClauseLaws.{too_deep_clause, iterates, iteration_closed}
 
 module _ (t : ℕ) where
   -- past the header
@@ -44,7 +44,7 @@ module _ (t : ℕ) where
   abbrev So : Head → ℕ → Body → ℕ → Cursor → ℕ → List ℕ → Type 0
   So h e b n c w o =
       let a = (a₁ h).args in
-      Seg a.set a.src.now a.left (state (goto for-clause) 0 a.c a.w a.out.now) e 0 (state b n c w o)
+      Seg a.set a.src.now a.left (state (goto for_clause) 0 a.c a.w a.out.now) e 0 (state b n c w o)
 
   -- ── The header, a pattern, `in` e ────────────────────────────────────────────────────────────────
   headed : (h : Head) → So h (size h) (sub pattern ▸ eat 76 ▸ expression ▸ shape h) 0 h.visibility.result.cursor (a₁ h).args.w (a₁ h).args.out.now
@@ -74,64 +74,64 @@ module _ (t : ℕ) where
       So (h₄ d) 0 end 1 d.d.given.0.0 c.put-iteration.result c.put-iteration.new.0
   closed c =
       let h = h₄ c.before.before.before.before in
-      iteration-closed (key h).start (key h).end h.visibility.result.byte (lies (stood h)).within c.put-iteration.ensures (value c.before.before.before.before)
+      iteration_closed (key h).start (key h).end h.visibility.result.byte (lies (stood h)).within c.put-iteration.ensures (value c.before.before.before.before)
 
   -- ── What each call asks ──────────────────────────────────────────────────────────────────────────
-  pat-requires : lts.Need-pat-requires (K t) (P t) Post
-  pat-requires c κs = let p = (a₁ c.before.before).pre in (omega (arith, p.0), Steps.ready p.1.0 (omega arith) (headed c.before.before))
+  pat_requires : lts.Need-pat-requires (K t) (P t) Post
+  pat_requires c κs = let p = (a₁ c.before.before).pre in (omega (arith, p.0), Steps.ready p.1.0 (omega arith) (headed c.before.before))
 
-  eat-requires : lts.Need-eat-requires (K t) (P t) Post
-  eat-requires c κs = (lit< tt, (into c.before).stands (a₁ (h₂ c.before)).pre.1.0.stands)
+  eat_requires : lts.Need-eat-requires (K t) (P t) Post
+  eat_requires c κs = (lit< tt, (into c.before).stands (a₁ (h₂ c.before)).pre.1.0.stands)
 
-  expr-requires : lts.Need-expr-requires (K t) (P t) Post
-  expr-requires c κs = let p = (a₁ (h₂ c.before.before.before.before.before.before)).pre in (omega (arith, p.0), Steps.ready p.1.0 (omega arith) (opened c.before.before))
+  expr_requires : lts.Need-expr-requires (K t) (P t) Post
+  expr_requires c κs = let p = (a₁ (h₂ c.before.before.before.before.before.before)).pre in (omega (arith, p.0), Steps.ready p.1.0 (omega arith) (opened c.before.before))
 
-  cast-put-iteration : lts.Need-overflow-cast-put-iteration (K t) (P t) Post
-  cast-put-iteration c =
+  cast_put_iteration : lts.Need-overflow-cast-put-iteration (K t) (P t) Post
+  cast_put_iteration c =
       let h = h₄ c.before.before in let fits : (key h).start < 2 ^ 64 = omega (arith, (lies (stood h)).on, (lies (stood h)).within, (stood h).short) in
       record { fits = fits }
 
-  cast-put-iteration-2 : lts.Need-overflow-cast-put-iteration-2 (K t) (P t) Post
-  cast-put-iteration-2 c =
+  cast_put_iteration_2 : lts.Need-overflow-cast-put-iteration-2 (K t) (P t) Post
+  cast_put_iteration_2 c =
       let h = h₄ c.before.before in let fits : (key h).end < 2 ^ 64 = omega (arith, (lies (stood h)).within, (stood h).short) in
       record { fits = fits }
 
-  sub-put-iteration : lts.Need-overflow-sub-put-iteration (K t) (P t) Post
-  sub-put-iteration c = (lies (stood (h₄ c.before.before))).on
+  sub_put_iteration : lts.Need-overflow-sub-put-iteration (K t) (P t) Post
+  sub_put_iteration c = (lies (stood (h₄ c.before.before))).on
 
-  part-put-iteration-start : lts.Need-slice-bounds-put-iteration-start (K t) (P t) Post
-  part-put-iteration-start c = (lies (stood (h₄ c.before.before))).on
+  part_put_iteration_start : lts.Need-slice-bounds-put-iteration-start (K t) (P t) Post
+  part_put_iteration_start c = (lies (stood (h₄ c.before.before))).on
 
-  part-put-iteration-end : lts.Need-slice-bounds-put-iteration-end (K t) (P t) Post
-  part-put-iteration-end c = (lies (stood (h₄ c.before.before))).within
+  part_put_iteration_end : lts.Need-slice-bounds-put-iteration-end (K t) (P t) Post
+  part_put_iteration_end c = (lies (stood (h₄ c.before.before))).within
 
-  put-iteration-requires : lts.Need-put-iteration-requires (K t) (P t) Post
-  put-iteration-requires c κs =
+  put_iteration_requires : lts.Need-put-iteration-requires (K t) (P t) Post
+  put_iteration_requires c κs =
       let h = h₄ c.before.before.before in let r = (a₁ h).pre.1.0 in
-      let short = lent-short (a₁ h).args.src.now (key h).start (key h).end r.stands.short (lies (stood h)).within in
+      let short = lent_short (a₁ h).args.src.now (key h).start (key h).end r.stands.short (lies (stood h)).within in
       (Steps.fits r (lit≤ tt) (value c.before.before.before), omega (arith, short))
 
   -- ── What each return owes ────────────────────────────────────────────────────────────────────────
   returns : lts.Need-returns (K t) (P t) Post
-  returns c = let p = c.before.before.before.before.requires.1 in too-deep-clause c.before.if1.true p.0.stands p.1 c.error.ensures
+  returns c = let p = c.before.before.before.before.requires.1 in too_deep_clause c.before.if1.true p.0.stands p.1 c.error.ensures
 
-  returns-2 : lts.Need-returns-2 (K t) (P t) Post
-  returns-2 c = let x = c.before.before.before.before in Steps.passed (Steps.takes-broken x.pat.ensures c.before.match.keys2) (headed x.before.before.before)
+  returns_2 : lts.Need-returns-2 (K t) (P t) Post
+  returns_2 c = let x = c.before.before.before.before in Steps.passed (Steps.takes_broken x.pat.ensures c.before.match.keys2) (headed x.before.before.before)
 
-  returns-3 : lts.Need-returns-3 (K t) (P t) Post
-  returns-3 c = let x = c.before.before in Steps.passed (Steps.eats-broken x.eat.ensures c.before.match2.keys2) (into x.before.before)
+  returns_3 : lts.Need-returns-3 (K t) (P t) Post
+  returns_3 c = let x = c.before.before in Steps.passed (Steps.eats_broken x.eat.ensures c.before.match2.keys2) (into x.before.before)
 
-  returns-4 : lts.Need-returns-4 (K t) (P t) Post
-  returns-4 c = let x = c.before.before.before.before in Steps.passed (Steps.takes-broken x.expr.ensures c.before.match3.keys2) (opened x.before.before.before)
+  returns_4 : lts.Need-returns-4 (K t) (P t) Post
+  returns_4 c = let x = c.before.before.before.before in Steps.passed (Steps.takes_broken x.expr.ensures c.before.match3.keys2) (opened x.before.before.before)
 
-  same-length-4 : lts.Need-same-length-4 (K t) (P t) Post
-  same-length-4 c = Steps.same (closed c.before.before)
+  same_length_4 : lts.Need-same-length-4 (K t) (P t) Post
+  same_length_4 c = Steps.same (closed c.before.before)
 
-  returns-5 : lts.Need-returns-5 (K t) (P t) Post
-  returns-5 c = Steps.ends (lit≤ tt) (closed c.before.before)
+  returns_5 : lts.Need-returns-5 (K t) (P t) Post
+  returns_5 c = Steps.ends (lit≤ tt) (closed c.before.before)
 
   -- All of them, in the order of the code.
   pub met : {M : Type 1} → lts.Closed (K t) (P t) Post M
-  met = lts.spec (K t) (P t) Post (λ c κs. search rules) returns (λ c κs. search rules) (λ c κs. search rules) (λ c κs. search rules) (λ c κs. search rules) (λ c κs. search rules) pat-requires
-      (λ c. search rules) (λ c. search rules) (λ c. search rules) returns-2 eat-requires (λ c. search rules) (λ c. search rules) (λ c. search rules) returns-3 expr-requires (λ c. search rules)
-      (λ c. search rules) (λ c. search rules) returns-4 cast-put-iteration cast-put-iteration-2 sub-put-iteration part-put-iteration-start part-put-iteration-end put-iteration-requires same-length-4 returns-5
+  met = lts.spec (K t) (P t) Post (λ c κs. search rules) returns (λ c κs. search rules) (λ c κs. search rules) (λ c κs. search rules) (λ c κs. search rules) (λ c κs. search rules) pat_requires
+      (λ c. search rules) (λ c. search rules) (λ c. search rules) returns_2 eat_requires (λ c. search rules) (λ c. search rules) (λ c. search rules) returns_3 expr_requires (λ c. search rules)
+      (λ c. search rules) (λ c. search rules) returns_4 cast_put_iteration cast_put_iteration_2 sub_put_iteration part_put_iteration_start part_put_iteration_end put_iteration_requires same_length_4 returns_5

@@ -10,29 +10,29 @@ use Prim.Native.Nat.{ℕ, ◌+◌, ◌-◌, ◌≤◌}
 use Rattle.leaves.proofs.Steps
 use Rattle.phrases.proofs.ends.Reads.{Post}
 use Rattle.phrases.proofs.+arg_args_array_assert_basic_bind_body_chain_claim_comp_cond_each_ends_expr_field_func_index_init_inside_item_link_load_local_member_name_obj_param_params_pat_rest_rhs_safe_sign_slice_spec_specs_step_value.Lts-ends as lts
-use Rattle.phrases.proofs.+arg_args_array_assert_basic_bind_body_chain_claim_comp_cond_each_ends_expr_field_func_index_init_inside_item_link_load_local_member_name_obj_param_params_pat_rest_rhs_safe_sign_slice_spec_specs_step_value.Proof.Frame.{ends-claims as K, ends_at as P}
-use Rattle.grammar.specs.Productions.{Phrase, Body, goto, eat, sub, ◌▸◌, pattern, array-rest-end, pattern-ends, pattern-ends-end, array-pattern-close}
+use Rattle.phrases.proofs.+arg_args_array_assert_basic_bind_body_chain_claim_comp_cond_each_ends_expr_field_func_index_init_inside_item_link_load_local_member_name_obj_param_params_pat_rest_rhs_safe_sign_slice_spec_specs_step_value.Proof.Frame.{ends_claims as K, ends_at as P}
+use Rattle.grammar.specs.Productions.{Phrase, Body, goto, eat, sub, ◌▸◌, pattern, array_rest_end, pattern_ends, pattern_ends_end, array_pattern_close}
 use Rattle.leaves.specs.Meets.{state, Seg}
 use Rattle.leaves.specs.declared.Cursor.{Cursor}
-use Rattle.phrases.proofs.PatternLaws.{Ending, at_rest, at-pattern, ending-comma, ending-over, ends_close, ends-one}
+use Rattle.phrases.proofs.PatternLaws.{Ending, at_rest, at_pattern, ending_comma, ending_over, ends_close, ends_one}
 
 abbrev pub Inv-loop : lts.invariant-loop
 Inv-loop src out₀ w left set n keep name cur₀ at₀ m₀ out cur at m =
     (q : Phrase) × Ending n keep (slice name.start name.end src) q
-    × Steps.Turns set src left (goto (array-rest-end n keep (slice name.start name.end src))) n cur₀ at₀ out₀ (goto q) (n + m) cur at out × (m ≤ cur.at)
+    × Steps.Turns set src left (goto (array_rest_end n keep (slice name.start name.end src))) n cur₀ at₀ out₀ (goto q) (n + m) cur at out × (m ≤ cur.at)
 
-abbrev pub μ-loop : lts.decreases-loop
-μ-loop src out₀ w left set n keep name cur₀ at₀ m₀ out cur at m = length src - cur.at
+abbrev pub μ_loop : lts.decreases-loop
+μ_loop src out₀ w left set n keep name cur₀ at₀ m₀ out cur at m = length src - cur.at
 
 module _ (t : ℕ) where
   abbrev Turn : Type 0
-  Turn = lts.At-loop (K t) (P t) Post Inv-loop μ-loop
+  Turn = lts.At-loop (K t) (P t) Post Inv-loop μ_loop
 
-  abbrev a₁ : Turn → lts.Start (K t) (P t) Post Inv-loop μ-loop
+  abbrev a₁ : Turn → lts.Start (K t) (P t) Post Inv-loop μ_loop
   a₁ l = l.before.before.before
 
   -- the rest's name
-  abbrev word : lts.Start (K t) (P t) Post Inv-loop μ-loop → List ℕ
+  abbrev word : lts.Start (K t) (P t) Post Inv-loop μ_loop → List ℕ
   word a = slice a.args.name.start a.args.name.end a.args.src.now
 
   -- a stretch of one turn, of which e bytes are taken
@@ -42,81 +42,81 @@ module _ (t : ℕ) where
       Seg a.set a.src.now a.left (state (goto l.loop.inv.0) (a.n + l.loop.m) l.loop.cur l.loop.at l.loop.out) e 0 (state b n c w o)
 
   -- ── `,` and a pattern ────────────────────────────────────────────────────────────────────────────
-  comma : (c : lts.After-eat-any (K t) (P t) Post Inv-loop μ-loop) → let l = c.before.before.before in let a = a₁ l in
-      So l 1 (goto (pattern-ends a.args.n a.args.keep (word a))) (a.args.n + l.loop.m) c.eat-any.result l.loop.at l.loop.out
+  comma : (c : lts.After-eat-any (K t) (P t) Post Inv-loop μ_loop) → let l = c.before.before.before in let a = a₁ l in
+      So l 1 (goto (pattern_ends a.args.n a.args.keep (word a))) (a.args.n + l.loop.m) c.eat-any.result l.loop.at l.loop.out
   comma c =
       let l = c.before.before.before in let a = a₁ l in let st = l.loop.invariant.2.ok.stands in
       let is = c.before.if1.false in
       Steps.taken (lit< tt) st c.eat-any.ensures is
-      (Steps.known (eat 33 ▸ goto (pattern-ends a.args.n a.args.keep (word a))) st is
-      (λ xs t. ending-comma a.args.set _ xs _ a.args.n a.args.keep (word a) t l.loop.invariant.1) Steps.here)
+      (Steps.known (eat 33 ▸ goto (pattern_ends a.args.n a.args.keep (word a))) st is
+      (λ xs t. ending_comma a.args.set _ xs _ a.args.n a.args.keep (word a) t l.loop.invariant.1) Steps.here)
 
-  opened : (c : lts.Else2 (K t) (P t) Post Inv-loop μ-loop) → let e = c.before.before in let l = e.before.before.before in let a = a₁ l in
-      So l 1 (sub pattern ▸ goto (pattern-ends-end a.args.n a.args.keep (word a))) (a.args.n + l.loop.m) e.eat-any.result l.loop.at l.loop.out
+  opened : (c : lts.Else2 (K t) (P t) Post Inv-loop μ_loop) → let e = c.before.before in let l = e.before.before.before in let a = a₁ l in
+      So l 1 (sub pattern ▸ goto (pattern_ends_end a.args.n a.args.keep (word a))) (a.args.n + l.loop.m) e.eat-any.result l.loop.at l.loop.out
   opened c =
       let e = c.before.before in let a = a₁ e.before.before.before in
-      Steps.known (sub pattern ▸ goto (pattern-ends-end a.args.n a.args.keep (word a))) e.eat-any.ensures.stands refl
-      (λ xs t. ends-one a.args.set _ xs _ a.args.n a.args.keep (word a) _ t c.if2.false) (comma e)
+      Steps.known (sub pattern ▸ goto (pattern_ends_end a.args.n a.args.keep (word a))) e.eat-any.ensures.stands refl
+      (λ xs t. ends_one a.args.set _ xs _ a.args.n a.args.keep (word a) _ t c.if2.false) (comma e)
 
-  abbrev l₂ : lts.After-a (K t) (P t) Post Inv-loop μ-loop → Turn
+  abbrev l₂ : lts.After-a (K t) (P t) Post Inv-loop μ_loop → Turn
   l₂ c = c.before.before.before.before.before.before.before.before.before.before.before
 
-  one : (c : lts.After-a (K t) (P t) Post Inv-loop μ-loop) → let l = l₂ c in let a = a₁ l in
-      So l 1 (goto (pattern-ends-end a.args.n a.args.keep (word a))) (a.args.n + (l.loop.m + 1)) c.a.given.0.0 c.a.given.0.1.0 c.before.before.before.before.pat.new.1.0
+  one : (c : lts.After-a (K t) (P t) Post Inv-loop μ_loop) → let l = l₂ c in let a = a₁ l in
+      So l 1 (goto (pattern_ends_end a.args.n a.args.keep (word a))) (a.args.n + (l.loop.m + 1)) c.a.given.0.0 c.a.given.0.1.0 c.before.before.before.before.pat.new.1.0
   one c =
       let l = l₂ c in let n = (a₁ l).args.n in
       let sum : n + l.loop.m + 1 ≡ n + (l.loop.m + 1) = omega arith in
-      Steps.count-is sum (Steps.took c.before.before.before.before.pat.ensures c.a.given.1 (opened c.before.before.before.before.before.before))
+      Steps.count_is sum (Steps.took c.before.before.before.before.pat.ensures c.a.given.1 (opened c.before.before.before.before.before.before))
 
   -- ── The loop, and what each call asks ────────────────────────────────────────────────────────────
-  loop-holds : lts.Need-loop-init (K t) (P t) Post Inv-loop μ-loop
-  loop-holds c =
+  loop_holds : lts.Need-loop-init (K t) (P t) Post Inv-loop μ_loop
+  loop_holds c =
       let a = c.before.before in let n = a.args.n in
       let none : n ≡ n + 0 = omega arith in
-      (array-rest-end n a.args.keep (word a), at_rest, record { ok = a.requires.1.0; seg = Steps.count-is none Steps.here; same = refl }, omega arith)
+      (array_rest_end n a.args.keep (word a), at_rest, record { ok = a.requires.1.0; seg = Steps.count_is none Steps.here; same = refl }, omega arith)
 
-  array-pattern-close-requires-2 : lts.Need-array-pattern-close-requires-2 (K t) (P t) Post Inv-loop μ-loop
-  array-pattern-close-requires-2 c κs =
+  array_pattern_close_requires_2 : lts.Need-array-pattern-close-requires-2 (K t) (P t) Post Inv-loop μ_loop
+  array_pattern_close_requires_2 c κs =
       let e = c.before.before.before in let i = e.before.before.before.loop.invariant in
       let p = (a₁ e.before.before.before).pre.1 in let on = (comma e).onward in
       (Steps.ready i.2.ok (lit≤ tt) (comma e), omega (arith, p.1, i.2.seg.onward, on), omega (arith, i.3, on), p.2, p.3)
 
-  pat-requires : lts.Need-pat-requires (K t) (P t) Post Inv-loop μ-loop
-  pat-requires c κs = let l = c.before.before.before.before.before.before in (omega (arith, (a₁ l).requires.0), Steps.ready l.loop.invariant.2.ok (lit≤ tt) (comma c.before.before.before))
+  pat_requires : lts.Need-pat-requires (K t) (P t) Post Inv-loop μ_loop
+  pat_requires c κs = let l = c.before.before.before.before.before.before in (omega (arith, (a₁ l).requires.0), Steps.ready l.loop.invariant.2.ok (lit≤ tt) (comma c.before.before.before))
 
-  add-m : lts.Need-overflow-add-m (K t) (P t) Post Inv-loop μ-loop
-  add-m c = let i = (l₂ c.before).loop.inv in omega (arith, i.3, i.2.ok.stands.within, i.2.ok.stands.short)
+  add_m : lts.Need-overflow-add-m (K t) (P t) Post Inv-loop μ_loop
+  add_m c = let i = (l₂ c.before).loop.inv in omega (arith, i.3, i.2.ok.stands.within, i.2.ok.stands.short)
 
-  loop-less : lts.Need-loop-smaller (K t) (P t) Post Inv-loop μ-loop
-  loop-less c = Steps.closer (l₂ c.before).loop.inv.2.ok (lit≤ tt) (one c.before)
+  loop_less : lts.Need-loop-smaller (K t) (P t) Post Inv-loop μ_loop
+  loop_less c = Steps.closer (l₂ c.before).loop.inv.2.ok (lit≤ tt) (one c.before)
 
-  loop-again : lts.Need-loop-preserved (K t) (P t) Post Inv-loop μ-loop
-  loop-again c =
+  loop_again : lts.Need-loop-preserved (K t) (P t) Post Inv-loop μ_loop
+  loop_again c =
       let v = c.before in let a = a₁ (l₂ v) in let i = (l₂ v).loop.invariant in
-      (pattern-ends-end a.args.n a.args.keep (word a), at-pattern, Steps.turned i.2 (lit≤ tt) (one v), omega (arith, i.3, (one v).onward))
+      (pattern_ends_end a.args.n a.args.keep (word a), at_pattern, Steps.turned i.2 (lit≤ tt) (one v), omega (arith, i.3, (one v).onward))
 
   -- ── What each return owes ────────────────────────────────────────────────────────────────────────
-  returns : lts.Need-returns (K t) (P t) Post Inv-loop μ-loop
+  returns : lts.Need-returns (K t) (P t) Post Inv-loop μ_loop
   returns c =
       let l = c.before.before.before.before.before.before in let a = (a₁ l).args in let i = l.loop.invariant in
-      Steps.tail (omega arith) (c.before.before.array-pattern-close.ensures.ends a.set a.left)
-      (Steps.known (goto (array-pattern-close a.n a.keep (word (a₁ l)))) i.2.ok.stands refl
-      (λ xs t. ending-over a.set _ xs _ a.n a.keep (word (a₁ l)) _ t i.1 c.before.before.before.before.if1.true) i.2.seg)
+      Steps.tail (omega arith) (c.before.before.array_pattern_close.ensures.ends a.set a.left)
+      (Steps.known (goto (array_pattern_close a.n a.keep (word (a₁ l)))) i.2.ok.stands refl
+      (λ xs t. ending_over a.set _ xs _ a.n a.keep (word (a₁ l)) _ t i.1 c.before.before.before.before.if1.true) i.2.seg)
 
-  returns-2 : lts.Need-returns-2 (K t) (P t) Post Inv-loop μ-loop
-  returns-2 c =
+  returns_2 : lts.Need-returns-2 (K t) (P t) Post Inv-loop μ_loop
+  returns_2 c =
       let e = c.before.before.before.before.before.before in let l = e.before.before.before in
       let a = (a₁ l).args in
       Steps.tail (omega arith) (c.before.before.array-pattern-close2.ensures.ends a.set a.left)
-      (Steps.onto l.loop.invariant.2.seg (Steps.known (goto (array-pattern-close a.n a.keep (word (a₁ l)))) e.eat-any.ensures.stands c.before.before.before.before.if2.true
+      (Steps.onto l.loop.invariant.2.seg (Steps.known (goto (array_pattern_close a.n a.keep (word (a₁ l)))) e.eat-any.ensures.stands c.before.before.before.before.if2.true
       (λ xs t. ends_close a.set _ xs _ a.n a.keep (word (a₁ l)) t) (comma e)))
 
-  returns-3 : lts.Need-returns-3 (K t) (P t) Post Inv-loop μ-loop
-  returns-3 c =
+  returns_3 : lts.Need-returns-3 (K t) (P t) Post Inv-loop μ_loop
+  returns_3 c =
       let x = c.before.before.before.before in
-      Steps.passed (Steps.takes-broken x.pat.ensures c.before.match.keys2) (Steps.onto x.before.before.before.before.before.before.before.loop.invariant.2.seg (opened x.before.before))
+      Steps.passed (Steps.takes_broken x.pat.ensures c.before.match.keys2) (Steps.onto x.before.before.before.before.before.before.before.loop.invariant.2.seg (opened x.before.before))
 
   -- All of them, in the order of the code.
   pub met : {M : Type 1} → lts.Closed (K t) (P t) Post M
-  met = lts.spec (K t) (P t) Post Inv-loop μ-loop loop-holds (λ c κs. search rules) (λ c. search rules) returns (λ c κs. search rules) array-pattern-close-requires-2 (λ c. search rules) returns-2
-      pat-requires (λ c. search rules) (λ c. search rules) (λ c. search rules) returns-3 add-m loop-less loop-again
+  met = lts.spec (K t) (P t) Post Inv-loop μ_loop loop_holds (λ c κs. search rules) (λ c. search rules) returns (λ c κs. search rules) array_pattern_close_requires_2 (λ c. search rules) returns_2
+      pat_requires (λ c. search rules) (λ c. search rules) (λ c. search rules) returns_3 add_m loop_less loop_again

@@ -10,41 +10,41 @@ use Rattle.leaves.proofs.Steps
 use Rattle.leaves.proofs.LexemeLaws.{lies}
 use Rattle.phrases.proofs.expr.Reads.{Post}
 use Rattle.phrases.proofs.+arg_args_array_assert_basic_bind_body_chain_claim_comp_cond_each_ends_expr_field_func_index_init_inside_item_link_load_local_member_name_obj_param_params_pat_rest_rhs_safe_sign_slice_spec_specs_step_value.Lts-expr as lts
-use Rattle.phrases.proofs.+arg_args_array_assert_basic_bind_body_chain_claim_comp_cond_each_ends_expr_field_func_index_init_inside_item_link_load_local_member_name_obj_param_params_pat_rest_rhs_safe_sign_slice_spec_specs_step_value.Proof.Frame.{expr-claims as K, expr-at as P}
+use Rattle.phrases.proofs.+arg_args_array_assert_basic_bind_body_chain_claim_comp_cond_each_ends_expr_field_func_index_init_inside_item_link_load_local_member_name_obj_param_params_pat_rest_rhs_safe_sign_slice_spec_specs_step_value.Proof.Frame.{expr_claims as K, expr_at as P}
 use Rattle.grammar.specs.Image.{entry, payload}
 use Rattle.grammar.specs.Trees.{byte, span}
-use Rattle.grammar.specs.Productions.{Body, goto, end, eat, deep, close, ◌▸◌, expr, infix-tail}
+use Rattle.grammar.specs.Productions.{Body, goto, end, eat, deep, close, ◌▸◌, expr, infix_tail}
 use Rattle.leaves.specs.Meets.{state, Seg}
 use Rattle.leaves.specs.declared.Cursor.{Cursor}
-use Rattle.phrases.proofs.ExpressionLaws.{an-operator, weak-operator, no-operator, infix-kind}
+use Rattle.phrases.proofs.ExpressionLaws.{an_operator, weak_operator, no_operator, infix_kind}
 
 abbrev pub Inv-loop : lts.invariant-loop
-Inv-loop src out₀ w left set least w1 cur₀ at₀ out cur at = Steps.Turns set src (left - 1) (goto (infix-tail least)) 1 cur₀ at₀ out₀ (goto (infix-tail least)) 1 cur at out
+Inv-loop src out₀ w left set least w1 cur₀ at₀ out cur at = Steps.Turns set src (left - 1) (goto (infix_tail least)) 1 cur₀ at₀ out₀ (goto (infix_tail least)) 1 cur at out
 
-abbrev pub μ-loop : lts.decreases-loop
-μ-loop src out₀ w left set least w1 cur₀ at₀ out cur at = length src - cur.at
+abbrev pub μ_loop : lts.decreases-loop
+μ_loop src out₀ w left set least w1 cur₀ at₀ out cur at = length src - cur.at
 
 module _ (t : ℕ) where
   abbrev Turn : Type 0
-  Turn = lts.At-loop (K t) (P t) Post Inv-loop μ-loop
+  Turn = lts.At-loop (K t) (P t) Post Inv-loop μ_loop
 
   -- from the start, one level deeper, to where an operator may follow
-  abbrev Headed : lts.Start (K t) (P t) Post Inv-loop μ-loop → Cursor → ℕ → List ℕ → Type 0
+  abbrev Headed : lts.Start (K t) (P t) Post Inv-loop μ_loop → Cursor → ℕ → List ℕ → Type 0
   Headed a c w o =
       let g = a.args in
-      Seg g.set g.src.now (g.left - 1) (state (goto (expr g.least)) 0 g.c g.w g.out.now) 0 0 (state (goto (infix-tail g.least)) 1 c w o)
+      Seg g.set g.src.now (g.left - 1) (state (goto (expr g.least)) 0 g.c g.w g.out.now) 0 0 (state (goto (infix_tail g.least)) 1 c w o)
 
-  abbrev a₁ : lts.After-a (K t) (P t) Post Inv-loop μ-loop → lts.Start (K t) (P t) Post Inv-loop μ-loop
+  abbrev a₁ : lts.After-a (K t) (P t) Post Inv-loop μ_loop → lts.Start (K t) (P t) Post Inv-loop μ_loop
   a₁ c = c.before.before.before.before.before.before.before.before.before
 
-  head : (c : lts.After-a (K t) (P t) Post Inv-loop μ-loop) → Headed (a₁ c) c.a.given.0.0 c.a.given.0.1.0 c.before.before.before.before.sign.new.1.0
+  head : (c : lts.After-a (K t) (P t) Post Inv-loop μ_loop) → Headed (a₁ c) c.a.given.0.0 c.a.given.0.1.0 c.before.before.before.before.sign.new.1.0
   head c = Steps.went c.before.before.before.before.sign.ensures c.a.given.1 Steps.here
 
   -- a turn's start, and that a level is left
-  abbrev a₂ : Turn → lts.Start (K t) (P t) Post Inv-loop μ-loop
+  abbrev a₂ : Turn → lts.Start (K t) (P t) Post Inv-loop μ_loop
   a₂ l = a₁ l.before.before
 
-  abbrev e₂ : Turn → lts.Else1 (K t) (P t) Post Inv-loop μ-loop
+  abbrev e₂ : Turn → lts.Else1 (K t) (P t) Post Inv-loop μ_loop
   e₂ l = l.before.before.before.before.before.before.before.before
 
   whole : (l : Turn) → Headed (a₂ l) l.loop.cur l.loop.at l.loop.out
@@ -55,83 +55,83 @@ module _ (t : ℕ) where
   abbrev So : Turn → ℕ → ℕ → Body → ℕ → Cursor → ℕ → List ℕ → Type 0
   So l e v b n c w o =
       let g = (a₂ l).args in
-      Seg g.set g.src.now (g.left - 1) (state (goto (infix-tail g.least)) 1 l.loop.cur l.loop.at l.loop.out) e v (state b n c w o)
+      Seg g.set g.src.now (g.left - 1) (state (goto (infix_tail g.least)) 1 l.loop.cur l.loop.at l.loop.out) e v (state b n c w o)
 
   -- what comes after the operand
-  abbrev tail : lts.After-b (K t) (P t) Post Inv-loop μ-loop → Body
+  abbrev tail : lts.After-b (K t) (P t) Post Inv-loop μ_loop → Body
   tail b =
       let l = b.before.before.before in let cur = l.loop.cur in
-      close 13 (byte b.b.given.0.0 ∷ span cur.start cur.end ∷ []) ▸ goto (infix-tail (a₂ l).args.least)
+      close 13 (byte b.b.given.0.0 ∷ span cur.start cur.end ∷ []) ▸ goto (infix_tail (a₂ l).args.least)
 
-  opened : (c : lts.After-eat-any (K t) (P t) Post Inv-loop μ-loop) → let b = c.before.before.before.before in let l = b.before.before.before in
+  opened : (c : lts.After-eat-any (K t) (P t) Post Inv-loop μ_loop) → let b = c.before.before.before.before in let l = b.before.before.before in
       So l 1 0 (deep (expr b.b.given.0.1.1.0) ▸ tail b) 1 c.eat-any.result l.loop.at l.loop.out
   opened c =
       let b = c.before.before.before.before in let l = b.before.before.before in let g = (a₂ l).args in
       let cur = l.loop.cur in let found = b.before.before.«infix».ensures in
       let st = l.loop.invariant.ok.stands in
-      Steps.taken (infix-kind g.set found b.b.given.1) st c.eat-any.ensures refl
+      Steps.taken (infix_kind g.set found b.b.given.1) st c.eat-any.ensures refl
       (Steps.known (eat cur.kind ▸ deep (expr b.b.given.0.1.1.0) ▸ tail b) st refl
-      (λ xs t. an-operator g.set cur xs 1 g.least cur.kind t found b.b.given.1 c.before.before.if2.false) Steps.here)
+      (λ xs t. an_operator g.set cur xs 1 g.least cur.kind t found b.b.given.1 c.before.before.if2.false) Steps.here)
 
-  abbrev b₄ : lts.After-d (K t) (P t) Post Inv-loop μ-loop → lts.After-b (K t) (P t) Post Inv-loop μ-loop
+  abbrev b₄ : lts.After-d (K t) (P t) Post Inv-loop μ_loop → lts.After-b (K t) (P t) Post Inv-loop μ_loop
   b₄ c = c.before.before.before.before.before.before.before.before.before
 
-  value : (c : lts.After-d (K t) (P t) Post Inv-loop μ-loop) → let b = b₄ c in
+  value : (c : lts.After-d (K t) (P t) Post Inv-loop μ_loop) → let b = b₄ c in
       So b.before.before.before 1 0 (tail b) 2 c.d.given.0.0 c.d.given.0.1.0 c.before.before.before.before.expr.new.1.0
   value c = Steps.took c.before.before.before.before.expr.ensures c.d.given.1 (opened c.before.before.before.before.before)
 
-  joined : (c : lts.After-put-kind (K t) (P t) Post Inv-loop μ-loop) → let d = c.before.before.before in let l = (b₄ d).before.before.before in
-      So l 1 8 (goto (infix-tail (a₂ l).args.least)) 1 d.d.given.0.0 c.put-kind.result c.put-kind.new.0
+  joined : (c : lts.After-put-kind (K t) (P t) Post Inv-loop μ_loop) → let d = c.before.before.before in let l = (b₄ d).before.before.before in
+      So l 1 8 (goto (infix_tail (a₂ l).args.least)) 1 d.d.given.0.0 c.put-kind.result c.put-kind.new.0
   unfolding entry payload
   joined c = Steps.closed 8 (lit≤ tt) c.put-kind.ensures (value c.before.before.before)
 
   -- ── The loop, and what each call asks ────────────────────────────────────────────────────────────
-  loop-holds : lts.Need-loop-init (K t) (P t) Post Inv-loop μ-loop
-  loop-holds c = Steps.begun (Steps.ready (a₁ c.before).pre.1 (lit≤ tt) (head c.before))
+  loop_holds : lts.Need-loop-init (K t) (P t) Post Inv-loop μ_loop
+  loop_holds c = Steps.begun (Steps.ready (a₁ c.before).pre.1 (lit≤ tt) (head c.before))
 
-  expr-requires : lts.Need-expr-requires (K t) (P t) Post Inv-loop μ-loop
-  expr-requires c κs = let l = c.before.before.before.before.before.before.before in (omega (arith, (a₂ l).requires.0, (e₂ l).if1.false), Steps.ready l.loop.invariant.ok (lit≤ tt) (opened c))
+  expr_requires : lts.Need-expr-requires (K t) (P t) Post Inv-loop μ_loop
+  expr_requires c κs = let l = c.before.before.before.before.before.before.before in (omega (arith, (a₂ l).requires.0, (e₂ l).if1.false), Steps.ready l.loop.invariant.ok (lit≤ tt) (opened c))
 
-  put-kind-requires : lts.Need-put-kind-requires (K t) (P t) Post Inv-loop μ-loop
-  put-kind-requires c κs =
+  put_kind_requires : lts.Need-put-kind-requires (K t) (P t) Post Inv-loop μ_loop
+  put_kind_requires c κs =
       let d = c.before.before in let p = (b₄ d).before.before.before.loop.invariant.ok in
       let l = lies p.stands in let z = ((value d).stands p.stands).within in
       (Steps.fits p (lit≤ tt) (value d), omega (arith, l.from, l.on, l.within, z, p.stands.short), omega (arith, l.from, l.on, l.within, z, p.stands.short))
 
-  loop-less : lts.Need-loop-smaller (K t) (P t) Post Inv-loop μ-loop
-  loop-less c = let x = c.before.before in Steps.closer (b₄ x.before.before.before).before.before.before.loop.inv.ok (lit≤ tt) (joined x)
+  loop_less : lts.Need-loop-smaller (K t) (P t) Post Inv-loop μ_loop
+  loop_less c = let x = c.before.before in Steps.closer (b₄ x.before.before.before).before.before.before.loop.inv.ok (lit≤ tt) (joined x)
 
-  loop-again : lts.Need-loop-preserved (K t) (P t) Post Inv-loop μ-loop
-  loop-again c = let x = c.before.before in Steps.turned (b₄ x.before.before.before).before.before.before.loop.inv (lit≤ tt) (joined x)
+  loop_again : lts.Need-loop-preserved (K t) (P t) Post Inv-loop μ_loop
+  loop_again c = let x = c.before.before in Steps.turned (b₄ x.before.before.before).before.before.before.loop.inv (lit≤ tt) (joined x)
 
   -- ── What each return owes ────────────────────────────────────────────────────────────────────────
-  returns : lts.Need-returns (K t) (P t) Post Inv-loop μ-loop
-  returns c = record { takes = λ b n. Steps.broke (Steps.too-deep c.before.if1.true c.before.before.before.before.requires.1.stands) c.error.ensures }
+  returns : lts.Need-returns (K t) (P t) Post Inv-loop μ_loop
+  returns c = record { takes = λ b n. Steps.broke (Steps.too_deep c.before.if1.true c.before.before.before.before.requires.1.stands) c.error.ensures }
 
-  returns-2 : lts.Need-returns-2 (K t) (P t) Post Inv-loop μ-loop
-  returns-2 c = let x = c.before.before.before.before in Steps.as-deep x.before.before.if1.false (Steps.passed (Steps.leads-broken x.sign.ensures c.before.match.keys2) Steps.here)
+  returns_2 : lts.Need-returns-2 (K t) (P t) Post Inv-loop μ_loop
+  returns_2 c = let x = c.before.before.before.before in Steps.as_deep x.before.before.if1.false (Steps.passed (Steps.leads_broken x.sign.ensures c.before.match.keys2) Steps.here)
 
-  returns-3 : lts.Need-returns-3 (K t) (P t) Post Inv-loop μ-loop
-  returns-3 c =
+  returns_3 : lts.Need-returns-3 (K t) (P t) Post Inv-loop μ_loop
+  returns_3 c =
       let l = c.before.before.before in let g = (a₂ l).args in let cur = l.loop.cur in
-      Steps.as-deep (e₂ l).if1.false (Steps.ends (lit≤ tt) (Steps.known end l.loop.invariant.ok.stands refl
-      (λ xs t. no-operator g.set cur xs 1 g.least cur.kind t c.before.before.«infix».ensures c.before.match2.keys2) (whole l)))
+      Steps.as_deep (e₂ l).if1.false (Steps.ends (lit≤ tt) (Steps.known end l.loop.invariant.ok.stands refl
+      (λ xs t. no_operator g.set cur xs 1 g.least cur.kind t c.before.before.«infix».ensures c.before.match2.keys2) (whole l)))
 
-  returns-4 : lts.Need-returns-4 (K t) (P t) Post Inv-loop μ-loop
-  returns-4 c =
+  returns_4 : lts.Need-returns-4 (K t) (P t) Post Inv-loop μ_loop
+  returns_4 c =
       let b = c.before.before in let l = b.before.before.before in let g = (a₂ l).args in
       let cur = l.loop.cur in
-      Steps.as-deep (e₂ l).if1.false (Steps.ends (lit≤ tt) (Steps.known end l.loop.invariant.ok.stands refl
-      (λ xs t. weak-operator g.set cur xs 1 g.least cur.kind t b.before.before.«infix».ensures b.b.given.1 c.if2.true) (whole l)))
+      Steps.as_deep (e₂ l).if1.false (Steps.ends (lit≤ tt) (Steps.known end l.loop.invariant.ok.stands refl
+      (λ xs t. weak_operator g.set cur xs 1 g.least cur.kind t b.before.before.«infix».ensures b.b.given.1 c.if2.true) (whole l)))
 
-  returns-5 : lts.Need-returns-5 (K t) (P t) Post Inv-loop μ-loop
-  returns-5 c =
+  returns_5 : lts.Need-returns-5 (K t) (P t) Post Inv-loop μ_loop
+  returns_5 c =
       let x = c.before.before.before.before in
       let l = x.before.before.before.before.before.before.before.before in
-      Steps.as-deep (e₂ l).if1.false (Steps.passed (Steps.takes-broken x.expr.ensures c.before.match3.keys2) (Steps.onto (whole l) (opened x.before)))
+      Steps.as_deep (e₂ l).if1.false (Steps.passed (Steps.takes_broken x.expr.ensures c.before.match3.keys2) (Steps.onto (whole l) (opened x.before)))
 
   -- All of them, in the order of the code.
   pub met : {M : Type 1} → lts.Closed (K t) (P t) Post M
-  met = lts.spec (K t) (P t) Post Inv-loop μ-loop (λ c κs. search rules) returns (λ c. search rules) (λ c κs. search rules) (λ c. search rules) (λ c. search rules) (λ c. search rules) returns-2
-      loop-holds (λ c κs. search rules) (λ c. search rules) (λ c. search rules) (λ c. search rules) returns-3 (λ c. search rules) returns-4 (λ c κs. search rules) (λ c. search rules) expr-requires
-      (λ c. search rules) (λ c. search rules) (λ c. search rules) returns-5 put-kind-requires loop-less loop-again
+  met = lts.spec (K t) (P t) Post Inv-loop μ_loop (λ c κs. search rules) returns (λ c. search rules) (λ c κs. search rules) (λ c. search rules) (λ c. search rules) (λ c. search rules) returns_2
+      loop_holds (λ c κs. search rules) (λ c. search rules) (λ c. search rules) (λ c. search rules) returns_3 (λ c. search rules) returns_4 (λ c κs. search rules) (λ c. search rules) expr_requires
+      (λ c. search rules) (λ c. search rules) (λ c. search rules) returns_5 put_kind_requires loop_less loop_again

@@ -9,8 +9,8 @@ use borrow.Author.Tests.{ne_eqb}
 use Rattle.leaves.proofs.Steps
 use Rattle.phrases.proofs.field.Reads.{Post}
 use Rattle.phrases.proofs.+arg_args_array_assert_basic_bind_body_chain_claim_comp_cond_each_ends_expr_field_func_index_init_inside_item_link_load_local_member_name_obj_param_params_pat_rest_rhs_safe_sign_slice_spec_specs_step_value.Lts-field as lts
-use Rattle.phrases.proofs.+arg_args_array_assert_basic_bind_body_chain_claim_comp_cond_each_ends_expr_field_func_index_init_inside_item_link_load_local_member_name_obj_param_params_pat_rest_rhs_safe_sign_slice_spec_specs_step_value.Proof.Frame.{field-claims as K, field_at as P}
-use Rattle.grammar.specs.Productions.{Body, goto, eat, sub, ◌▸◌, rule, field, field-value, params}
+use Rattle.phrases.proofs.+arg_args_array_assert_basic_bind_body_chain_claim_comp_cond_each_ends_expr_field_func_index_init_inside_item_link_load_local_member_name_obj_param_params_pat_rest_rhs_safe_sign_slice_spec_specs_step_value.Proof.Frame.{field_claims as K, field_at as P}
+use Rattle.grammar.specs.Productions.{Body, goto, eat, sub, ◌▸◌, rule, field, field_value, params}
 use Rattle.grammar.specs.Reading.{choose, has}
 use Rattle.leaves.specs.Lexing.{Stands}
 use Rattle.leaves.specs.Meets.{state, Seg, titled}
@@ -36,7 +36,7 @@ module _ (t : ℕ) where
   computed c = c.a.given.0.1.1.0
 
   abbrev worth : Name → ℕ → ℕ → Body
-  worth c plus method = goto (field-value (a₁ c).args.c.start c.a.given.0.0.at (computed c) plus method)
+  worth c plus method = goto (field_value (a₁ c).args.c.start c.a.given.0.0.at (computed c) plus method)
 
   named : (c : Name) → So (a₁ c) 0 0 (titled (a₁ c).args.c.start (computed c)) 1 c.a.given.0.0 c.a.given.0.1.0 c.before.before.before.before.name.new.1.0
   named c = Steps.follows c.before.before.before.before.name.ensures c.a.given.1 Steps.here
@@ -46,7 +46,7 @@ module _ (t : ℕ) where
 
   -- what `value` asks of it
   title : (c : Name) → ((a₁ c).args.c.start < 65536) × (c.a.given.0.0.at < 65536) × (computed c ≤ 4)
-  title c = let r = (a₁ c).requires.1 in ((within r).0, place r (there c), Steps.told-small c.before.before.before.before.name.ensures c.a.given.1)
+  title c = let r = (a₁ c).requires.1 in ((within r).0, place r (there c), Steps.told_small c.before.before.before.before.name.ensures c.a.given.1)
 
   -- ── `(` parameters `)` ───────────────────────────────────────────────────────────────────────────
   abbrev n₂ : lts.After-eat-any (K t) (P t) Post → Name
@@ -68,13 +68,13 @@ module _ (t : ℕ) where
 
   listed : (c : lts.After-b (K t) (P t) Post) → let n = n₂ (e₃ c) in
       So (a₁ n) 1 4 (eat 26 ▸ worth n 0 1) (1 + many c) c.b.given.0.0 c.b.given.0.1.0 c.before.before.before.before.params.new.1.0
-  listed c = Steps.took-owing (Steps.counted c.before.before.before.before.params.ensures c.b.given.1).0 refl (opened (e₃ c))
+  listed c = Steps.took_owing (Steps.counted c.before.before.before.before.params.ensures c.b.given.1).0 refl (opened (e₃ c))
 
   shut : (c : lts.After-d (K t) (P t) Post) → let b = c.before.before.before.before in let n = n₂ (e₃ b) in
       So (a₁ n) 2 4 (worth n 0 1) (many b + 1) c.d.given.0.0 c.d.given.0.1.0 b.before.before.before.before.params.new.1.0
   shut c =
       let n = many c.before.before.before.before in
-      Steps.count-is (let z : 1 + n ≡ n + 1 = omega arith in z) (Steps.ate c.before.before.eat.ensures c.d.given.1 (listed c.before.before.before.before))
+      Steps.count_is (let z : 1 + n ≡ n + 1 = omega arith in z) (Steps.ate c.before.before.eat.ensures c.d.given.1 (listed c.before.before.before.before))
 
   -- ── `+`, or neither ──────────────────────────────────────────────────────────────────────────────
   abbrev n₅ : lts.After-eat-any2 (K t) (P t) Post → Name
@@ -94,61 +94,61 @@ module _ (t : ℕ) where
   plain c = Steps.known (worth (n₆ c) 0 0) (there (n₆ c)) refl (λ xs t. simp (ne_eqb _ 25 c.before.before.if1.false, ne_eqb _ 16 c.if2.false)) (named (n₆ c))
 
   -- ── What each call asks ──────────────────────────────────────────────────────────────────────────
-  eat-any-requires : lts.Need-eat-any-requires (K t) (P t) Post
-  eat-any-requires c κs = there c.before.before.before.before
+  eat_any_requires : lts.Need-eat-any-requires (K t) (P t) Post
+  eat_any_requires c κs = there c.before.before.before.before
 
-  params-requires : lts.Need-params-requires (K t) (P t) Post
-  params-requires c κs = let p = (a₁ (n₂ c)).pre in (omega (arith, p.0), Steps.ready p.1 (lit≤ tt) (opened c))
+  params_requires : lts.Need-params-requires (K t) (P t) Post
+  params_requires c κs = let p = (a₁ (n₂ c)).pre in (omega (arith, p.0), Steps.ready p.1 (lit≤ tt) (opened c))
 
-  eat-requires : lts.Need-eat-requires (K t) (P t) Post
-  eat-requires c κs = let b = c.before in (lit< tt, (listed b).stands (a₁ (n₂ (e₃ b))).pre.1.stands)
+  eat_requires : lts.Need-eat-requires (K t) (P t) Post
+  eat_requires c κs = let b = c.before in (lit< tt, (listed b).stands (a₁ (n₂ (e₃ b))).pre.1.stands)
 
-  value-requires : lts.Need-value-requires (K t) (P t) Post
-  value-requires c κs =
+  value_requires : lts.Need-value-requires (K t) (P t) Post
+  value_requires c κs =
       let d = c.before.before in let b = d.before.before.before.before in let n = n₂ (e₃ b) in
       let p = (a₁ n).pre in
       let few = (Steps.counted b.before.before.before.before.params.ensures b.b.given.1).1 in
       let on = (d.before.before.eat.ensures.moved _ _ _ d.d.given.1).0 in
       (omega (arith, p.0), (Steps.ready p.1 (lit≤ tt) (shut d), (title n).0, (title n).1, (title n).2, omega (arith, few, on)))
 
-  eat-any-requires-2 : lts.Need-eat-any-requires-2 (K t) (P t) Post
-  eat-any-requires-2 c κs = there c.before.before.before.before.before.before
+  eat_any_requires_2 : lts.Need-eat-any-requires-2 (K t) (P t) Post
+  eat_any_requires_2 c κs = there c.before.before.before.before.before.before
 
-  value-requires-2 : lts.Need-value-requires-2 (K t) (P t) Post
-  value-requires-2 c κs = let n = n₅ c in let p = (a₁ n).pre in (omega (arith, p.0), (Steps.ready p.1 (lit≤ tt) (adds c), (title n).0, (title n).1, (title n).2, omega arith))
+  value_requires_2 : lts.Need-value-requires-2 (K t) (P t) Post
+  value_requires_2 c κs = let n = n₅ c in let p = (a₁ n).pre in (omega (arith, p.0), (Steps.ready p.1 (lit≤ tt) (adds c), (title n).0, (title n).1, (title n).2, omega arith))
 
-  value-requires-3 : lts.Need-value-requires-3 (K t) (P t) Post
-  value-requires-3 c κs =
+  value_requires_3 : lts.Need-value-requires-3 (K t) (P t) Post
+  value_requires_3 c κs =
       let n = n₆ c.before in let p = (a₁ n).pre in
       (omega (arith, p.0), (Steps.ready p.1 (lit≤ tt) (plain c.before), (title n).0, (title n).1, (title n).2, omega arith))
 
   -- ── What each return owes ────────────────────────────────────────────────────────────────────────
   returns : lts.Need-returns (K t) (P t) Post
-  returns c = Steps.as-sub (Steps.passed (Steps.tells-broken c.before.before.before.before.name.ensures c.before.match.keys2) Steps.here)
+  returns c = Steps.as_sub (Steps.passed (Steps.tells_broken c.before.before.before.before.name.ensures c.before.match.keys2) Steps.here)
 
-  returns-2 : lts.Need-returns-2 (K t) (P t) Post
-  returns-2 c = let x = c.before.before.before.before in Steps.as-sub (Steps.passed (Steps.counts-broken x.params.ensures c.before.match2.keys2) (opened x.before))
+  returns_2 : lts.Need-returns-2 (K t) (P t) Post
+  returns_2 c = let x = c.before.before.before.before in Steps.as_sub (Steps.passed (Steps.counts_broken x.params.ensures c.before.match2.keys2) (opened x.before))
 
-  same-length-3 : lts.Need-same-length-3 (K t) (P t) Post
-  same-length-3 c = Steps.same (listed c.before.before.before.before)
+  same_length_3 : lts.Need-same-length-3 (K t) (P t) Post
+  same_length_3 c = Steps.same (listed c.before.before.before.before)
 
-  returns-3 : lts.Need-returns-3 (K t) (P t) Post
-  returns-3 c = let x = c.before.before in Steps.as-sub (Steps.passed (Steps.eats-broken x.eat.ensures c.before.match3.keys2) (listed x.before.before))
+  returns_3 : lts.Need-returns-3 (K t) (P t) Post
+  returns_3 c = let x = c.before.before in Steps.as_sub (Steps.passed (Steps.eats_broken x.eat.ensures c.before.match3.keys2) (listed x.before.before))
 
-  same-length-4 : lts.Need-same-length-4 (K t) (P t) Post
-  same-length-4 c = omega (arith, Steps.same (shut c.before.before.before.before.before), c.before.out3.given)
+  same_length_4 : lts.Need-same-length-4 (K t) (P t) Post
+  same_length_4 c = omega (arith, Steps.same (shut c.before.before.before.before.before), c.before.out3.given)
 
-  returns-4 : lts.Need-returns-4 (K t) (P t) Post
-  returns-4 c = Steps.as-sub (Steps.tail (lit≤ tt) c.before.before.value.ensures (shut c.before.before.before.before.before))
+  returns_4 : lts.Need-returns-4 (K t) (P t) Post
+  returns_4 c = Steps.as_sub (Steps.tail (lit≤ tt) c.before.before.value.ensures (shut c.before.before.before.before.before))
 
-  returns-5 : lts.Need-returns-5 (K t) (P t) Post
-  returns-5 c = Steps.as-sub (Steps.tail (lit≤ tt) c.before.before.value2.ensures (adds c.before.before.before))
+  returns_5 : lts.Need-returns-5 (K t) (P t) Post
+  returns_5 c = Steps.as_sub (Steps.tail (lit≤ tt) c.before.before.value2.ensures (adds c.before.before.before))
 
-  returns-6 : lts.Need-returns-6 (K t) (P t) Post
-  returns-6 c = Steps.as-sub (Steps.tail (lit≤ tt) c.before.before.value3.ensures (plain c.before.before.before.before))
+  returns_6 : lts.Need-returns-6 (K t) (P t) Post
+  returns_6 c = Steps.as_sub (Steps.tail (lit≤ tt) c.before.before.value3.ensures (plain c.before.before.before.before))
 
   -- All of them, in the order of the code.
   pub met : {M : Type 1} → lts.Closed (K t) (P t) Post M
-  met = lts.spec (K t) (P t) Post (λ c κs. search rules) (λ c. search rules) (λ c. search rules) (λ c. search rules) returns eat-any-requires params-requires (λ c. search rules)
-      (λ c. search rules) (λ c. search rules) returns-2 eat-requires (λ c. search rules) (λ c. search rules) same-length-3 returns-3 value-requires same-length-4 returns-4 eat-any-requires-2
-      value-requires-2 (λ c. search rules) returns-5 value-requires-3 (λ c. search rules) returns-6
+  met = lts.spec (K t) (P t) Post (λ c κs. search rules) (λ c. search rules) (λ c. search rules) (λ c. search rules) returns eat_any_requires params_requires (λ c. search rules)
+      (λ c. search rules) (λ c. search rules) returns_2 eat_requires (λ c. search rules) (λ c. search rules) same_length_3 returns_3 value_requires same_length_4 returns_4 eat_any_requires_2
+      value_requires_2 (λ c. search rules) returns_5 value_requires_3 (λ c. search rules) returns_6

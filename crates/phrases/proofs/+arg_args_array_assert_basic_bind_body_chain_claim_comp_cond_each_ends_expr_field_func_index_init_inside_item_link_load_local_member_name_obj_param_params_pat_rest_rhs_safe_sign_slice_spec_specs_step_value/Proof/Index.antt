@@ -9,10 +9,10 @@ use borrow.Author.Tests.{ne_eqb}
 use Rattle.leaves.proofs.Steps
 use Rattle.phrases.proofs.index.Reads.{Post}
 use Rattle.phrases.proofs.+arg_args_array_assert_basic_bind_body_chain_claim_comp_cond_each_ends_expr_field_func_index_init_inside_item_link_load_local_member_name_obj_param_params_pat_rest_rhs_safe_sign_slice_spec_specs_step_value.Lts-index as lts
-use Rattle.phrases.proofs.+arg_args_array_assert_basic_bind_body_chain_claim_comp_cond_each_ends_expr_field_func_index_init_inside_item_link_load_local_member_name_obj_param_params_pat_rest_rhs_safe_sign_slice_spec_specs_step_value.Proof.Frame.{index-claims as K, index_at as P}
+use Rattle.phrases.proofs.+arg_args_array_assert_basic_bind_body_chain_claim_comp_cond_each_ends_expr_field_func_index_init_inside_item_link_load_local_member_name_obj_param_params_pat_rest_rhs_safe_sign_slice_spec_specs_step_value.Proof.Frame.{index_claims as K, index_at as P}
 use Rattle.grammar.specs.Image.{entry, payload}
 use Rattle.grammar.specs.Trees.{byte, span}
-use Rattle.grammar.specs.Productions.{Body, goto, eat, close, ◌▸◌, rule, expression, suffix, bracket, index-or-slice, slice-end}
+use Rattle.grammar.specs.Productions.{Body, goto, eat, close, ◌▸◌, rule, expression, suffix, bracket, index_or_slice, slice_end}
 use Rattle.grammar.specs.Reading.{choose, has}
 use Rattle.leaves.specs.Lexing.{Stands}
 use Rattle.leaves.specs.Meets.{state, Seg}
@@ -28,17 +28,17 @@ module _ (t : ℕ) where
 
   -- what comes after the first expression
   abbrev tail : lts.Start (K t) (P t) Post → Body
-  tail a = goto (index-or-slice a.args.first a.args.c.start)
+  tail a = goto (index_or_slice a.args.first a.args.c.start)
 
   -- ── `:` ──────────────────────────────────────────────────────────────────────────────────────────
   abbrev a₁ : lts.After-eat-any (K t) (P t) Post → lts.Start (K t) (P t) Post
   a₁ c = c.before.before.before.before.before.before
 
-  bare : (c : lts.After-eat-any (K t) (P t) Post) → let a = a₁ c in So a 1 (goto (slice-end 0 0 0)) 1 c.eat-any.result a.args.w a.args.out.now
+  bare : (c : lts.After-eat-any (K t) (P t) Post) → let a = a₁ c in So a 1 (goto (slice_end 0 0 0)) 1 c.eat-any.result a.args.w a.args.out.now
   unfolding rule choose has sight
   bare c =
       let st = (a₁ c).requires.1.0.stands in let is = c.before.before.if1.true in
-      Steps.taken (lit< tt) st c.eat-any.ensures is (Steps.known (eat 29 ▸ goto (slice-end 0 0 0)) st is (λ xs t. refl) Steps.here)
+      Steps.taken (lit< tt) st c.eat-any.ensures is (Steps.known (eat 29 ▸ goto (slice_end 0 0 0)) st is (λ xs t. refl) Steps.here)
 
   -- ── e ────────────────────────────────────────────────────────────────────────────────────────────
   opened : (c : lts.Else1 (K t) (P t) Post) → let a = c.before.before.before.before in So a 0 (expression ▸ tail a) 1 a.args.c a.args.w a.args.out.now
@@ -59,12 +59,12 @@ module _ (t : ℕ) where
   c₄ c = c.before.before.before.before.before
 
   colon : (c : lts.After-eat-any2 (K t) (P t) Post) → let v = c₄ c in
-      So (a₃ v) 1 (goto (slice-end 1 (a₃ v).args.c.start v.a.given.0.0.at)) 2 c.eat-any2.result v.a.given.0.1.0 v.before.before.before.before.expr.last.1.0
+      So (a₃ v) 1 (goto (slice_end 1 (a₃ v).args.c.start v.a.given.0.0.at)) 2 c.eat-any2.result v.a.given.0.1.0 v.before.before.before.before.expr.last.1.0
   unfolding rule choose has sight
   colon c =
       let v = c₄ c in let is = c.before.before.if2.true in
       Steps.taken (lit< tt) (there v) c.eat-any2.ensures is
-      (Steps.known (eat 29 ▸ goto (slice-end 1 (a₃ v).args.c.start v.a.given.0.0.at)) (there v) is (λ xs t. refl) (read v))
+      (Steps.known (eat 29 ▸ goto (slice_end 1 (a₃ v).args.c.start v.a.given.0.0.at)) (there v) is (λ xs t. refl) (read v))
 
   -- ── e `]` ────────────────────────────────────────────────────────────────────────────────────────
   -- the record
@@ -83,44 +83,44 @@ module _ (t : ℕ) where
   over c = Steps.ate c.before.before.eat.ensures c.b.given.1 (closing c.before.before.before)
 
   -- ── What each call asks ──────────────────────────────────────────────────────────────────────────
-  slice-requires : lts.Need-slice-requires (K t) (P t) Post
-  slice-requires c κs = let p = (a₁ c).requires in (omega (arith, p.0), (Steps.ready p.1.0 (lit≤ tt) (bare c), lit≤ tt, lit< tt, lit< tt))
+  slice_requires : lts.Need-slice-requires (K t) (P t) Post
+  slice_requires c κs = let p = (a₁ c).requires in (omega (arith, p.0), (Steps.ready p.1.0 (lit≤ tt) (bare c), lit≤ tt, lit< tt, lit< tt))
 
-  eat-any-requires-2 : lts.Need-eat-any-requires-2 (K t) (P t) Post
-  eat-any-requires-2 c κs = there c.before.before.before.before
+  eat_any_requires_2 : lts.Need-eat-any-requires-2 (K t) (P t) Post
+  eat_any_requires_2 c κs = there c.before.before.before.before
 
-  slice-requires-2 : lts.Need-slice-requires-2 (K t) (P t) Post
-  slice-requires-2 c κs =
+  slice_requires_2 : lts.Need-slice-requires-2 (K t) (P t) Post
+  slice_requires_2 c κs =
       let p = (a₃ (c₄ c)).pre in let r = p.1.0 in
       (omega (arith, p.0), (Steps.ready r (lit≤ tt) (colon c), lit≤ tt, (within r).0, omega (arith, (there (c₄ c)).within, r.stands.short)))
 
-  eat-requires : lts.Need-eat-requires (K t) (P t) Post
-  eat-requires c κs = (lit< tt, there c.before.before.before)
+  eat_requires : lts.Need-eat-requires (K t) (P t) Post
+  eat_requires c κs = (lit< tt, there c.before.before.before)
 
-  put-index-requires : lts.Need-put-index-requires (K t) (P t) Post
-  put-index-requires c κs =
+  put_index_requires : lts.Need-put-index-requires (K t) (P t) Post
+  put_index_requires c κs =
       let v = c₆ c.before.before in let p = (a₃ v).pre.1 in
       (Steps.fits p.0 (lit≤ tt) (over c.before.before), (within p.0).0, omega (arith, (there v).within, p.0.stands.short), p.1)
 
   -- ── What each return owes ────────────────────────────────────────────────────────────────────────
   returns : lts.Need-returns (K t) (P t) Post
-  returns c = let x = c.before.before in Steps.tail-telling (lit≤ tt) (x.slice.ensures.tells 1) (bare x.before)
+  returns c = let x = c.before.before in Steps.tail_telling (lit≤ tt) (x.slice.ensures.tells 1) (bare x.before)
 
-  returns-2 : lts.Need-returns-2 (K t) (P t) Post
-  returns-2 c = let x = c.before.before.before.before in Steps.passed-telling (Steps.takes-broken x.expr.ensures c.before.match.keys2) (opened x.before.before)
+  returns_2 : lts.Need-returns-2 (K t) (P t) Post
+  returns_2 c = let x = c.before.before.before.before in Steps.passed_telling (Steps.takes_broken x.expr.ensures c.before.match.keys2) (opened x.before.before)
 
-  returns-3 : lts.Need-returns-3 (K t) (P t) Post
-  returns-3 c = let x = c.before.before in Steps.tail-telling (lit≤ tt) (x.slice2.ensures.tells 2) (colon x.before)
+  returns_3 : lts.Need-returns-3 (K t) (P t) Post
+  returns_3 c = let x = c.before.before in Steps.tail_telling (lit≤ tt) (x.slice2.ensures.tells 2) (colon x.before)
 
-  returns-4 : lts.Need-returns-4 (K t) (P t) Post
-  returns-4 c = let x = c.before.before in Steps.passed-telling (Steps.eats-broken x.eat.ensures c.before.match2.keys2) (closing x.before)
+  returns_4 : lts.Need-returns-4 (K t) (P t) Post
+  returns_4 c = let x = c.before.before in Steps.passed_telling (Steps.eats_broken x.eat.ensures c.before.match2.keys2) (closing x.before)
 
-  returns-5 : lts.Need-returns-5 (K t) (P t) Post
+  returns_5 : lts.Need-returns-5 (K t) (P t) Post
   unfolding entry payload
-  returns-5 c = let x = c.before.before in Steps.says_on (lit≤ tt) (lit≤ tt) (Steps.closed 9 (lit≤ tt) x.put-index.ensures (over x.before.before.before))
+  returns_5 c = let x = c.before.before in Steps.says_on (lit≤ tt) (lit≤ tt) (Steps.closed 9 (lit≤ tt) x.put-index.ensures (over x.before.before.before))
 
   -- All of them, in the order of the code.
   pub met : {M : Type 1} → lts.Closed (K t) (P t) Post M
-  met = lts.spec (K t) (P t) Post (λ c κs. search rules) slice-requires (λ c. search rules) returns (λ c κs. search rules) (λ c. search rules) (λ c. search rules) (λ c. search rules) returns-2
-      eat-any-requires-2 slice-requires-2 (λ c. search rules) returns-3 eat-requires (λ c. search rules) (λ c. search rules) (λ c. search rules) returns-4 put-index-requires (λ c. search rules)
-      returns-5
+  met = lts.spec (K t) (P t) Post (λ c κs. search rules) slice_requires (λ c. search rules) returns (λ c κs. search rules) (λ c. search rules) (λ c. search rules) (λ c. search rules) returns_2
+      eat_any_requires_2 slice_requires_2 (λ c. search rules) returns_3 eat_requires (λ c. search rules) (λ c. search rules) (λ c. search rules) returns_4 put_index_requires (λ c. search rules)
+      returns_5

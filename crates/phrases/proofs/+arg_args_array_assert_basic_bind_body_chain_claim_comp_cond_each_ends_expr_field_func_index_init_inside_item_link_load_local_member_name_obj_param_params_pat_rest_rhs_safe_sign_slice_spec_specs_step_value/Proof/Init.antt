@@ -9,15 +9,15 @@ use Prim.Native.Nat.{ℕ, ◌+◌, ◌-◌}
 use Rattle.leaves.proofs.Steps
 use Rattle.phrases.proofs.init.Reads.{Post}
 use Rattle.phrases.proofs.+arg_args_array_assert_basic_bind_body_chain_claim_comp_cond_each_ends_expr_field_func_index_init_inside_item_link_load_local_member_name_obj_param_params_pat_rest_rhs_safe_sign_slice_spec_specs_step_value.Lts-init as lts
-use Rattle.phrases.proofs.+arg_args_array_assert_basic_bind_body_chain_claim_comp_cond_each_ends_expr_field_func_index_init_inside_item_link_load_local_member_name_obj_param_params_pat_rest_rhs_safe_sign_slice_spec_specs_step_value.Proof.Frame.{init-claims as K, init-at as P}
+use Rattle.phrases.proofs.+arg_args_array_assert_basic_bind_body_chain_claim_comp_cond_each_ends_expr_field_func_index_init_inside_item_link_load_local_member_name_obj_param_params_pat_rest_rhs_safe_sign_slice_spec_specs_step_value.Proof.Frame.{init_claims as K, init_at as P}
 use Rattle.grammar.specs.Image.{entry, payload}
 use Rattle.grammar.specs.Trees.{Field, byte, span, text}
-use Rattle.grammar.specs.Productions.{Body, goto, end, eat, close, ◌▸◌, expression, pattern-default, default-value, default-end}
+use Rattle.grammar.specs.Productions.{Body, goto, end, eat, close, ◌▸◌, expression, pattern_default, default_value, default_end}
 use Rattle.leaves.specs.Meets.{state, Seg}
 use Rattle.leaves.specs.declared.Cursor.{Cursor}
 use Rattle.leaves.proofs.LeafLaws.{fits, within}
-use Rattle.leaves.proofs.PartLaws.{lent-short, wrote-lent}
-use Rattle.phrases.proofs.PatternLaws.{default-some, default_none, default-is, default-ends}
+use Rattle.leaves.proofs.PartLaws.{lent_short, wrote_lent}
+use Rattle.phrases.proofs.PatternLaws.{default_some, default_none, default_is, default_ends}
 
 module _ (t : ℕ) where
   -- the field's name
@@ -28,11 +28,11 @@ module _ (t : ℕ) where
   abbrev So : lts.Start (K t) (P t) Post → ℕ → Body → ℕ → Cursor → ℕ → List ℕ → Type 0
   So a e b n c w o =
       let i = a.args.into in
-      Seg a.args.set a.args.src.now a.args.left (state (goto (pattern-default i (word a))) i a.args.c a.args.w a.args.out.now) e 0 (state b n c w o)
+      Seg a.args.set a.args.src.now a.args.left (state (goto (pattern_default i (word a))) i a.args.c a.args.w a.args.out.now) e 0 (state b n c w o)
 
   -- what comes after the default, which starts at f
   abbrev tail : lts.Start (K t) (P t) Post → ℕ → Body
-  tail a f = goto (default-end a.args.into (word a) f)
+  tail a f = goto (default_end a.args.into (word a) f)
 
   -- what is written: whether there is a default, and where
   abbrev fields : lts.Start (K t) (P t) Post → ℕ → ℕ → ℕ → List ℕ → List Field
@@ -46,9 +46,9 @@ module _ (t : ℕ) where
       So a 1 (expression ▸ tail a c.eat-any.result.start) a.args.into c.eat-any.result a.args.w a.args.out.now
   opened c =
       let a = a₁ c in let i = a.args.into in let st = a.pre.1.0.stands in let is = c.before.if1.false in
-      Steps.known (expression ▸ tail a c.eat-any.result.start) c.eat-any.ensures.stands refl (λ xs t. default-is a.args.set _ xs _ i (word a) _ t)
+      Steps.known (expression ▸ tail a c.eat-any.result.start) c.eat-any.ensures.stands refl (λ xs t. default_is a.args.set _ xs _ i (word a) _ t)
       (Steps.taken (lit< tt) st c.eat-any.ensures is
-      (Steps.known (eat 35 ▸ goto (default-value i (word a))) st is (λ xs t. default-some a.args.set _ xs _ i (word a) t) Steps.here))
+      (Steps.known (eat 35 ▸ goto (default_value i (word a))) st is (λ xs t. default_some a.args.set _ xs _ i (word a) t) Steps.here))
 
   abbrev c₁ : lts.After-a (K t) (P t) Post → lts.After-eat-any (K t) (P t) Post
   c₁ c = c.before.before.before.before.before.before
@@ -58,13 +58,13 @@ module _ (t : ℕ) where
   value c = Steps.took c.before.before.before.before.expr.ensures c.a.given.1 (opened (c₁ c))
 
   -- ── What each call asks ──────────────────────────────────────────────────────────────────────────
-  expr-requires : lts.Need-expr-requires (K t) (P t) Post
-  expr-requires c κs = let p = (a₁ c.before).pre in (omega (arith, p.0), Steps.ready p.1.0 (lit≤ tt) (opened c.before))
+  expr_requires : lts.Need-expr-requires (K t) (P t) Post
+  expr_requires c κs = let p = (a₁ c.before).pre in (omega (arith, p.0), Steps.ready p.1.0 (lit≤ tt) (opened c.before))
 
-  put-pattern-field-requires-2 : lts.Need-put-pattern-field-requires-2 (K t) (P t) Post
-  put-pattern-field-requires-2 c κs =
+  put_pattern_field_requires_2 : lts.Need-put-pattern-field-requires-2 (K t) (P t) Post
+  put_pattern_field_requires_2 c κs =
       let v = c.before.before.before in let a = a₁ (c₁ v) in let r = a.pre.1.0 in
-      let short = lent-short a.args.src.now a.args.name.start a.args.name.end r.stands.short a.pre.1.2 in
+      let short = lent_short a.args.src.now a.args.name.start a.args.name.end r.stands.short a.pre.1.2 in
       let from = (within (Steps.ready r (lit≤ tt) (opened (c₁ v)))).0 in
       (Steps.fits r (lit≤ tt) (value v), from, omega (arith, ((value v).stands r.stands).within, r.stands.short), omega (arith, short))
 
@@ -74,26 +74,26 @@ module _ (t : ℕ) where
   returns c =
       let a = c.before.before.before.before.before.before.before.before.before in let name = a.args.name in
       let size = length-slice name.start name.end a.args.src.now a.requires.1.2 in
-      let wrote = wrote-lent 29 (λ (l : List ℕ). fields a 0 0 0 l) a.args.src.now name.start name.end c.before.before.put-pattern-field.ensures in
+      let wrote = wrote_lent 29 (λ (l : List ℕ). fields a 0 0 0 l) a.args.src.now name.start name.end c.before.before.put-pattern-field.ensures in
       Steps.owes (omega arith) (Steps.closed (9 + (name.end - name.start)) (omega (arith, size)) wrote
       (Steps.known (close 29 (fields a 0 0 0 (word a)) ▸ end) a.requires.1.0.stands refl
       (λ xs t. default_none a.args.set _ xs _ a.args.into (word a) _ t c.before.before.before.before.before.if1.true) Steps.here))
 
-  returns-2 : lts.Need-returns-2 (K t) (P t) Post
-  returns-2 c = let x = c.before.before.before.before in Steps.passed (Steps.takes-broken x.expr.ensures c.before.match.keys2) (opened x.before.before)
+  returns_2 : lts.Need-returns-2 (K t) (P t) Post
+  returns_2 c = let x = c.before.before.before.before in Steps.passed (Steps.takes_broken x.expr.ensures c.before.match.keys2) (opened x.before.before)
 
-  returns-3 : lts.Need-returns-3 (K t) (P t) Post
+  returns_3 : lts.Need-returns-3 (K t) (P t) Post
   unfolding entry payload
-  returns-3 c =
+  returns_3 c =
       let v = c.before.before.before.before.before.before in let a = a₁ (c₁ v) in let name = a.args.name in
       let f = (c₁ v).eat-any.result.start in let e = v.a.given.0.0.at in
       let size = length-slice name.start name.end a.args.src.now a.pre.1.2 in
-      let wrote = wrote-lent 29 (λ (l : List ℕ). fields a 1 f e l) a.args.src.now name.start name.end c.before.before.put-pattern-field2.ensures in
+      let wrote = wrote_lent 29 (λ (l : List ℕ). fields a 1 f e l) a.args.src.now name.start name.end c.before.before.put-pattern-field2.ensures in
       let st = (value v).stands a.pre.1.0.stands in
       Steps.owes (omega arith) (Steps.closed (9 + (name.end - name.start)) (omega (arith, size)) wrote
-      (Steps.known (close 29 (fields a 1 f e (word a)) ▸ end) st refl (λ xs t. default-ends a.args.set _ xs _ a.args.into (word a) _ _ t) (value v)))
+      (Steps.known (close 29 (fields a 1 f e (word a)) ▸ end) st refl (λ xs t. default_ends a.args.set _ xs _ a.args.into (word a) _ _ t) (value v)))
 
   -- All of them, in the order of the code.
   pub met : {M : Type 1} → lts.Closed (K t) (P t) Post M
-  met = lts.spec (K t) (P t) Post (λ c. search rules) (λ c. search rules) (λ c. search rules) (λ c. search rules) (λ c. search rules) (λ c κs. search rules) (λ c. search rules) returns (λ c κs. search rules) expr-requires
-      (λ c. search rules) (λ c. search rules) (λ c. search rules) returns-2 (λ c. search rules) (λ c. search rules) (λ c. search rules) (λ c. search rules) (λ c. search rules) put-pattern-field-requires-2 (λ c. search rules) returns-3
+  met = lts.spec (K t) (P t) Post (λ c. search rules) (λ c. search rules) (λ c. search rules) (λ c. search rules) (λ c. search rules) (λ c κs. search rules) (λ c. search rules) returns (λ c κs. search rules) expr_requires
+      (λ c. search rules) (λ c. search rules) (λ c. search rules) returns_2 (λ c. search rules) (λ c. search rules) (λ c. search rules) (λ c. search rules) (λ c. search rules) put_pattern_field_requires_2 (λ c. search rules) returns_3

@@ -7,13 +7,13 @@ use Prim.Native.Nat.{ℕ}
 use Rattle.leaves.proofs.Steps
 use Rattle.phrases.proofs.link.Reads.{Post}
 use Rattle.phrases.proofs.+arg_args_array_assert_basic_bind_body_chain_claim_comp_cond_each_ends_expr_field_func_index_init_inside_item_link_load_local_member_name_obj_param_params_pat_rest_rhs_safe_sign_slice_spec_specs_step_value.Lts-link as lts
-use Rattle.phrases.proofs.+arg_args_array_assert_basic_bind_body_chain_claim_comp_cond_each_ends_expr_field_func_index_init_inside_item_link_load_local_member_name_obj_param_params_pat_rest_rhs_safe_sign_slice_spec_specs_step_value.Proof.Frame.{link-claims as K, link_at as P}
+use Rattle.phrases.proofs.+arg_args_array_assert_basic_bind_body_chain_claim_comp_cond_each_ends_expr_field_func_index_init_inside_item_link_load_local_member_name_obj_param_params_pat_rest_rhs_safe_sign_slice_spec_specs_step_value.Proof.Frame.{link_claims as K, link_at as P}
 use Rattle.grammar.specs.Image.{entry, payload}
-use Rattle.grammar.specs.Productions.{Body, goto, eat, sub, close, ◌▸◌, inside, suffix, member-name, bracket, arguments}
+use Rattle.grammar.specs.Productions.{Body, goto, eat, sub, close, ◌▸◌, inside, suffix, member_name, bracket, arguments}
 use Rattle.leaves.specs.Meets.{state, Seg, safely}
 use Rattle.leaves.specs.declared.Cursor.{Cursor}
 use Rattle.leaves.proofs.LeafLaws.{within}
-use Rattle.phrases.proofs.SuffixLaws.{at-question, at-brace, past-question, past-dot, past-bracket, past-paren, past-brace, tail-on, passed_on, told-on}
+use Rattle.phrases.proofs.SuffixLaws.{at_question, at_brace, past-question, past_dot, past_bracket, past_paren, past_brace, tail_on, passed_on, told_on}
 
 module _ (t : ℕ) where
   abbrev Past : Type 0
@@ -34,21 +34,21 @@ module _ (t : ℕ) where
   On p b = So p 1 0 b 1 p.eat-any.result (a₁ p).args.w (a₁ p).args.out.now
 
   questioned : (c : lts.At-match-keys1 (K t) (P t) Post) → On c.before (safely (a₁ c.before).args.first)
-  questioned c = let p = (a₁ c.before).pre.1 in past-question p.0.stands c.before.eat-any.ensures (at-question p.1 c.match.keys1) c.match.keys1 Steps.here
+  questioned c = let p = (a₁ c.before).pre.1 in past-question p.0.stands c.before.eat-any.ensures (at_question p.1 c.match.keys1) c.match.keys1 Steps.here
 
-  dotted : (c : lts.At-match-keys2 (K t) (P t) Post) → On c.before (goto (member-name (a₁ c.before).args.first 0))
-  dotted c = past-dot (a₁ c.before).pre.1.0.stands c.before.eat-any.ensures c.match.keys2 Steps.here
+  dotted : (c : lts.At-match-keys2 (K t) (P t) Post) → On c.before (goto (member_name (a₁ c.before).args.first 0))
+  dotted c = past_dot (a₁ c.before).pre.1.0.stands c.before.eat-any.ensures c.match.keys2 Steps.here
 
   bracketed : (c : lts.At-match-keys3 (K t) (P t) Post) → On c.before (goto (bracket (a₁ c.before).args.first))
-  bracketed c = past-bracket (a₁ c.before).pre.1.0.stands c.before.eat-any.ensures c.match.keys3 Steps.here
+  bracketed c = past_bracket (a₁ c.before).pre.1.0.stands c.before.eat-any.ensures c.match.keys3 Steps.here
 
   called : (c : lts.At-match-keys4 (K t) (P t) Post) → On c.before (goto (arguments (a₁ c.before).args.c.start 0 0))
-  called c = past-paren (a₁ c.before).pre.1.0.stands c.before.eat-any.ensures c.match.keys4 Steps.here
+  called c = past_paren (a₁ c.before).pre.1.0.stands c.before.eat-any.ensures c.match.keys4 Steps.here
 
   braced : (c : lts.At-match-rest (K t) (P t) Post) → On c.before (sub inside ▸ eat 28 ▸ close 11 [] ▸ goto (suffix 1))
   braced c =
       let p = (a₁ c.before).pre.1 in let r = c.match.rest in
-      past-brace p.0.stands c.before.eat-any.ensures (at-brace p.1 r.0.0.0.1 r.0.0.1 r.0.1 r.1) Steps.here
+      past_brace p.0.stands c.before.eat-any.ensures (at_brace p.1 r.0.0.0.1 r.0.0.1 r.0.1 r.1) Steps.here
 
   -- ── `{` members `}` ──────────────────────────────────────────────────────────────────────────────
   abbrev r₂ : lts.After-a (K t) (P t) Post → lts.At-match-rest (K t) (P t) Post
@@ -56,61 +56,61 @@ module _ (t : ℕ) where
 
   object : (c : lts.After-a (K t) (P t) Post) →
       So (r₂ c).before 1 7 (eat 28 ▸ close 11 [] ▸ goto (suffix 1)) 2 c.a.given.0.0 c.a.given.0.1.0 c.before.before.before.before.inside.new.1.0
-  object c = Steps.took-owing c.before.before.before.before.inside.ensures c.a.given.1 (braced (r₂ c))
+  object c = Steps.took_owing c.before.before.before.before.inside.ensures c.a.given.1 (braced (r₂ c))
 
   over : (c : lts.After-b (K t) (P t) Post) → let a = c.before.before.before.before in
       So (r₂ a).before 2 7 (close 11 [] ▸ goto (suffix 1)) 2 c.b.given.0.0 c.b.given.0.1.0 a.before.before.before.before.inside.new.1.0
   over c = Steps.ate c.before.before.eat.ensures c.b.given.1 (object c.before.before.before.before)
 
   -- ── What each call asks ──────────────────────────────────────────────────────────────────────────
-  safe-requires : lts.Need-safe-requires (K t) (P t) Post
-  safe-requires c κs = let p = (a₁ c.before.before).pre in (omega (arith, p.0), (Steps.ready p.1.0 (lit≤ tt) (questioned c.before), p.1.2))
+  safe_requires : lts.Need-safe-requires (K t) (P t) Post
+  safe_requires c κs = let p = (a₁ c.before.before).pre in (omega (arith, p.0), (Steps.ready p.1.0 (lit≤ tt) (questioned c.before), p.1.2))
 
-  member-name-requires : lts.Need-member-name-requires (K t) (P t) Post
-  member-name-requires c κs = let p = (a₁ c.before.before).pre in (Steps.ready p.1.0 (lit≤ tt) (dotted c.before), p.1.2)
+  member_name_requires : lts.Need-member-name-requires (K t) (P t) Post
+  member_name_requires c κs = let p = (a₁ c.before.before).pre in (Steps.ready p.1.0 (lit≤ tt) (dotted c.before), p.1.2)
 
-  index-requires : lts.Need-index-requires (K t) (P t) Post
-  index-requires c κs = let p = (a₁ c.before.before).pre in (omega (arith, p.0), (Steps.ready p.1.0 (lit≤ tt) (bracketed c.before), p.1.2))
+  index_requires : lts.Need-index-requires (K t) (P t) Post
+  index_requires c κs = let p = (a₁ c.before.before).pre in (omega (arith, p.0), (Steps.ready p.1.0 (lit≤ tt) (bracketed c.before), p.1.2))
 
-  args-requires : lts.Need-args-requires (K t) (P t) Post
-  args-requires c κs = let p = (a₁ c.before.before).pre in (omega (arith, p.0), (Steps.ready p.1.0 (lit≤ tt) (called c.before), (within p.1.0).0))
+  args_requires : lts.Need-args-requires (K t) (P t) Post
+  args_requires c κs = let p = (a₁ c.before.before).pre in (omega (arith, p.0), (Steps.ready p.1.0 (lit≤ tt) (called c.before), (within p.1.0).0))
 
-  inside-requires : lts.Need-inside-requires (K t) (P t) Post
-  inside-requires c κs = let p = (a₁ c.before.before).pre in (omega (arith, p.0), Steps.ready p.1.0 (lit≤ tt) (braced c.before))
+  inside_requires : lts.Need-inside-requires (K t) (P t) Post
+  inside_requires c κs = let p = (a₁ c.before.before).pre in (omega (arith, p.0), Steps.ready p.1.0 (lit≤ tt) (braced c.before))
 
-  eat-requires : lts.Need-eat-requires (K t) (P t) Post
-  eat-requires c κs = (lit< tt, (object c.before).stands (a₁ (r₂ c.before).before).pre.1.0.stands)
+  eat_requires : lts.Need-eat-requires (K t) (P t) Post
+  eat_requires c κs = (lit< tt, (object c.before).stands (a₁ (r₂ c.before).before).pre.1.0.stands)
 
-  put-none-requires : lts.Need-put-none-requires (K t) (P t) Post
-  put-none-requires c κs = Steps.fits (a₁ (r₂ c.before.before.before.before.before.before).before).pre.1.0 (lit≤ tt) (over c.before.before)
+  put_none_requires : lts.Need-put-none-requires (K t) (P t) Post
+  put_none_requires c κs = Steps.fits (a₁ (r₂ c.before.before.before.before.before.before).before).pre.1.0 (lit≤ tt) (over c.before.before)
 
   -- ── What each return owes ────────────────────────────────────────────────────────────────────────
   returns : lts.Need-returns (K t) (P t) Post
-  returns c = let x = c.before.before.before.before in passed_on (Steps.takes-broken x.inside.ensures c.before.match2.keys2) (braced x.before.before)
+  returns c = let x = c.before.before.before.before in passed_on (Steps.takes_broken x.inside.ensures c.before.match2.keys2) (braced x.before.before)
 
-  returns-2 : lts.Need-returns-2 (K t) (P t) Post
-  returns-2 c = let x = c.before.before in passed_on (Steps.eats-broken x.eat.ensures c.before.match3.keys2) (object x.before.before)
+  returns_2 : lts.Need-returns-2 (K t) (P t) Post
+  returns_2 c = let x = c.before.before in passed_on (Steps.eats_broken x.eat.ensures c.before.match3.keys2) (object x.before.before)
 
-  returns-3 : lts.Need-returns-3 (K t) (P t) Post
-  returns-3 c = tail-on (lit≤ tt) (lit≤ tt) c.before.before.safe.ensures (questioned c.before.before.before.before)
+  returns_3 : lts.Need-returns-3 (K t) (P t) Post
+  returns_3 c = tail_on (lit≤ tt) (lit≤ tt) c.before.before.safe.ensures (questioned c.before.before.before.before)
 
-  returns-4 : lts.Need-returns-4 (K t) (P t) Post
-  returns-4 c =
+  returns_4 : lts.Need-returns-4 (K t) (P t) Post
+  returns_4 c =
       let m = c.before.before.before.before in let a = (a₁ m.before).args in
-      tail-on (lit≤ tt) (lit≤ tt) (c.before.before.member-name.ensures.tells a.set a.left) (dotted m)
+      tail_on (lit≤ tt) (lit≤ tt) (c.before.before.member_name.ensures.tells a.set a.left) (dotted m)
 
-  returns-5 : lts.Need-returns-5 (K t) (P t) Post
-  returns-5 c = tail-on (lit≤ tt) (lit≤ tt) c.before.before.index.ensures (bracketed c.before.before.before.before)
+  returns_5 : lts.Need-returns-5 (K t) (P t) Post
+  returns_5 c = tail_on (lit≤ tt) (lit≤ tt) c.before.before.index.ensures (bracketed c.before.before.before.before)
 
-  returns-6 : lts.Need-returns-6 (K t) (P t) Post
-  returns-6 c = tail-on (lit≤ tt) (lit≤ tt) c.before.before.args2.ensures (called c.before.before.before.before)
+  returns_6 : lts.Need-returns-6 (K t) (P t) Post
+  returns_6 c = tail_on (lit≤ tt) (lit≤ tt) c.before.before.args2.ensures (called c.before.before.before.before)
 
-  returns-7 : lts.Need-returns-7 (K t) (P t) Post
+  returns_7 : lts.Need-returns-7 (K t) (P t) Post
   unfolding entry payload
-  returns-7 c = let x = c.before.before in told-on (lit≤ tt) (lit≤ tt) (lit≤ tt) (Steps.closed 3 (lit≤ tt) x.put-none.ensures (over x.before.before.before))
+  returns_7 c = let x = c.before.before in told_on (lit≤ tt) (lit≤ tt) (lit≤ tt) (Steps.closed 3 (lit≤ tt) x.put-none.ensures (over x.before.before.before))
 
   -- All of them, in the order of the code.
   pub met : {M : Type 1} → lts.Closed (K t) (P t) Post M
-  met = lts.spec (K t) (P t) Post (λ c κs. search rules) safe-requires member-name-requires index-requires args-requires inside-requires (λ c. search rules) (λ c. search rules) (λ c. search rules)
-      returns eat-requires (λ c. search rules) (λ c. search rules) (λ c. search rules) returns-2 put-none-requires (λ c. search rules) returns-3 (λ c. search rules) returns-4 (λ c. search rules)
-      returns-5 (λ c. search rules) returns-6 (λ c. search rules) returns-7
+  met = lts.spec (K t) (P t) Post (λ c κs. search rules) safe_requires member_name_requires index_requires args_requires inside_requires (λ c. search rules) (λ c. search rules) (λ c. search rules)
+      returns eat_requires (λ c. search rules) (λ c. search rules) (λ c. search rules) returns_2 put_none_requires (λ c. search rules) returns_3 (λ c. search rules) returns_4 (λ c. search rules)
+      returns_5 (λ c. search rules) returns_6 (λ c. search rules) returns_7

@@ -8,14 +8,14 @@ use Prim.Native.Nat.{ℕ}
 use Rattle.leaves.proofs.Steps
 use Rattle.phrases.proofs.load.Reads.{Post}
 use Rattle.phrases.proofs.+arg_args_array_assert_basic_bind_body_chain_claim_comp_cond_each_ends_expr_field_func_index_init_inside_item_link_load_local_member_name_obj_param_params_pat_rest_rhs_safe_sign_slice_spec_specs_step_value.Lts-load as lts
-use Rattle.phrases.proofs.+arg_args_array_assert_basic_bind_body_chain_claim_comp_cond_each_ends_expr_field_func_index_init_inside_item_link_load_local_member_name_obj_param_params_pat_rest_rhs_safe_sign_slice_spec_specs_step_value.Proof.Frame.{load-claims as K, load_at as P}
+use Rattle.phrases.proofs.+arg_args_array_assert_basic_bind_body_chain_claim_comp_cond_each_ends_expr_field_func_index_init_inside_item_link_load_local_member_name_obj_param_params_pat_rest_rhs_safe_sign_slice_spec_specs_step_value.Proof.Frame.{load_claims as K, load_at as P}
 use Rattle.grammar.specs.Image.{entry, payload}
 use Rattle.grammar.specs.Trees.{byte, span}
 use Rattle.grammar.specs.Productions.{Body, goto, end, eat, close, ◌▸◌, expression, basic}
 use Rattle.leaves.specs.Meets.{state, Seg}
 use Rattle.leaves.specs.declared.Cursor.{Cursor}
 use Rattle.leaves.proofs.LeafLaws.{within}
-use Rattle.phrases.proofs.KeywordLaws.{import-some, imports-on}
+use Rattle.phrases.proofs.KeywordLaws.{import_some, imports_on}
 
 module _ (t : ℕ) where
   -- a stretch from the start over the keyword, to a body with n trees
@@ -32,8 +32,8 @@ module _ (t : ℕ) where
   opened : (c : lts.After-eat-any (K t) (P t) Post) → So (a₀ c) (expression ▸ shut (a₀ c)) 0 c.eat-any.result (a₀ c).args.w (a₀ c).args.out.now
   opened c =
       let a = a₀ c in let st = a.pre.1.0.stands in
-      Steps.taken (import-some a.pre.1.1) st c.eat-any.ensures refl
-      (Steps.known (eat a.args.c.kind ▸ expression ▸ shut a) st refl (λ xs t. imports-on a.args.set a.args.c xs 0 t a.pre.1.1) Steps.here)
+      Steps.taken (import_some a.pre.1.1) st c.eat-any.ensures refl
+      (Steps.known (eat a.args.c.kind ▸ expression ▸ shut a) st refl (λ xs t. imports_on a.args.set a.args.c xs 0 t a.pre.1.1) Steps.here)
 
   abbrev c₁ : lts.After-a (K t) (P t) Post → lts.After-expr (K t) (P t) Post
   c₁ c = c.before.before.before.before
@@ -45,20 +45,20 @@ module _ (t : ℕ) where
   value c = Steps.took (c₁ c).expr.ensures c.a.given.1 (opened (c₁ c).before)
 
   -- ── What each call asks ─────────────────────────────────────────────────────────────────────────
-  expr-requires : lts.Need-expr-requires (K t) (P t) Post
-  expr-requires c κs = let p = (a₀ c).requires in (omega (arith, p.0), Steps.ready p.1.0 (lit≤ tt) (opened c))
+  expr_requires : lts.Need-expr-requires (K t) (P t) Post
+  expr_requires c κs = let p = (a₀ c).requires in (omega (arith, p.0), Steps.ready p.1.0 (lit≤ tt) (opened c))
 
-  put-kind-requires : lts.Need-put-kind-requires (K t) (P t) Post
-  put-kind-requires c κs = let a = c.before.before in let p = (a₁ a).requires.1.0 in (Steps.fits p (lit≤ tt) (value a), (within p).0, (within p).1)
+  put_kind_requires : lts.Need-put-kind-requires (K t) (P t) Post
+  put_kind_requires c κs = let a = c.before.before in let p = (a₁ a).requires.1.0 in (Steps.fits p (lit≤ tt) (value a), (within p).0, (within p).1)
 
   -- ── What each return owes ───────────────────────────────────────────────────────────────────────
   returns : lts.Need-returns (K t) (P t) Post
-  returns c = let x = c.before.before.before.before in Steps.passed (Steps.takes-broken x.expr.ensures c.before.match.keys2) (opened x.before)
+  returns c = let x = c.before.before.before.before in Steps.passed (Steps.takes_broken x.expr.ensures c.before.match.keys2) (opened x.before)
 
-  returns-2 : lts.Need-returns-2 (K t) (P t) Post
+  returns_2 : lts.Need-returns-2 (K t) (P t) Post
   unfolding entry payload
-  returns-2 c = let x = c.before.before in Steps.ends (lit≤ tt) (Steps.closed 8 (lit≤ tt) x.put-kind.ensures (value x.before.before.before))
+  returns_2 c = let x = c.before.before in Steps.ends (lit≤ tt) (Steps.closed 8 (lit≤ tt) x.put-kind.ensures (value x.before.before.before))
 
   -- All of them, in the order of the code.
   pub met : {M : Type 1} → lts.Closed (K t) (P t) Post M
-  met = lts.spec (K t) (P t) Post (λ c κs. search rules) expr-requires (λ c. search rules) (λ c. search rules) (λ c. search rules) returns put-kind-requires (λ c. search rules) returns-2
+  met = lts.spec (K t) (P t) Post (λ c κs. search rules) expr_requires (λ c. search rules) (λ c. search rules) (λ c. search rules) returns put_kind_requires (λ c. search rules) returns_2

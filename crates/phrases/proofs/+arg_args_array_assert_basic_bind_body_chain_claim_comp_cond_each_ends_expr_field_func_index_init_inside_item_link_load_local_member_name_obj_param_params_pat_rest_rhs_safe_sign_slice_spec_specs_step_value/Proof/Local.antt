@@ -10,9 +10,9 @@ use borrow.Author.Tests.{ne_eqb}
 use Rattle.leaves.proofs.Steps
 use Rattle.phrases.proofs.local.Reads.{Post}
 use Rattle.phrases.proofs.+arg_args_array_assert_basic_bind_body_chain_claim_comp_cond_each_ends_expr_field_func_index_init_inside_item_link_load_local_member_name_obj_param_params_pat_rest_rhs_safe_sign_slice_spec_specs_step_value.Lts-local as lts
-use Rattle.phrases.proofs.+arg_args_array_assert_basic_bind_body_chain_claim_comp_cond_each_ends_expr_field_func_index_init_inside_item_link_load_local_member_name_obj_param_params_pat_rest_rhs_safe_sign_slice_spec_specs_step_value.Proof.Frame.{local-claims as K, local_at as P}
-use Rattle.phrases.proofs.CountLaws.{step-grows}
-use Rattle.grammar.specs.Productions.{Body, goto, eat, sub, ◌▸◌, rule, bind, binds, binds-end, local-body}
+use Rattle.phrases.proofs.+arg_args_array_assert_basic_bind_body_chain_claim_comp_cond_each_ends_expr_field_func_index_init_inside_item_link_load_local_member_name_obj_param_params_pat_rest_rhs_safe_sign_slice_spec_specs_step_value.Proof.Frame.{local_claims as K, local_at as P}
+use Rattle.phrases.proofs.CountLaws.{step_grows}
+use Rattle.grammar.specs.Productions.{Body, goto, eat, sub, ◌▸◌, rule, bind, binds, binds_end, local_body}
 use Rattle.grammar.specs.Reading.{choose, has}
 use Rattle.leaves.specs.Meets.{state, Seg}
 use Rattle.leaves.specs.declared.Cursor.{Cursor}
@@ -21,38 +21,38 @@ use Rattle.leaves.proofs.LexemeLaws.{sight}
 abbrev pub Inv-loop : lts.invariant-loop
 Inv-loop src out₀ w left set cur₀ at₀ n₀ out cur at n = Steps.Turns set src left (goto binds) 0 cur₀ at₀ out₀ (goto binds) n cur at out × (n ≤ cur.at)
 
-abbrev pub μ-loop : lts.decreases-loop
-μ-loop src out₀ w left set cur₀ at₀ n₀ out cur at n = length src - cur.at
+abbrev pub μ_loop : lts.decreases-loop
+μ_loop src out₀ w left set cur₀ at₀ n₀ out cur at n = length src - cur.at
 
 module _ (t : ℕ) where
   abbrev Turn : Type 0
-  Turn = lts.At-loop (K t) (P t) Post Inv-loop μ-loop
+  Turn = lts.At-loop (K t) (P t) Post Inv-loop μ_loop
 
   -- a stretch of one turn, of which e bytes are taken
   abbrev So : Turn → ℕ → Body → ℕ → Cursor → ℕ → List ℕ → Type 0
   So l e b n c w o = let a = l.before.before.before.args in Seg a.set a.src.now a.left (state (goto binds) l.loop.n l.loop.cur l.loop.at l.loop.out) e 0 (state b n c w o)
 
-  abbrev l₁ : lts.Else1 (K t) (P t) Post Inv-loop μ-loop → Turn
+  abbrev l₁ : lts.Else1 (K t) (P t) Post Inv-loop μ_loop → Turn
   l₁ c = c.before.before
 
-  one : (c : lts.Else1 (K t) (P t) Post Inv-loop μ-loop) → let l = (l₁ c).loop in So (l₁ c) 0 (sub bind ▸ goto binds-end) l.n l.cur l.at l.out
+  one : (c : lts.Else1 (K t) (P t) Post Inv-loop μ_loop) → let l = (l₁ c).loop in So (l₁ c) 0 (sub bind ▸ goto binds_end) l.n l.cur l.at l.out
   unfolding rule choose has sight
-  one c = Steps.known (sub bind ▸ goto binds-end) (l₁ c).loop.invariant.0.ok.stands refl (λ xs t. simp (ne_eqb _ 30 c.if1.false)) Steps.here
+  one c = Steps.known (sub bind ▸ goto binds_end) (l₁ c).loop.invariant.0.ok.stands refl (λ xs t. simp (ne_eqb _ 30 c.if1.false)) Steps.here
 
-  abbrev l₂ : lts.After-a (K t) (P t) Post Inv-loop μ-loop → lts.After-bind (K t) (P t) Post Inv-loop μ-loop
+  abbrev l₂ : lts.After-a (K t) (P t) Post Inv-loop μ_loop → lts.After-bind (K t) (P t) Post Inv-loop μ_loop
   l₂ c = c.before.before.before.before
 
-  abbrev l₃ : lts.After-a (K t) (P t) Post Inv-loop μ-loop → Turn
+  abbrev l₃ : lts.After-a (K t) (P t) Post Inv-loop μ_loop → Turn
   l₃ c = l₁ (l₂ c).before.before
 
-  bound : (c : lts.After-a (K t) (P t) Post Inv-loop μ-loop)
-      → So (l₃ c) 0 (goto binds-end) ((l₃ c).loop.n + 1) c.a.given.0.0 c.a.given.0.1.0 (l₂ c).bind.new.1.0
+  bound : (c : lts.After-a (K t) (P t) Post Inv-loop μ_loop)
+      → So (l₃ c) 0 (goto binds_end) ((l₃ c).loop.n + 1) c.a.given.0.0 c.a.given.0.1.0 (l₂ c).bind.new.1.0
   bound c = Steps.took (l₂ c).bind.ensures c.a.given.1 (one (l₂ c).before.before)
 
-  abbrev l₄ : lts.After-eat-any (K t) (P t) Post Inv-loop μ-loop → lts.After-a (K t) (P t) Post Inv-loop μ-loop
+  abbrev l₄ : lts.After-eat-any (K t) (P t) Post Inv-loop μ_loop → lts.After-a (K t) (P t) Post Inv-loop μ_loop
   l₄ c = c.before.before.before.before
 
-  next : (c : lts.After-eat-any (K t) (P t) Post Inv-loop μ-loop)
+  next : (c : lts.After-eat-any (K t) (P t) Post Inv-loop μ_loop)
       → let a = l₄ c in So (l₃ a) 1 (goto binds) ((l₃ a).loop.n + 1) c.eat-any.result a.a.given.0.1.0 (l₂ a).bind.last.1.0
   unfolding rule choose has sight
   next c =
@@ -60,53 +60,53 @@ module _ (t : ℕ) where
       Steps.taken (lit< tt) st c.eat-any.ensures comma (Steps.known (eat 33 ▸ goto binds) st comma (λ xs t. refl) (bound a))
 
   -- ── The loop, and what each call asks ───────────────────────────────────────────────────────────
-  loop-holds : lts.Need-loop-init (K t) (P t) Post Inv-loop μ-loop
-  loop-holds c = (Steps.begun c.before.before.requires.1, omega arith)
+  loop_holds : lts.Need-loop-init (K t) (P t) Post Inv-loop μ_loop
+  loop_holds c = (Steps.begun c.before.before.requires.1, omega arith)
 
-  body-requires : lts.Need-body-requires (K t) (P t) Post Inv-loop μ-loop
-  body-requires c κs = let l = c.before.before.before in (omega (arith, l.before.before.before.requires.0), (l.loop.invariant.0.ok, l.loop.invariant.1))
+  body_requires : lts.Need-body-requires (K t) (P t) Post Inv-loop μ_loop
+  body_requires c κs = let l = c.before.before.before in (omega (arith, l.before.before.before.requires.0), (l.loop.invariant.0.ok, l.loop.invariant.1))
 
-  bind-requires : lts.Need-bind-requires (K t) (P t) Post Inv-loop μ-loop
-  bind-requires c κs = let l = l₁ c.before in (omega (arith, l.before.before.before.pre.0), l.loop.inv.0.ok)
+  bind_requires : lts.Need-bind-requires (K t) (P t) Post Inv-loop μ_loop
+  bind_requires c κs = let l = l₁ c.before in (omega (arith, l.before.before.before.pre.0), l.loop.inv.0.ok)
 
-  add-n : lts.Need-overflow-add-n (K t) (P t) Post Inv-loop μ-loop
-  add-n c = let i = (l₃ c.before).loop.inv in omega (arith, i.1, i.0.ok.stands.within, i.0.ok.stands.short)
+  add_n : lts.Need-overflow-add-n (K t) (P t) Post Inv-loop μ_loop
+  add_n c = let i = (l₃ c.before).loop.inv in omega (arith, i.1, i.0.ok.stands.within, i.0.ok.stands.short)
 
-  body-requires-2 : lts.Need-body-requires-2 (K t) (P t) Post Inv-loop μ-loop
-  body-requires-2 c κs =
+  body_requires_2 : lts.Need-body-requires-2 (K t) (P t) Post Inv-loop μ_loop
+  body_requires_2 c κs =
       let a = c.before.before.before.before in let i = (l₃ a).loop.invariant in
-      let more = step-grows (l₂ a).bind.ensures a.a.given.1 in
+      let more = step_grows (l₂ a).bind.ensures a.a.given.1 in
       (omega (arith, (l₃ a).before.before.before.requires.0), (Steps.ready i.0.ok (lit≤ tt) (bound a), omega (arith, i.1, more)))
 
-  eat-any-requires : lts.Need-eat-any-requires (K t) (P t) Post Inv-loop μ-loop
-  eat-any-requires c κs = let a = c.before.before.before in (bound a).stands (l₃ a).loop.invariant.0.ok.stands
+  eat_any_requires : lts.Need-eat-any-requires (K t) (P t) Post Inv-loop μ_loop
+  eat_any_requires c κs = let a = c.before.before.before in (bound a).stands (l₃ a).loop.invariant.0.ok.stands
 
-  loop-less : lts.Need-loop-smaller (K t) (P t) Post Inv-loop μ-loop
-  loop-less c = Steps.closer (l₃ (l₄ c)).loop.inv.0.ok (lit≤ tt) (next c)
+  loop_less : lts.Need-loop-smaller (K t) (P t) Post Inv-loop μ_loop
+  loop_less c = Steps.closer (l₃ (l₄ c)).loop.inv.0.ok (lit≤ tt) (next c)
 
-  loop-again : lts.Need-loop-preserved (K t) (P t) Post Inv-loop μ-loop
-  loop-again c = let i = (l₃ (l₄ c)).loop.inv in (Steps.turned i.0 (lit≤ tt) (next c), omega (arith, i.1, (next c).onward))
+  loop_again : lts.Need-loop-preserved (K t) (P t) Post Inv-loop μ_loop
+  loop_again c = let i = (l₃ (l₄ c)).loop.inv in (Steps.turned i.0 (lit≤ tt) (next c), omega (arith, i.1, (next c).onward))
 
   -- ── What each return owes ───────────────────────────────────────────────────────────────────────
-  returns : lts.Need-returns (K t) (P t) Post Inv-loop μ-loop
+  returns : lts.Need-returns (K t) (P t) Post Inv-loop μ_loop
   unfolding rule choose has sight
   returns c =
       let x = c.before.before in let semi = x.before.before in let i = semi.before.before.loop.invariant.0 in
-      Steps.tail (lit≤ tt) x.body.ensures (Steps.known (goto local-body) i.ok.stands semi.if1.true (λ xs t. refl) i.seg)
+      Steps.tail (lit≤ tt) x.body.ensures (Steps.known (goto local_body) i.ok.stands semi.if1.true (λ xs t. refl) i.seg)
 
-  returns-2 : lts.Need-returns-2 (K t) (P t) Post Inv-loop μ-loop
-  returns-2 c =
+  returns_2 : lts.Need-returns-2 (K t) (P t) Post Inv-loop μ_loop
+  returns_2 c =
       let x = c.before.before.before.before in let e = x.before.before in
-      Steps.passed (Steps.takes-broken x.bind.ensures c.before.match.keys2) (Steps.then (l₁ e).loop.invariant.0.seg (one e))
+      Steps.passed (Steps.takes_broken x.bind.ensures c.before.match.keys2) (Steps.then (l₁ e).loop.invariant.0.seg (one e))
 
-  returns-3 : lts.Need-returns-3 (K t) (P t) Post Inv-loop μ-loop
+  returns_3 : lts.Need-returns-3 (K t) (P t) Post Inv-loop μ_loop
   unfolding rule choose has sight
-  returns-3 c =
+  returns_3 c =
       let x = c.before.before in let over = x.before.before in let a = over.before.before.before in let i = (l₃ a).loop.invariant.0 in
-      let last = Steps.known (goto local-body) ((bound a).stands i.ok.stands) refl (λ xs t. simp (ne_eqb _ 33 over.if2.true)) (bound a) in
+      let last = Steps.known (goto local_body) ((bound a).stands i.ok.stands) refl (λ xs t. simp (ne_eqb _ 33 over.if2.true)) (bound a) in
       Steps.tail (lit≤ tt) x.body2.ensures (Steps.then i.seg last)
 
   -- All of them, in the order of the code.
   pub met : {M : Type 1} → lts.Closed (K t) (P t) Post M
-  met = lts.spec (K t) (P t) Post Inv-loop μ-loop loop-holds body-requires (λ c. search rules) returns bind-requires (λ c. search rules) (λ c. search rules) (λ c. search rules) returns-2 add-n
-      body-requires-2 (λ c. search rules) returns-3 eat-any-requires loop-less loop-again
+  met = lts.spec (K t) (P t) Post Inv-loop μ_loop loop_holds body_requires (λ c. search rules) returns bind_requires (λ c. search rules) (λ c. search rules) (λ c. search rules) returns_2 add_n
+      body_requires_2 (λ c. search rules) returns_3 eat_any_requires loop_less loop_again

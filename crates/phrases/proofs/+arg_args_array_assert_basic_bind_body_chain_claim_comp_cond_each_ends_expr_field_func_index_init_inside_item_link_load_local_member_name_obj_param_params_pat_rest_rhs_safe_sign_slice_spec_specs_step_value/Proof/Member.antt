@@ -8,7 +8,7 @@ use borrow.Author.Tests.{ne_eqb}
 use Rattle.leaves.proofs.Steps
 use Rattle.phrases.proofs.member.Reads.{Post}
 use Rattle.phrases.proofs.+arg_args_array_assert_basic_bind_body_chain_claim_comp_cond_each_ends_expr_field_func_index_init_inside_item_link_load_local_member_name_obj_param_params_pat_rest_rhs_safe_sign_slice_spec_specs_step_value.Lts-member as lts
-use Rattle.phrases.proofs.+arg_args_array_assert_basic_bind_body_chain_claim_comp_cond_each_ends_expr_field_func_index_init_inside_item_link_load_local_member_name_obj_param_params_pat_rest_rhs_safe_sign_slice_spec_specs_step_value.Proof.Frame.{member-claims as K, member-at as P}
+use Rattle.phrases.proofs.+arg_args_array_assert_basic_bind_body_chain_claim_comp_cond_each_ends_expr_field_func_index_init_inside_item_link_load_local_member_name_obj_param_params_pat_rest_rhs_safe_sign_slice_spec_specs_step_value.Proof.Frame.{member_claims as K, member_at as P}
 use Rattle.grammar.specs.Productions.{Body, goto, end, eat, sub, ◌▸◌, rule, bind, assertion, field, member}
 use Rattle.grammar.specs.Reading.{choose, has}
 use Rattle.leaves.specs.Meets.{state, Seg}
@@ -46,25 +46,25 @@ module _ (t : ℕ) where
       Steps.known (sub field ▸ end) (a₂ c).requires.1.stands refl (λ xs t. simp (ne_eqb _ 67 c.before.before.if1.false, ne_eqb _ 84 c.if2.false)) Steps.here
 
   -- ── What each call asks ─────────────────────────────────────────────────────────────────────────
-  bind-requires : lts.Need-bind-requires (K t) (P t) Post
-  bind-requires c κs = let p = (a₀ c).requires in (omega (arith, p.0), Steps.ready p.1 (lit≤ tt) (local c))
+  bind_requires : lts.Need-bind-requires (K t) (P t) Post
+  bind_requires c κs = let p = (a₀ c).requires in (omega (arith, p.0), Steps.ready p.1 (lit≤ tt) (local c))
 
-  assert-requires : lts.Need-assert-requires (K t) (P t) Post
-  assert-requires c κs = let p = (a₁ c.before).pre in (omega (arith, p.0), p.1)
+  assert_requires : lts.Need-assert-requires (K t) (P t) Post
+  assert_requires c κs = let p = (a₁ c.before).pre in (omega (arith, p.0), p.1)
 
-  field-requires : lts.Need-field-requires (K t) (P t) Post
-  field-requires c κs = let p = (a₂ c.before).pre in (omega (arith, p.0), p.1)
+  field_requires : lts.Need-field-requires (K t) (P t) Post
+  field_requires c κs = let p = (a₂ c.before).pre in (omega (arith, p.0), p.1)
 
   -- ── What each return owes ───────────────────────────────────────────────────────────────────────
   returns : lts.Need-returns (K t) (P t) Post
-  returns c = let x = c.before.before in Steps.as-sub (Steps.tail (lit≤ tt) (x.bind.ensures.takes end 0) (local x.before))
+  returns c = let x = c.before.before in Steps.as_sub (Steps.tail (lit≤ tt) (x.bind.ensures.takes end 0) (local x.before))
 
-  returns-2 : lts.Need-returns-2 (K t) (P t) Post
-  returns-2 c = let x = c.before.before in Steps.as-sub (Steps.tail (lit≤ tt) (x.assert.ensures.takes end 0) (claim x.before.before))
+  returns_2 : lts.Need-returns-2 (K t) (P t) Post
+  returns_2 c = let x = c.before.before in Steps.as_sub (Steps.tail (lit≤ tt) (x.assert.ensures.takes end 0) (claim x.before.before))
 
-  returns-3 : lts.Need-returns-3 (K t) (P t) Post
-  returns-3 c = let x = c.before.before in Steps.as-sub (Steps.tail (lit≤ tt) (x.field.ensures.takes end 0) (one x.before.before))
+  returns_3 : lts.Need-returns-3 (K t) (P t) Post
+  returns_3 c = let x = c.before.before in Steps.as_sub (Steps.tail (lit≤ tt) (x.field.ensures.takes end 0) (one x.before.before))
 
   -- All of them, in the order of the code.
   pub met : {M : Type 1} → lts.Closed (K t) (P t) Post M
-  met = lts.spec (K t) (P t) Post (λ c κs. search rules) bind-requires (λ c. search rules) returns assert-requires (λ c. search rules) returns-2 field-requires (λ c. search rules) returns-3
+  met = lts.spec (K t) (P t) Post (λ c κs. search rules) bind_requires (λ c. search rules) returns assert_requires (λ c. search rules) returns_2 field_requires (λ c. search rules) returns_3

@@ -8,8 +8,8 @@ use Prim.Native.Nat.{ℕ}
 use Rattle.leaves.proofs.Steps
 use Rattle.phrases.proofs.name.Reads.{Post}
 use Rattle.phrases.proofs.+arg_args_array_assert_basic_bind_body_chain_claim_comp_cond_each_ends_expr_field_func_index_init_inside_item_link_load_local_member_name_obj_param_params_pat_rest_rhs_safe_sign_slice_spec_specs_step_value.Lts-name as lts
-use Rattle.phrases.proofs.+arg_args_array_assert_basic_bind_body_chain_claim_comp_cond_each_ends_expr_field_func_index_init_inside_item_link_load_local_member_name_obj_param_params_pat_rest_rhs_safe_sign_slice_spec_specs_step_value.Proof.Frame.{name-claims as K, name-at as P}
-use Rattle.grammar.specs.Productions.{Body, goto, eat, ◌▸◌, rule, expression, field, field-named}
+use Rattle.phrases.proofs.+arg_args_array_assert_basic_bind_body_chain_claim_comp_cond_each_ends_expr_field_func_index_init_inside_item_link_load_local_member_name_obj_param_params_pat_rest_rhs_safe_sign_slice_spec_specs_step_value.Proof.Frame.{name_claims as K, name_at as P}
+use Rattle.grammar.specs.Productions.{Body, goto, eat, ◌▸◌, rule, expression, field, field_named}
 use Rattle.grammar.specs.Reading.{choose, has}
 use Rattle.leaves.specs.Meets.{state, Seg}
 use Rattle.leaves.specs.declared.Cursor.{Cursor}
@@ -22,7 +22,7 @@ module _ (t : ℕ) where
 
   -- what comes after the name's expression
   abbrev tail : lts.Start (K t) (P t) Post → Body
-  tail a = eat 24 ▸ goto (field-named 1 a.args.c.start)
+  tail a = eat 24 ▸ goto (field_named 1 a.args.c.start)
 
   abbrev a₀ : lts.After-eat-any (K t) (P t) Post → lts.Start (K t) (P t) Post
   a₀ c = c.before.before.before.before.before.before
@@ -43,26 +43,26 @@ module _ (t : ℕ) where
   value c = Steps.took (c₁ c).expr.ensures c.a.given.1 (opened (c₁ c).before)
 
   -- ── What each call asks ─────────────────────────────────────────────────────────────────────────
-  expr-requires : lts.Need-expr-requires (K t) (P t) Post
-  expr-requires c κs = let p = (a₀ c).requires in (omega (arith, p.0), Steps.ready p.1 (lit≤ tt) (opened c))
+  expr_requires : lts.Need-expr-requires (K t) (P t) Post
+  expr_requires c κs = let p = (a₀ c).requires in (omega (arith, p.0), Steps.ready p.1 (lit≤ tt) (opened c))
 
-  eat-requires : lts.Need-eat-requires (K t) (P t) Post
-  eat-requires c κs = (lit< tt, (value c.before).stands (a₁ c.before).pre.1.stands)
+  eat_requires : lts.Need-eat-requires (K t) (P t) Post
+  eat_requires c κs = (lit< tt, (value c.before).stands (a₁ c.before).pre.1.stands)
 
   -- ── What each return owes ───────────────────────────────────────────────────────────────────────
   returns : lts.Need-returns (K t) (P t) Post
-  returns c = let x = c.before.before in let a = x.before.before.before.before.before.before.args in x.fixed-name.ensures.tells a.set a.left
+  returns c = let x = c.before.before in let a = x.before.before.before.before.before.before.args in x.fixed_name.ensures.tells a.set a.left
 
-  returns-2 : lts.Need-returns-2 (K t) (P t) Post
-  returns-2 c = let x = c.before.before.before.before in Steps.passed-telling (Steps.takes-broken x.expr.ensures c.before.match.keys2) (opened x.before)
+  returns_2 : lts.Need-returns-2 (K t) (P t) Post
+  returns_2 c = let x = c.before.before.before.before in Steps.passed_telling (Steps.takes_broken x.expr.ensures c.before.match.keys2) (opened x.before)
 
-  returns-3 : lts.Need-returns-3 (K t) (P t) Post
-  returns-3 c = let x = c.before.before in Steps.passed-telling (Steps.eats-broken x.eat.ensures c.before.match2.keys2) (value x.before.before)
+  returns_3 : lts.Need-returns-3 (K t) (P t) Post
+  returns_3 c = let x = c.before.before in Steps.passed_telling (Steps.eats_broken x.eat.ensures c.before.match2.keys2) (value x.before.before)
 
-  returns-4 : lts.Need-returns-4 (K t) (P t) Post
-  returns-4 c = let b = c.before in let x = b.before.before in Steps.says_on (lit≤ tt) (lit≤ tt) (Steps.ate x.eat.ensures b.b.given.1 (value x.before.before))
+  returns_4 : lts.Need-returns-4 (K t) (P t) Post
+  returns_4 c = let b = c.before in let x = b.before.before in Steps.says_on (lit≤ tt) (lit≤ tt) (Steps.ate x.eat.ensures b.b.given.1 (value x.before.before))
 
   -- All of them, in the order of the code.
   pub met : {M : Type 1} → lts.Closed (K t) (P t) Post M
-  met = lts.spec (K t) (P t) Post (λ c κs. search rules) (λ c. search rules) returns (λ c κs. search rules) expr-requires (λ c. search rules) (λ c. search rules) (λ c. search rules) returns-2
-      eat-requires (λ c. search rules) (λ c. search rules) (λ c. search rules) returns-3 (λ c. search rules) returns-4
+  met = lts.spec (K t) (P t) Post (λ c κs. search rules) (λ c. search rules) returns (λ c κs. search rules) expr_requires (λ c. search rules) (λ c. search rules) (λ c. search rules) returns_2
+      eat_requires (λ c. search rules) (λ c. search rules) (λ c. search rules) returns_3 (λ c. search rules) returns_4

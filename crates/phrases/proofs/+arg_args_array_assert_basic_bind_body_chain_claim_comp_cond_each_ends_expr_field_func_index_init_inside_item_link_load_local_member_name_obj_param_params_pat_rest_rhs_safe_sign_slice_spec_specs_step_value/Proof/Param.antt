@@ -8,22 +8,22 @@ use Prim.Native.Nat.{ℕ}
 use Rattle.leaves.proofs.Steps
 use Rattle.phrases.proofs.param.Reads.{Post}
 use Rattle.phrases.proofs.+arg_args_array_assert_basic_bind_body_chain_claim_comp_cond_each_ends_expr_field_func_index_init_inside_item_link_load_local_member_name_obj_param_params_pat_rest_rhs_safe_sign_slice_spec_specs_step_value.Lts-param as lts
-use Rattle.phrases.proofs.+arg_args_array_assert_basic_bind_body_chain_claim_comp_cond_each_ends_expr_field_func_index_init_inside_item_link_load_local_member_name_obj_param_params_pat_rest_rhs_safe_sign_slice_spec_specs_step_value.Proof.Frame.{param-claims as K, param-at as P}
-use Rattle.phrases.proofs.CountLaws.{step-grows}
+use Rattle.phrases.proofs.+arg_args_array_assert_basic_bind_body_chain_claim_comp_cond_each_ends_expr_field_func_index_init_inside_item_link_load_local_member_name_obj_param_params_pat_rest_rhs_safe_sign_slice_spec_specs_step_value.Proof.Frame.{param_claims as K, param_at as P}
+use Rattle.phrases.proofs.CountLaws.{step_grows}
 use Rattle.grammar.specs.Image.{entry, payload}
 use Rattle.grammar.specs.Trees.{byte}
-use Rattle.grammar.specs.Productions.{Body, goto, end, eat, sub, close, ◌▸◌, expression, param, param-default, pattern}
+use Rattle.grammar.specs.Productions.{Body, goto, end, eat, sub, close, ◌▸◌, expression, param, param_default, pattern}
 use Rattle.leaves.specs.Meets.{state, Seg}
 use Rattle.leaves.specs.declared.Cursor.{Cursor}
-use Rattle.phrases.proofs.KeywordLaws.{parameters, with-default, no_default}
+use Rattle.phrases.proofs.KeywordLaws.{parameters, with_default, no_default}
 
 module _ (t : ℕ) where
   -- a stretch from the start, of which e bytes are taken, to a body with n trees
   abbrev So : lts.Start (K t) (P t) Post → ℕ → Body → ℕ → Cursor → ℕ → List ℕ → Type 0
   So a e b n c w o = Seg a.args.set a.args.src.now a.args.left (state (goto param) 0 a.args.c a.args.w a.args.out.now) e 0 (state b n c w o)
 
-  begun : (a : lts.Start (K t) (P t) Post) → So a 0 (sub pattern ▸ goto param-default) 0 a.args.c a.args.w a.args.out.now
-  begun a = let x = a.args in Steps.known (sub pattern ▸ goto param-default) a.requires.1.stands refl (λ xs t. parameters x.set x.c xs 0 x.c.kind t) Steps.here
+  begun : (a : lts.Start (K t) (P t) Post) → So a 0 (sub pattern ▸ goto param_default) 0 a.args.c a.args.w a.args.out.now
+  begun a = let x = a.args in Steps.known (sub pattern ▸ goto param_default) a.requires.1.stands refl (λ xs t. parameters x.set x.c xs 0 x.c.kind t) Steps.here
 
   abbrev c₁ : lts.After-a (K t) (P t) Post → lts.After-pat (K t) (P t) Post
   c₁ c = c.before.before.before.before
@@ -31,7 +31,7 @@ module _ (t : ℕ) where
   abbrev a₁ : lts.After-a (K t) (P t) Post → lts.Start (K t) (P t) Post
   a₁ c = (c₁ c).before.before.before.before
 
-  into : (c : lts.After-a (K t) (P t) Post) → So (a₁ c) 0 (goto param-default) 1 c.a.given.0.0 c.a.given.0.1.0 (c₁ c).pat.new.1.0
+  into : (c : lts.After-a (K t) (P t) Post) → So (a₁ c) 0 (goto param_default) 1 c.a.given.0.0 c.a.given.0.1.0 (c₁ c).pat.new.1.0
   into c = Steps.took (c₁ c).pat.ensures c.a.given.1 (begun (a₁ c))
 
   -- ── `=` e ───────────────────────────────────────────────────────────────────────────────────────
@@ -43,7 +43,7 @@ module _ (t : ℕ) where
   opened c =
       let a = c₂ c in let st = (into a).stands (a₁ a).pre.1.stands in let assign = c.before.before.if1.false in
       Steps.taken (lit< tt) st c.eat-any.ensures assign
-      (Steps.known (eat 35 ▸ expression ▸ close 30 (byte 1 ∷ []) ▸ end) st assign (λ xs t. with-default (a₁ a).args.set a.a.given.0.0 xs 1 t) (into a))
+      (Steps.known (eat 35 ▸ expression ▸ close 30 (byte 1 ∷ []) ▸ end) st assign (λ xs t. with_default (a₁ a).args.set a.a.given.0.0 xs 1 t) (into a))
 
   abbrev c₃ : lts.After-b (K t) (P t) Post → lts.After-expr (K t) (P t) Post
   c₃ c = c.before.before.before.before
@@ -55,50 +55,50 @@ module _ (t : ℕ) where
   value c = Steps.took (c₃ c).expr.ensures c.b.given.1 (opened (c₃ c).before)
 
   -- ── What each call asks ─────────────────────────────────────────────────────────────────────────
-  pat-requires : lts.Need-pat-requires (K t) (P t) Post
-  pat-requires c κs = let p = c.before.before.before.requires in (omega (arith, p.0), p.1)
+  pat_requires : lts.Need-pat-requires (K t) (P t) Post
+  pat_requires c κs = let p = c.before.before.before.requires in (omega (arith, p.0), p.1)
 
-  put-flag-requires : lts.Need-put-flag-requires (K t) (P t) Post
-  put-flag-requires c κs = let a = c.before.before.before.before in Steps.fits (a₁ a).requires.1 (lit≤ tt) (into a)
+  put_flag_requires : lts.Need-put-flag-requires (K t) (P t) Post
+  put_flag_requires c κs = let a = c.before.before.before.before in Steps.fits (a₁ a).requires.1 (lit≤ tt) (into a)
 
-  eat-any-requires : lts.Need-eat-any-requires (K t) (P t) Post
-  eat-any-requires c κs = let a = c.before.before.before.before in (into a).stands (a₁ a).requires.1.stands
+  eat_any_requires : lts.Need-eat-any-requires (K t) (P t) Post
+  eat_any_requires c κs = let a = c.before.before.before.before in (into a).stands (a₁ a).requires.1.stands
 
-  expr-requires : lts.Need-expr-requires (K t) (P t) Post
-  expr-requires c κs = let p = (a₁ (c₂ c)).pre in (omega (arith, p.0), Steps.ready p.1 (lit≤ tt) (opened c))
+  expr_requires : lts.Need-expr-requires (K t) (P t) Post
+  expr_requires c κs = let p = (a₁ (c₂ c)).pre in (omega (arith, p.0), Steps.ready p.1 (lit≤ tt) (opened c))
 
-  put-flag-requires-2 : lts.Need-put-flag-requires-2 (K t) (P t) Post
-  put-flag-requires-2 c κs = let b = c.before.before in Steps.fits (a₃ b).requires.1 (lit≤ tt) (value b)
+  put_flag_requires_2 : lts.Need-put-flag-requires-2 (K t) (P t) Post
+  put_flag_requires_2 c κs = let b = c.before.before in Steps.fits (a₃ b).requires.1 (lit≤ tt) (value b)
 
   -- ── What each return owes ───────────────────────────────────────────────────────────────────────
   returns : lts.Need-returns (K t) (P t) Post
   returns c =
       let x = c.before.before.before.before in let broken = c.before.match.keys2 in
-      Steps.taking-none (Steps.no-done _ broken).1 (Steps.as-sub (Steps.passed (Steps.takes-broken x.pat.ensures broken) (begun x.before.before.before.before)))
+      Steps.taking_none (Steps.no_done _ broken).1 (Steps.as_sub (Steps.passed (Steps.takes_broken x.pat.ensures broken) (begun x.before.before.before.before)))
 
-  returns-2 : lts.Need-returns-2 (K t) (P t) Post
+  returns_2 : lts.Need-returns-2 (K t) (P t) Post
   unfolding entry payload
-  returns-2 c =
+  returns_2 c =
       let x = c.before.before in let no-assign = x.before.before in let a = no-assign.before.before.before in
       let c₁' = a.a.given.0.0 in let st = (into a).stands (a₁ a).requires.1.stands in
       let plain = Steps.known (close 30 (byte 0 ∷ []) ▸ end) st refl (λ xs t. no_default (a₁ a).args.set c₁' xs 1 c₁'.kind t no-assign.if1.true) (into a) in
-      Steps.taking (Steps.as-sub (Steps.owes (lit≤ tt) (Steps.closed 4 (lit≤ tt) x.put-flag.ensures plain))) (step-grows (c₁ a).pat.ensures a.a.given.1)
+      Steps.taking (Steps.as_sub (Steps.owes (lit≤ tt) (Steps.closed 4 (lit≤ tt) x.put-flag.ensures plain))) (step_grows (c₁ a).pat.ensures a.a.given.1)
 
-  returns-3 : lts.Need-returns-3 (K t) (P t) Post
-  returns-3 c =
+  returns_3 : lts.Need-returns-3 (K t) (P t) Post
+  returns_3 c =
       let x = c.before.before.before.before in let broken = c.before.match2.keys2 in
-      Steps.taking-none (Steps.no-done _ broken).1 (Steps.as-sub (Steps.passed (Steps.takes-broken x.expr.ensures broken) (opened x.before)))
+      Steps.taking_none (Steps.no_done _ broken).1 (Steps.as_sub (Steps.passed (Steps.takes_broken x.expr.ensures broken) (opened x.before)))
 
-  returns-4 : lts.Need-returns-4 (K t) (P t) Post
+  returns_4 : lts.Need-returns-4 (K t) (P t) Post
   unfolding entry payload
-  returns-4 c =
+  returns_4 c =
       let x = c.before.before in let v = value x.before.before.before in
-      Steps.taking (Steps.as-sub (Steps.owes (lit≤ tt) (Steps.closed 4 (lit≤ tt) x.put-flag2.ensures v))) (omega (arith, v.onward))
+      Steps.taking (Steps.as_sub (Steps.owes (lit≤ tt) (Steps.closed 4 (lit≤ tt) x.put-flag2.ensures v))) (omega (arith, v.onward))
 
-  same-length-4 : lts.Need-same-length-4 (K t) (P t) Post
-  same-length-4 c = let x = c.before.before in omega (arith, Steps.same (value x.before.before.before), x.put-flag2.auto)
+  same_length_4 : lts.Need-same-length-4 (K t) (P t) Post
+  same_length_4 c = let x = c.before.before in omega (arith, Steps.same (value x.before.before.before), x.put-flag2.auto)
 
   -- All of them, in the order of the code.
   pub met : {M : Type 1} → lts.Closed (K t) (P t) Post M
-  met = lts.spec (K t) (P t) Post pat-requires (λ c. search rules) (λ c. search rules) (λ c. search rules) returns put-flag-requires (λ c. search rules) returns-2 eat-any-requires expr-requires
-      (λ c. search rules) (λ c. search rules) (λ c. search rules) returns-3 put-flag-requires-2 same-length-4 returns-4
+  met = lts.spec (K t) (P t) Post pat_requires (λ c. search rules) (λ c. search rules) (λ c. search rules) returns put_flag_requires (λ c. search rules) returns_2 eat_any_requires expr_requires
+      (λ c. search rules) (λ c. search rules) (λ c. search rules) returns_3 put_flag_requires_2 same_length_4 returns_4

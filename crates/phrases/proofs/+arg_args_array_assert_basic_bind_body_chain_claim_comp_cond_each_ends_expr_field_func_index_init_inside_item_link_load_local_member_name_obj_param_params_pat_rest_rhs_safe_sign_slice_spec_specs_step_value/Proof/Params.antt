@@ -10,23 +10,23 @@ use borrow.Author.Tests.{ne_eqb}
 use Rattle.leaves.proofs.Steps
 use Rattle.phrases.proofs.params.Reads.{Post}
 use Rattle.phrases.proofs.+arg_args_array_assert_basic_bind_body_chain_claim_comp_cond_each_ends_expr_field_func_index_init_inside_item_link_load_local_member_name_obj_param_params_pat_rest_rhs_safe_sign_slice_spec_specs_step_value.Lts-params as lts
-use Rattle.phrases.proofs.+arg_args_array_assert_basic_bind_body_chain_claim_comp_cond_each_ends_expr_field_func_index_init_inside_item_link_load_local_member_name_obj_param_params_pat_rest_rhs_safe_sign_slice_spec_specs_step_value.Proof.Frame.{params-claims as K, params_at as P}
-use Rattle.phrases.proofs.CountLaws.{counts-on, passed-counting}
+use Rattle.phrases.proofs.+arg_args_array_assert_basic_bind_body_chain_claim_comp_cond_each_ends_expr_field_func_index_init_inside_item_link_load_local_member_name_obj_param_params_pat_rest_rhs_safe_sign_slice_spec_specs_step_value.Proof.Frame.{params_claims as K, params_at as P}
+use Rattle.phrases.proofs.CountLaws.{counts_on, passed_counting}
 use Rattle.leaves.specs.Meets.{state, Seg}
 use Rattle.leaves.specs.declared.Cursor.{Cursor}
-use Rattle.grammar.specs.Productions.{Body, goto, end, eat, sub, ◌▸◌, rule, params, params-end, param}
+use Rattle.grammar.specs.Productions.{Body, goto, end, eat, sub, ◌▸◌, rule, params, params_end, param}
 use Rattle.grammar.specs.Reading.{choose, has}
 use Rattle.leaves.proofs.LexemeLaws.{sight}
 
 abbrev pub Inv-loop : lts.invariant-loop
 Inv-loop src out₀ w left set cur₀ at₀ n₀ out cur at n = Steps.Turns set src left (goto params) 0 cur₀ at₀ out₀ (goto params) n cur at out × (cur₀.at + n ≤ cur.at)
 
-abbrev pub μ-loop : lts.decreases-loop
-μ-loop src out₀ w left set cur₀ at₀ n₀ out cur at n = length src - cur.at
+abbrev pub μ_loop : lts.decreases-loop
+μ_loop src out₀ w left set cur₀ at₀ n₀ out cur at n = length src - cur.at
 
 module _ (t : ℕ) where
   abbrev Turn : Type 0
-  Turn = lts.At-loop (K t) (P t) Post Inv-loop μ-loop
+  Turn = lts.At-loop (K t) (P t) Post Inv-loop μ_loop
 
   -- a stretch of one turn, of which e bytes are taken and v are owed
   abbrev So : Turn → ℕ → ℕ → Body → ℕ → Cursor → ℕ → List ℕ → Type 0
@@ -34,63 +34,63 @@ module _ (t : ℕ) where
       let a = l.before.before.before.args in
       Seg a.set a.src.now a.left (state (goto params) l.loop.n l.loop.cur l.loop.at l.loop.out) e v (state b n c w o)
 
-  abbrev l₁ : lts.Else1 (K t) (P t) Post Inv-loop μ-loop → Turn
+  abbrev l₁ : lts.Else1 (K t) (P t) Post Inv-loop μ_loop → Turn
   l₁ c = c.before.before
 
-  one : (c : lts.Else1 (K t) (P t) Post Inv-loop μ-loop) → So (l₁ c) 0 0 (sub param ▸ goto params-end) (l₁ c).loop.n (l₁ c).loop.cur (l₁ c).loop.at (l₁ c).loop.out
+  one : (c : lts.Else1 (K t) (P t) Post Inv-loop μ_loop) → So (l₁ c) 0 0 (sub param ▸ goto params_end) (l₁ c).loop.n (l₁ c).loop.cur (l₁ c).loop.at (l₁ c).loop.out
   unfolding rule choose has sight
-  one c = Steps.known (sub param ▸ goto params-end) (l₁ c).loop.invariant.0.ok.stands refl (λ xs t. simp (ne_eqb _ 26 c.if1.false)) Steps.here
+  one c = Steps.known (sub param ▸ goto params_end) (l₁ c).loop.invariant.0.ok.stands refl (λ xs t. simp (ne_eqb _ 26 c.if1.false)) Steps.here
 
-  abbrev l₂ : lts.After-a (K t) (P t) Post Inv-loop μ-loop → lts.After-param (K t) (P t) Post Inv-loop μ-loop
+  abbrev l₂ : lts.After-a (K t) (P t) Post Inv-loop μ_loop → lts.After-param (K t) (P t) Post Inv-loop μ_loop
   l₂ c = c.before.before.before.before
 
-  abbrev l₃ : lts.After-a (K t) (P t) Post Inv-loop μ-loop → Turn
+  abbrev l₃ : lts.After-a (K t) (P t) Post Inv-loop μ_loop → Turn
   l₃ c = l₁ (l₂ c).before.before
 
-  took : (c : lts.After-a (K t) (P t) Post Inv-loop μ-loop) → So (l₃ c) 0 4 (goto params-end) ((l₃ c).loop.n + 1) c.a.given.0.0 c.a.given.0.1.0 (l₂ c).param.new.1.0
-  took c = Steps.took-owing (l₂ c).param.ensures.takes c.a.given.1 (one (l₂ c).before.before)
+  took : (c : lts.After-a (K t) (P t) Post Inv-loop μ_loop) → So (l₃ c) 0 4 (goto params_end) ((l₃ c).loop.n + 1) c.a.given.0.0 c.a.given.0.1.0 (l₂ c).param.new.1.0
+  took c = Steps.took_owing (l₂ c).param.ensures.takes c.a.given.1 (one (l₂ c).before.before)
 
-  next : (c : lts.After-eat-any (K t) (P t) Post Inv-loop μ-loop) → let a = c.before.before.before.before in So (l₃ a) 1 4 (goto params) ((l₃ a).loop.n + 1) c.eat-any.result a.a.given.0.1.0 (l₂ a).param.new.1.0
+  next : (c : lts.After-eat-any (K t) (P t) Post Inv-loop μ_loop) → let a = c.before.before.before.before in So (l₃ a) 1 4 (goto params) ((l₃ a).loop.n + 1) c.eat-any.result a.a.given.0.1.0 (l₂ a).param.new.1.0
   unfolding rule choose has sight
   next c =
       let a = c.before.before.before.before in
       let st = (took a).stands (l₃ a).loop.invariant.0.ok.stands in
       Steps.taken (lit< tt) st c.eat-any.ensures c.before.if2.false (Steps.known (eat 33 ▸ goto params) st c.before.if2.false (λ xs t. refl) (took a))
 
-  loop-holds : lts.Need-loop-init (K t) (P t) Post Inv-loop μ-loop
-  loop-holds c = (Steps.begun c.before.before.requires.1, omega arith)
+  loop_holds : lts.Need-loop-init (K t) (P t) Post Inv-loop μ_loop
+  loop_holds c = (Steps.begun c.before.before.requires.1, omega arith)
 
-  returns : lts.Need-returns (K t) (P t) Post Inv-loop μ-loop
+  returns : lts.Need-returns (K t) (P t) Post Inv-loop μ_loop
   unfolding rule choose has sight
-  returns c = let i = c.before.before.loop.invariant in counts-on (lit≤ tt) i.1 (Steps.known end i.0.ok.stands c.if1.true (λ xs t. refl) i.0.seg)
+  returns c = let i = c.before.before.loop.invariant in counts_on (lit≤ tt) i.1 (Steps.known end i.0.ok.stands c.if1.true (λ xs t. refl) i.0.seg)
 
-  param-requires : lts.Need-param-requires (K t) (P t) Post Inv-loop μ-loop
-  param-requires c κs = let l = l₁ c.before in (omega (arith, l.before.before.before.pre.0), l.loop.inv.0.ok)
+  param_requires : lts.Need-param-requires (K t) (P t) Post Inv-loop μ_loop
+  param_requires c κs = let l = l₁ c.before in (omega (arith, l.before.before.before.pre.0), l.loop.inv.0.ok)
 
-  returns-2 : lts.Need-returns-2 (K t) (P t) Post Inv-loop μ-loop
-  returns-2 c = let p = c.before.before.before.before in let e = p.before.before in passed-counting (Steps.takes-broken p.param.ensures.takes c.before.match.keys2) (Steps.then (l₁ e).loop.invariant.0.seg (one e))
+  returns_2 : lts.Need-returns-2 (K t) (P t) Post Inv-loop μ_loop
+  returns_2 c = let p = c.before.before.before.before in let e = p.before.before in passed_counting (Steps.takes_broken p.param.ensures.takes c.before.match.keys2) (Steps.then (l₁ e).loop.invariant.0.seg (one e))
 
-  add-n : lts.Need-overflow-add-n (K t) (P t) Post Inv-loop μ-loop
-  add-n c = let i = (l₃ c.before).loop.inv in omega (arith, i.1, i.0.ok.stands.within, i.0.ok.stands.short)
+  add_n : lts.Need-overflow-add-n (K t) (P t) Post Inv-loop μ_loop
+  add_n c = let i = (l₃ c.before).loop.inv in omega (arith, i.1, i.0.ok.stands.within, i.0.ok.stands.short)
 
-  returns-3 : lts.Need-returns-3 (K t) (P t) Post Inv-loop μ-loop
+  returns_3 : lts.Need-returns-3 (K t) (P t) Post Inv-loop μ_loop
   unfolding rule choose has sight
-  returns-3 c =
+  returns_3 c =
       let a = c.before.before.before in
       let i = (l₃ a).loop.invariant in
       let last = Steps.known end ((took a).stands i.0.ok.stands) refl (λ xs t. simp (ne_eqb _ 33 c.if2.true)) (took a) in
-      counts-on (lit≤ tt) (omega (arith, i.1, (l₂ a).param.ensures.some _ _ _ a.a.given.1)) (Steps.onto i.0.seg last)
+      counts_on (lit≤ tt) (omega (arith, i.1, (l₂ a).param.ensures.some _ _ _ a.a.given.1)) (Steps.onto i.0.seg last)
 
-  eat-any-requires : lts.Need-eat-any-requires (K t) (P t) Post Inv-loop μ-loop
-  eat-any-requires c κs = let a = c.before.before.before in (took a).stands (l₃ a).loop.invariant.0.ok.stands
+  eat_any_requires : lts.Need-eat-any-requires (K t) (P t) Post Inv-loop μ_loop
+  eat_any_requires c κs = let a = c.before.before.before in (took a).stands (l₃ a).loop.invariant.0.ok.stands
 
-  loop-less : lts.Need-loop-smaller (K t) (P t) Post Inv-loop μ-loop
-  loop-less c = Steps.closer (l₃ c.before.before.before.before).loop.inv.0.ok (lit≤ tt) (next c)
+  loop_less : lts.Need-loop-smaller (K t) (P t) Post Inv-loop μ_loop
+  loop_less c = Steps.closer (l₃ c.before.before.before.before).loop.inv.0.ok (lit≤ tt) (next c)
 
-  loop-again : lts.Need-loop-preserved (K t) (P t) Post Inv-loop μ-loop
-  loop-again c = let i = (l₃ c.before.before.before.before).loop.inv in (Steps.turned i.0 (lit≤ tt) (next c), omega (arith, i.1, (next c).onward))
+  loop_again : lts.Need-loop-preserved (K t) (P t) Post Inv-loop μ_loop
+  loop_again c = let i = (l₃ c.before.before.before.before).loop.inv in (Steps.turned i.0 (lit≤ tt) (next c), omega (arith, i.1, (next c).onward))
 
   -- All of them, in the order of the code.
   pub met : {M : Type 1} → lts.Closed (K t) (P t) Post M
-  met = lts.spec (K t) (P t) Post Inv-loop μ-loop loop-holds (λ c. search rules) returns param-requires (λ c. search rules) (λ c. search rules) (λ c. search rules) returns-2 add-n
-      (λ c. search rules) returns-3 eat-any-requires loop-less loop-again
+  met = lts.spec (K t) (P t) Post Inv-loop μ_loop loop_holds (λ c. search rules) returns param_requires (λ c. search rules) (λ c. search rules) (λ c. search rules) returns_2 add_n
+      (λ c. search rules) returns_3 eat_any_requires loop_less loop_again

@@ -12,51 +12,51 @@ use borrow.Author.Tests.{eqb-true, eqb-false, not-true, not-false}
 use Rattle.leaves.proofs.Steps
 use Rattle.phrases.proofs.pat.Reads.{Post}
 use Rattle.phrases.proofs.+arg_args_array_assert_basic_bind_body_chain_claim_comp_cond_each_ends_expr_field_func_index_init_inside_item_link_load_local_member_name_obj_param_params_pat_rest_rhs_safe_sign_slice_spec_specs_step_value.Lts-pat as lts
-use Rattle.phrases.proofs.+arg_args_array_assert_basic_bind_body_chain_claim_comp_cond_each_ends_expr_field_func_index_init_inside_item_link_load_local_member_name_obj_param_params_pat_rest_rhs_safe_sign_slice_spec_specs_step_value.Proof.Frame.{pat-claims as K, pat-at as P}
-use Rattle.phrases.proofs.CountLaws.{step-grows}
-use Rattle.grammar.specs.Productions.{Body, goto, end, eat, sub, ◌▸◌, pattern, pattern-starts, pattern-starts-end, array-pattern-close, array-rest, exp-destruct}
+use Rattle.phrases.proofs.+arg_args_array_assert_basic_bind_body_chain_claim_comp_cond_each_ends_expr_field_func_index_init_inside_item_link_load_local_member_name_obj_param_params_pat_rest_rhs_safe_sign_slice_spec_specs_step_value.Proof.Frame.{pat_claims as K, pat_at as P}
+use Rattle.phrases.proofs.CountLaws.{step_grows}
+use Rattle.grammar.specs.Productions.{Body, goto, end, eat, sub, ◌▸◌, pattern, pattern_starts, pattern_starts_end, array_pattern_close, array_rest, exp_destruct}
 use Rattle.grammar.specs.Reading.{has}
 use Rattle.leaves.specs.Meets.{Ready, state, Seg, Leads, Takes}
 use Rattle.leaves.specs.declared.Cursor.{Cursor}
 use Rattle.leaves.specs.declared.Answer.{Answer}
-use Rattle.leaves.proofs.LeafLaws.{moved_on, onward, one-fault}
-use Rattle.leaves.proofs.LeafRules.{no-pattern}
-use Rattle.phrases.proofs.PatternLaws.{starts-close, starts-rest, starts-one, starts_more, starts-over, in-brackets, in-braces, none-deeper, no_name}
+use Rattle.leaves.proofs.LeafLaws.{moved_on, onward, one_fault}
+use Rattle.leaves.proofs.LeafRules.{no_pattern}
+use Rattle.phrases.proofs.PatternLaws.{starts_close, starts_rest, starts_one, starts_more, starts_over, in_brackets, in_braces, none_deeper, no_name}
 
 abbrev pub Inv-loop : lts.invariant-loop
 Inv-loop src out₀ w left set object cur₀ at₀ n₀ out cur at n =
-    Steps.Turns set src (left - 1) (goto pattern-starts) 0 cur₀ at₀ out₀ (goto pattern-starts) n cur at out × (n ≤ cur.at)
+    Steps.Turns set src (left - 1) (goto pattern_starts) 0 cur₀ at₀ out₀ (goto pattern_starts) n cur at out × (n ≤ cur.at)
 
-abbrev pub μ-loop : lts.decreases-loop
-μ-loop src out₀ w left set object cur₀ at₀ n₀ out cur at n = length src - cur.at
+abbrev pub μ_loop : lts.decreases-loop
+μ_loop src out₀ w left set object cur₀ at₀ n₀ out cur at n = length src - cur.at
 
 module _ (t : ℕ) where
   -- ── Around the loop ─────────────────────────────────────────────────────────────────────────────
   abbrev Begin : Type 0
-  Begin = lts.Start (K t) (P t) Post Inv-loop μ-loop
+  Begin = lts.Start (K t) (P t) Post Inv-loop μ_loop
 
-  abbrev a₀ : lts.Joined1 (K t) (P t) Post Inv-loop μ-loop → Begin
+  abbrev a₀ : lts.Joined1 (K t) (P t) Post Inv-loop μ_loop → Begin
   a₀ c = c.before.before.before.before.before
 
   -- a bracket or a brace stands there
-  either : (c : lts.Joined1 (K t) (P t) Post Inv-loop μ-loop) → let k = (a₀ c).args.c.kind in (k ≡ 23) ⊎ (k ≡ 27)
+  either : (c : lts.Joined1 (K t) (P t) Post Inv-loop μ_loop) → let k = (a₀ c).args.c.kind in (k ≡ 23) ⊎ (k ≡ 27)
   either c = ⊎_elim (λ x. inr (eqb-true (a₀ c).args.c.kind 27 (not-false _ x.1.left))) (λ y. inl y.left) c.if1.branch
 
-  abbrev a₁ : lts.After-eat-any (K t) (P t) Post Inv-loop μ-loop → lts.Joined1 (K t) (P t) Post Inv-loop μ-loop
+  abbrev a₁ : lts.After-eat-any (K t) (P t) Post Inv-loop μ_loop → lts.Joined1 (K t) (P t) Post Inv-loop μ_loop
   a₁ c = c.before.before.before.before
 
   -- patterns are switched on
-  on : (c : lts.Else3 (K t) (P t) Post Inv-loop μ-loop) → has (a₀ c.before.before).args.set exp-destruct ≡ true
+  on : (c : lts.Else3 (K t) (P t) Post Inv-loop μ_loop) → has (a₀ c.before.before).args.set exp_destruct ≡ true
   on c = let tested = c.before.has-destruct in sym tested.ensures ∙ not-false tested.result c.if3.false
 
   -- one may read on behind it
-  inner : (c : lts.After-eat-any (K t) (P t) Post Inv-loop μ-loop) → let a = (a₀ (a₁ c)).args in Ready a.src.now c.eat-any.result a.w
+  inner : (c : lts.After-eat-any (K t) (P t) Post Inv-loop μ_loop) → let a = (a₀ (a₁ c)).args in Ready a.src.now c.eat-any.result a.w
   inner c = let r = (a₀ (a₁ c)).pre.1 in onward r c.eat-any.ensures.stands (moved_on r.stands c.eat-any.ensures)
 
   abbrev Turn : Type 0
-  Turn = lts.At-loop (K t) (P t) Post Inv-loop μ-loop
+  Turn = lts.At-loop (K t) (P t) Post Inv-loop μ_loop
 
-  abbrev a₂ : Turn → lts.After-eat-any (K t) (P t) Post Inv-loop μ-loop
+  abbrev a₂ : Turn → lts.After-eat-any (K t) (P t) Post Inv-loop μ_loop
   a₂ l = l.before.before
 
   abbrev b₀ : Turn → Begin
@@ -68,136 +68,136 @@ module _ (t : ℕ) where
 
   -- where what stands inside the brackets leads is the pattern
   whole : (l : Turn) {r : Answer} {o : List ℕ} → let a = (b₀ l).args in
-      Leads a.set a.src.now (a.left - 1) (state (goto pattern-starts) 0 (a₂ l).eat-any.result a.w a.out.now) 0 end 1 r o
+      Leads a.set a.src.now (a.left - 1) (state (goto pattern_starts) 0 (a₂ l).eat-any.result a.w a.out.now) 0 end 1 r o
       → Takes a.set a.src.now (sub pattern) 1 0 a.left a.c a.w a.out.now r o
-  whole l m = let e = a₂ l in in-brackets (b₀ l).pre.1.stands (bracket l) (on e.before.before) e.before.if4.left e.eat-any.ensures m
+  whole l m = let e = a₂ l in in_brackets (b₀ l).pre.1.stands (bracket l) (on e.before.before) e.before.if4.left e.eat-any.ensures m
 
   -- ── A turn ──────────────────────────────────────────────────────────────────────────────────────
   -- a stretch of one turn, of which e bytes are taken
   abbrev So : Turn → ℕ → Body → ℕ → Cursor → ℕ → List ℕ → Type 0
-  So l e b n c w o = let a = (b₀ l).args in Seg a.set a.src.now (a.left - 1) (state (goto pattern-starts) l.loop.n l.loop.cur l.loop.at l.loop.out) e 0 (state b n c w o)
+  So l e b n c w o = let a = (b₀ l).args in Seg a.set a.src.now (a.left - 1) (state (goto pattern_starts) l.loop.n l.loop.cur l.loop.at l.loop.out) e 0 (state b n c w o)
 
-  abbrev l₀ : lts.After-eat-any2 (K t) (P t) Post Inv-loop μ-loop → Turn
+  abbrev l₀ : lts.After-eat-any2 (K t) (P t) Post Inv-loop μ_loop → Turn
   l₀ c = c.before.before.before.before.before.before
 
   -- past `...`
-  rested : (c : lts.After-eat-any2 (K t) (P t) Post Inv-loop μ-loop) → let l = (l₀ c).loop in So (l₀ c) 1 (goto (array-rest l.n)) l.n c.eat-any2.result l.at l.out
+  rested : (c : lts.After-eat-any2 (K t) (P t) Post Inv-loop μ_loop) → let l = (l₀ c).loop in So (l₀ c) 1 (goto (array_rest l.n)) l.n c.eat-any2.result l.at l.out
   rested c =
       let l = (l₀ c).loop in let st = l.inv.0.ok.stands in let dots = c.before.before.if7.true in
       Steps.taken (lit< tt) st c.eat-any2.ensures dots
-      (Steps.known (eat 32 ▸ goto (array-rest l.n)) st dots (λ xs t. starts-rest (b₀ (l₀ c)).args.set _ xs _ t) Steps.here)
+      (Steps.known (eat 32 ▸ goto (array_rest l.n)) st dots (λ xs t. starts_rest (b₀ (l₀ c)).args.set _ xs _ t) Steps.here)
 
-  abbrev l₁ : lts.Else7 (K t) (P t) Post Inv-loop μ-loop → Turn
+  abbrev l₁ : lts.Else7 (K t) (P t) Post Inv-loop μ_loop → Turn
   l₁ c = c.before.before.before.before
 
-  opened : (c : lts.Else7 (K t) (P t) Post Inv-loop μ-loop) → let l = (l₁ c).loop in So (l₁ c) 0 (sub pattern ▸ goto pattern-starts-end) l.n l.cur l.at l.out
+  opened : (c : lts.Else7 (K t) (P t) Post Inv-loop μ_loop) → let l = (l₁ c).loop in So (l₁ c) 0 (sub pattern ▸ goto pattern_starts_end) l.n l.cur l.at l.out
   opened c =
-      Steps.known (sub pattern ▸ goto pattern-starts-end) (l₁ c).loop.invariant.0.ok.stands refl
-      (λ xs t. starts-one (b₀ (l₁ c)).args.set _ xs _ _ t c.before.before.if6.false c.if7.false) Steps.here
+      Steps.known (sub pattern ▸ goto pattern_starts_end) (l₁ c).loop.invariant.0.ok.stands refl
+      (λ xs t. starts_one (b₀ (l₁ c)).args.set _ xs _ _ t c.before.before.if6.false c.if7.false) Steps.here
 
-  abbrev l₂ : lts.After-a (K t) (P t) Post Inv-loop μ-loop → lts.After-pat (K t) (P t) Post Inv-loop μ-loop
+  abbrev l₂ : lts.After-a (K t) (P t) Post Inv-loop μ_loop → lts.After-pat (K t) (P t) Post Inv-loop μ_loop
   l₂ c = c.before.before.before.before
 
-  abbrev l₃ : lts.After-a (K t) (P t) Post Inv-loop μ-loop → Turn
+  abbrev l₃ : lts.After-a (K t) (P t) Post Inv-loop μ_loop → Turn
   l₃ c = l₁ (l₂ c).before.before
 
-  one : (c : lts.After-a (K t) (P t) Post Inv-loop μ-loop)
-      → So (l₃ c) 0 (goto pattern-starts-end) ((l₃ c).loop.n + 1) c.a.given.0.0 c.a.given.0.1.0 (l₂ c).pat.new.1.0
+  one : (c : lts.After-a (K t) (P t) Post Inv-loop μ_loop)
+      → So (l₃ c) 0 (goto pattern_starts_end) ((l₃ c).loop.n + 1) c.a.given.0.0 c.a.given.0.1.0 (l₂ c).pat.new.1.0
   one c = Steps.took (l₂ c).pat.ensures c.a.given.1 (opened (l₂ c).before.before)
 
-  abbrev l₄ : lts.After-eat-any3 (K t) (P t) Post Inv-loop μ-loop → lts.After-a (K t) (P t) Post Inv-loop μ-loop
+  abbrev l₄ : lts.After-eat-any3 (K t) (P t) Post Inv-loop μ_loop → lts.After-a (K t) (P t) Post Inv-loop μ_loop
   l₄ c = c.before.before.before.before
 
-  next : (c : lts.After-eat-any3 (K t) (P t) Post Inv-loop μ-loop)
-      → let a = l₄ c in So (l₃ a) 1 (goto pattern-starts) ((l₃ a).loop.n + 1) c.eat-any3.result a.a.given.0.1.0 (l₂ a).pat.last.1.0
+  next : (c : lts.After-eat-any3 (K t) (P t) Post Inv-loop μ_loop)
+      → let a = l₄ c in So (l₃ a) 1 (goto pattern_starts) ((l₃ a).loop.n + 1) c.eat-any3.result a.a.given.0.1.0 (l₂ a).pat.last.1.0
   next c =
       let a = l₄ c in let st = (one a).stands (l₃ a).loop.inv.0.ok.stands in let comma = c.before.if8.false in
       Steps.taken (lit< tt) st c.eat-any3.ensures comma
-      (Steps.known (eat 33 ▸ goto pattern-starts) st comma (λ xs t. starts_more (b₀ (l₃ a)).args.set _ xs _ t) (one a))
+      (Steps.known (eat 33 ▸ goto pattern_starts) st comma (λ xs t. starts_more (b₀ (l₃ a)).args.set _ xs _ t) (one a))
 
   -- ── The loop, and what each call asks ───────────────────────────────────────────────────────────
-  pattern-atom-requires : lts.Need-pattern-atom-requires (K t) (P t) Post Inv-loop μ-loop
-  pattern-atom-requires c κs =
-      let no-brace = c.before in let no-bracket = no-brace.before in let a = no-bracket.before.before.before.before.before in
-      (a.requires.1, no-bracket.if1.true, eqb-false a.args.c.kind 27 (not-true _ no-brace.if2.true))
+  pattern_atom_requires : lts.Need-pattern-atom-requires (K t) (P t) Post Inv-loop μ_loop
+  pattern_atom_requires c κs =
+      let no-brace = c.before in let no_bracket = no-brace.before in let a = no_bracket.before.before.before.before.before in
+      (a.requires.1, no_bracket.if1.true, eqb-false a.args.c.kind 27 (not-true _ no-brace.if2.true))
 
-  obj-requires : lts.Need-obj-requires (K t) (P t) Post Inv-loop μ-loop
-  obj-requires c κs = let e = c.before.before in (omega (arith, (a₀ (a₁ e)).pre.0, e.before.if4.false), inner e)
+  obj_requires : lts.Need-obj-requires (K t) (P t) Post Inv-loop μ_loop
+  obj_requires c κs = let e = c.before.before in (omega (arith, (a₀ (a₁ e)).pre.0, e.before.if4.false), inner e)
 
-  loop-holds : lts.Need-loop-init (K t) (P t) Post Inv-loop μ-loop
-  loop-holds c = (Steps.begun (inner c.before), omega arith)
+  loop_holds : lts.Need-loop-init (K t) (P t) Post Inv-loop μ_loop
+  loop_holds c = (Steps.begun (inner c.before), omega arith)
 
-  rest-requires : lts.Need-rest-requires (K t) (P t) Post Inv-loop μ-loop
-  rest-requires c κs =
+  rest_requires : lts.Need-rest-requires (K t) (P t) Post Inv-loop μ_loop
+  rest_requires c κs =
       let l = l₀ c in let i = l.loop.inv in
       (omega (arith, (b₀ l).pre.0, (a₂ l).before.if4.left), (Steps.ready i.0.ok (lit≤ tt) (rested c), omega (arith, i.1, (rested c).onward)))
 
-  pat-requires : lts.Need-pat-requires (K t) (P t) Post Inv-loop μ-loop
-  pat-requires c κs = let l = l₁ c.before in (omega (arith, (b₀ l).pre.0, (a₂ l).before.if4.left), l.loop.inv.0.ok)
+  pat_requires : lts.Need-pat-requires (K t) (P t) Post Inv-loop μ_loop
+  pat_requires c κs = let l = l₁ c.before in (omega (arith, (b₀ l).pre.0, (a₂ l).before.if4.left), l.loop.inv.0.ok)
 
-  add-n : lts.Need-overflow-add-n (K t) (P t) Post Inv-loop μ-loop
-  add-n c = let i = (l₃ c.before).loop.inv in omega (arith, i.1, i.0.ok.stands.within, i.0.ok.stands.short)
+  add_n : lts.Need-overflow-add-n (K t) (P t) Post Inv-loop μ_loop
+  add_n c = let i = (l₃ c.before).loop.inv in omega (arith, i.1, i.0.ok.stands.within, i.0.ok.stands.short)
 
-  array-pattern-close-requires-2 : lts.Need-array-pattern-close-requires-2 (K t) (P t) Post Inv-loop μ-loop
-  array-pattern-close-requires-2 c κs =
+  array_pattern_close_requires_2 : lts.Need-array-pattern-close-requires-2 (K t) (P t) Post Inv-loop μ_loop
+  array_pattern_close_requires_2 c κs =
       let a = c.before.before.before.before in let i = (l₃ a).loop.invariant in
-      let more = step-grows (l₂ a).pat.ensures a.a.given.1 in
+      let more = step_grows (l₂ a).pat.ensures a.a.given.1 in
       (Steps.ready i.0.ok (lit≤ tt) (one a), omega (arith, i.1, more), omega arith, omega arith, omega arith)
 
-  eat-any-requires-3 : lts.Need-eat-any-requires-3 (K t) (P t) Post Inv-loop μ-loop
-  eat-any-requires-3 c κs = let a = c.before.before.before in (one a).stands (l₃ a).loop.invariant.0.ok.stands
+  eat_any_requires_3 : lts.Need-eat-any-requires-3 (K t) (P t) Post Inv-loop μ_loop
+  eat_any_requires_3 c κs = let a = c.before.before.before in (one a).stands (l₃ a).loop.invariant.0.ok.stands
 
-  loop-less : lts.Need-loop-smaller (K t) (P t) Post Inv-loop μ-loop
-  loop-less c = Steps.closer (l₃ (l₄ c)).loop.inv.0.ok (lit≤ tt) (next c)
+  loop_less : lts.Need-loop-smaller (K t) (P t) Post Inv-loop μ_loop
+  loop_less c = Steps.closer (l₃ (l₄ c)).loop.inv.0.ok (lit≤ tt) (next c)
 
-  loop-again : lts.Need-loop-preserved (K t) (P t) Post Inv-loop μ-loop
-  loop-again c = let i = (l₃ (l₄ c)).loop.inv in (Steps.turned i.0 (lit≤ tt) (next c), omega (arith, i.1, (next c).onward))
+  loop_again : lts.Need-loop-preserved (K t) (P t) Post Inv-loop μ_loop
+  loop_again c = let i = (l₃ (l₄ c)).loop.inv in (Steps.turned i.0 (lit≤ tt) (next c), omega (arith, i.1, (next c).onward))
 
   -- ── What each return owes ───────────────────────────────────────────────────────────────────────
-  returns : lts.Need-returns (K t) (P t) Post Inv-loop μ-loop
-  returns c = let x = c.before.before in let no-bracket = x.before.before.before in Steps.as-sub (x.pattern-atom.ensures.ends no-bracket.before.before.before.before.before.args.left)
+  returns : lts.Need-returns (K t) (P t) Post Inv-loop μ_loop
+  returns c = let x = c.before.before in let no_bracket = x.before.before.before in Steps.as_sub (x.pattern-atom.ensures.ends no_bracket.before.before.before.before.before.args.left)
 
-  returns-2 : lts.Need-returns-2 (K t) (P t) Post Inv-loop μ-loop
-  returns-2 c =
+  returns_2 : lts.Need-returns-2 (K t) (P t) Post Inv-loop μ_loop
+  returns_2 c =
       let j = c.before.before.before in let a = (a₀ j).args in let tested = c.before.before.has-destruct in
       let off = sym tested.ensures ∙ not-true tested.result c.before.if3.true in
-      Steps.as-sub (one-fault (a₀ j).requires.1.stands (λ xs t. no-pattern a.set a.c xs 0 a.c.kind t (no_name (either j)) off) c.error.ensures)
+      Steps.as_sub (one_fault (a₀ j).requires.1.stands (λ xs t. no_pattern a.set a.c xs 0 a.c.kind t (no_name (either j)) off) c.error.ensures)
 
-  returns-3 : lts.Need-returns-3 (K t) (P t) Post Inv-loop μ-loop
-  returns-3 c =
+  returns_3 : lts.Need-returns-3 (K t) (P t) Post Inv-loop μ_loop
+  returns_3 c =
       let j = c.before.before.before.before in
-      Steps.as-sub (Steps.broke (none-deeper (a₀ j).requires.1.stands (either j) (on c.before.before) c.before.if4.true) c.error2.ensures)
+      Steps.as_sub (Steps.broke (none_deeper (a₀ j).requires.1.stands (either j) (on c.before.before) c.before.if4.true) c.error2.ensures)
 
-  returns-4 : lts.Need-returns-4 (K t) (P t) Post Inv-loop μ-loop
-  returns-4 c =
+  returns_4 : lts.Need-returns-4 (K t) (P t) Post Inv-loop μ_loop
+  returns_4 c =
       let x = c.before.before in let brace = x.before.before in let e = brace.before in let a = a₀ (a₁ e) in
-      in-braces a.pre.1.stands (eqb-true a.args.c.kind 27 brace.if5.true) (on e.before.before) e.before.if4.false e.eat-any.ensures x.obj.ensures
+      in_braces a.pre.1.stands (eqb-true a.args.c.kind 27 brace.if5.true) (on e.before.before) e.before.if4.false e.eat-any.ensures x.obj.ensures
 
-  returns-5 : lts.Need-returns-5 (K t) (P t) Post Inv-loop μ-loop
-  returns-5 c =
-      let x = c.before.before in let at-end = x.before.before in let l = at-end.before.before in let a = (b₀ l).args in
+  returns_5 : lts.Need-returns-5 (K t) (P t) Post Inv-loop μ_loop
+  returns_5 c =
+      let x = c.before.before in let at_end = x.before.before in let l = at_end.before.before in let a = (b₀ l).args in
       let i = l.loop.invariant.0 in let n = l.loop.n in
-      let shut = Steps.known (goto (array-pattern-close n 0 [])) i.ok.stands at-end.if6.true (λ xs t. starts-close a.set _ xs _ t) i.seg in
-      whole l (Steps.tail (omega arith) (x.array-pattern-close.ensures.ends a.set (a.left - 1)) (Steps.count-is (let z : n ≡ n + 0 = omega arith in z) shut))
+      let shut = Steps.known (goto (array_pattern_close n 0 [])) i.ok.stands at_end.if6.true (λ xs t. starts_close a.set _ xs _ t) i.seg in
+      whole l (Steps.tail (omega arith) (x.array_pattern_close.ensures.ends a.set (a.left - 1)) (Steps.count_is (let z : n ≡ n + 0 = omega arith in z) shut))
 
-  returns-6 : lts.Need-returns-6 (K t) (P t) Post Inv-loop μ-loop
-  returns-6 c = let x = c.before.before in let l = l₀ x.before in whole l (Steps.tail (lit≤ tt) x.rest.ensures (Steps.onto l.loop.inv.0.seg (rested x.before)))
+  returns_6 : lts.Need-returns-6 (K t) (P t) Post Inv-loop μ_loop
+  returns_6 c = let x = c.before.before in let l = l₀ x.before in whole l (Steps.tail (lit≤ tt) x.rest.ensures (Steps.onto l.loop.inv.0.seg (rested x.before)))
 
-  returns-7 : lts.Need-returns-7 (K t) (P t) Post Inv-loop μ-loop
-  returns-7 c =
+  returns_7 : lts.Need-returns-7 (K t) (P t) Post Inv-loop μ_loop
+  returns_7 c =
       let x = c.before.before.before.before in let e = x.before.before in
-      whole (l₁ e) (Steps.passed (Steps.takes-broken x.pat.ensures c.before.match.keys2) (Steps.then (l₁ e).loop.invariant.0.seg (opened e)))
+      whole (l₁ e) (Steps.passed (Steps.takes_broken x.pat.ensures c.before.match.keys2) (Steps.then (l₁ e).loop.invariant.0.seg (opened e)))
 
-  returns-8 : lts.Need-returns-8 (K t) (P t) Post Inv-loop μ-loop
-  returns-8 c =
+  returns_8 : lts.Need-returns-8 (K t) (P t) Post Inv-loop μ_loop
+  returns_8 c =
       let x = c.before.before in let over = x.before.before in let a = over.before.before.before in let l = l₃ a in let b = (b₀ l).args in
       let i = l.loop.inv.0 in let n = l.loop.n + 1 in let st = (one a).stands i.ok.stands in
-      let shut = Steps.known (goto (array-pattern-close n 0 [])) st refl (λ xs t. starts-over b.set _ xs _ _ t over.if8.true) (Steps.then i.seg (one a)) in
-      whole l (Steps.tail (omega arith) (x.array-pattern-close2.ensures.ends b.set (b.left - 1)) (Steps.count-is (let z : n ≡ n + 0 = omega arith in z) shut))
+      let shut = Steps.known (goto (array_pattern_close n 0 [])) st refl (λ xs t. starts_over b.set _ xs _ _ t over.if8.true) (Steps.then i.seg (one a)) in
+      whole l (Steps.tail (omega arith) (x.array-pattern-close2.ensures.ends b.set (b.left - 1)) (Steps.count_is (let z : n ≡ n + 0 = omega arith in z) shut))
 
   -- All of them, in the order of the code.
   pub met : {M : Type 1} → lts.Closed (K t) (P t) Post M
-  met = lts.spec (K t) (P t) Post Inv-loop μ-loop pattern-atom-requires (λ c. search rules) returns (λ c κs. search rules) (λ c κs. search rules) returns-2 (λ c κs. search rules) returns-3
-      (λ c κs. search rules) (λ c. search rules) obj-requires (λ c. search rules) returns-4 loop-holds (λ c κs. search rules) (λ c. search rules) returns-5 (λ c κs. search rules)
-      (λ c. search rules) rest-requires (λ c. search rules) returns-6 (λ c. search rules) pat-requires (λ c. search rules) (λ c. search rules) (λ c. search rules) returns-7 add-n
-      array-pattern-close-requires-2 (λ c. search rules) returns-8 eat-any-requires-3 loop-less loop-again
+  met = lts.spec (K t) (P t) Post Inv-loop μ_loop pattern_atom_requires (λ c. search rules) returns (λ c κs. search rules) (λ c κs. search rules) returns_2 (λ c κs. search rules) returns_3
+      (λ c κs. search rules) (λ c. search rules) obj_requires (λ c. search rules) returns_4 loop_holds (λ c κs. search rules) (λ c. search rules) returns_5 (λ c κs. search rules)
+      (λ c. search rules) rest_requires (λ c. search rules) returns_6 (λ c. search rules) pat_requires (λ c. search rules) (λ c. search rules) (λ c. search rules) returns_7 add_n
+      array_pattern_close_requires_2 (λ c. search rules) returns_8 eat_any_requires_3 loop_less loop_again

@@ -7,7 +7,7 @@ use Prim.Native.Nat.{ℕ, ◌+◌}
 use Rattle.leaves.proofs.Steps
 use Rattle.phrases.proofs.rhs.Reads.{Post}
 use Rattle.phrases.proofs.+arg_args_array_assert_basic_bind_body_chain_claim_comp_cond_each_ends_expr_field_func_index_init_inside_item_link_load_local_member_name_obj_param_params_pat_rest_rhs_safe_sign_slice_spec_specs_step_value.Lts-rhs as lts
-use Rattle.phrases.proofs.+arg_args_array_assert_basic_bind_body_chain_claim_comp_cond_each_ends_expr_field_func_index_init_inside_item_link_load_local_member_name_obj_param_params_pat_rest_rhs_safe_sign_slice_spec_specs_step_value.Proof.Frame.{rhs-claims as K, rhs-at as P}
+use Rattle.phrases.proofs.+arg_args_array_assert_basic_bind_body_chain_claim_comp_cond_each_ends_expr_field_func_index_init_inside_item_link_load_local_member_name_obj_param_params_pat_rest_rhs_safe_sign_slice_spec_specs_step_value.Proof.Frame.{rhs_claims as K, rhs_at as P}
 use Rattle.grammar.specs.Image.{entry, payload}
 use Rattle.grammar.specs.Trees.{byte, number}
 use Rattle.grammar.specs.Productions.{Body, end, close, ◌▸◌, expression}
@@ -39,26 +39,26 @@ module _ (t : ℕ) where
   value n c = Steps.took (c₁ c).expr.ensures c.b.given.1 (assigned n (c₂ c))
 
   -- ── What each call asks ─────────────────────────────────────────────────────────────────────────
-  expr-requires : lts.Need-expr-requires (K t) (P t) Post
-  expr-requires c κs = let a = c.before.before in let p = (a₀ a).requires in (omega (arith, p.0), Steps.ready p.1.0 (lit≤ tt) (assigned 0 a))
+  expr_requires : lts.Need-expr-requires (K t) (P t) Post
+  expr_requires c κs = let a = c.before.before in let p = (a₀ a).requires in (omega (arith, p.0), Steps.ready p.1.0 (lit≤ tt) (assigned 0 a))
 
-  put-bind-requires : lts.Need-put-bind-requires (K t) (P t) Post
-  put-bind-requires c κs = let b = c.before.before in let p = (a₀ (c₂ b)).pre.1 in (Steps.fits p.0 (lit≤ tt) (value 0 b), omega (arith, p.1, p.0.stands.within, p.0.stands.short))
+  put_bind_requires : lts.Need-put-bind-requires (K t) (P t) Post
+  put_bind_requires c κs = let b = c.before.before in let p = (a₀ (c₂ b)).pre.1 in (Steps.fits p.0 (lit≤ tt) (value 0 b), omega (arith, p.1, p.0.stands.within, p.0.stands.short))
 
   -- ── What each return owes ───────────────────────────────────────────────────────────────────────
   returns : lts.Need-returns (K t) (P t) Post
-  returns c = record { leads = λ n. Steps.passed (Steps.eats-broken c.before.before.eat.ensures c.before.match.keys2) Steps.here }
+  returns c = record { leads = λ n. Steps.passed (Steps.eats_broken c.before.before.eat.ensures c.before.match.keys2) Steps.here }
 
-  returns-2 : lts.Need-returns-2 (K t) (P t) Post
-  returns-2 c =
+  returns_2 : lts.Need-returns-2 (K t) (P t) Post
+  returns_2 c =
       let x = c.before.before.before.before in
-      record { leads = λ n. Steps.passed (Steps.takes-broken x.expr.ensures c.before.match2.keys2) (assigned n x.before.before.before) }
+      record { leads = λ n. Steps.passed (Steps.takes_broken x.expr.ensures c.before.match2.keys2) (assigned n x.before.before.before) }
 
-  returns-3 : lts.Need-returns-3 (K t) (P t) Post
+  returns_3 : lts.Need-returns-3 (K t) (P t) Post
   unfolding entry payload
-  returns-3 c = let x = c.before.before in record { leads = λ n. Steps.ends (lit≤ tt) (Steps.closed 6 (lit≤ tt) x.put-bind.ensures (value n x.before.before.before)) }
+  returns_3 c = let x = c.before.before in record { leads = λ n. Steps.ends (lit≤ tt) (Steps.closed 6 (lit≤ tt) x.put-bind.ensures (value n x.before.before.before)) }
 
   -- All of them, in the order of the code.
   pub met : {M : Type 1} → lts.Closed (K t) (P t) Post M
-  met = lts.spec (K t) (P t) Post (λ c κs. search rules) (λ c. search rules) (λ c. search rules) returns expr-requires (λ c. search rules) (λ c. search rules) (λ c. search rules) returns-2
-      put-bind-requires (λ c. search rules) returns-3
+  met = lts.spec (K t) (P t) Post (λ c κs. search rules) (λ c. search rules) (λ c. search rules) returns expr_requires (λ c. search rules) (λ c. search rules) (λ c. search rules) returns_2
+      put_bind_requires (λ c. search rules) returns_3

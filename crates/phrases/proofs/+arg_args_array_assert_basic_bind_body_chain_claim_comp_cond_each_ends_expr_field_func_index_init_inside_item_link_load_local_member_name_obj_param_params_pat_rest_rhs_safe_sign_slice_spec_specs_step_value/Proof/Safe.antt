@@ -9,10 +9,10 @@ use borrow.Author.Tests.{ne_eqb}
 use Rattle.leaves.proofs.Steps
 use Rattle.phrases.proofs.safe.Reads.{Post}
 use Rattle.phrases.proofs.+arg_args_array_assert_basic_bind_body_chain_claim_comp_cond_each_ends_expr_field_func_index_init_inside_item_link_load_local_member_name_obj_param_params_pat_rest_rhs_safe_sign_slice_spec_specs_step_value.Lts-safe as lts
-use Rattle.phrases.proofs.+arg_args_array_assert_basic_bind_body_chain_claim_comp_cond_each_ends_expr_field_func_index_init_inside_item_link_load_local_member_name_obj_param_params_pat_rest_rhs_safe_sign_slice_spec_specs_step_value.Proof.Frame.{safe-claims as K, safe_at as P}
+use Rattle.phrases.proofs.+arg_args_array_assert_basic_bind_body_chain_claim_comp_cond_each_ends_expr_field_func_index_init_inside_item_link_load_local_member_name_obj_param_params_pat_rest_rhs_safe_sign_slice_spec_specs_step_value.Proof.Frame.{safe_claims as K, safe_at as P}
 use Rattle.grammar.specs.Image.{entry, payload}
 use Rattle.grammar.specs.Trees.{byte, span}
-use Rattle.grammar.specs.Productions.{Body, goto, eat, close, ◌▸◌, rule, expression, suffix, null-safe, null-safe-index, null-safe-end, member-name}
+use Rattle.grammar.specs.Productions.{Body, goto, eat, close, ◌▸◌, rule, expression, suffix, null_safe, null_safe_index, null_safe_end, member_name}
 use Rattle.grammar.specs.Reading.{choose, has}
 use Rattle.leaves.specs.Meets.{state, Seg, safely}
 use Rattle.leaves.specs.declared.Cursor.{Cursor}
@@ -27,7 +27,7 @@ module _ (t : ℕ) where
   abbrev a₀ : lts.After-a (K t) (P t) Post → lts.Start (K t) (P t) Post
   a₀ c = c.before.before.before.before.before
 
-  dotted : (c : lts.After-a (K t) (P t) Post) → So (a₀ c) 1 (goto (null-safe (a₀ c).args.first)) 1 c.a.given.0.0 c.a.given.0.1.0 (a₀ c).args.out.now
+  dotted : (c : lts.After-a (K t) (P t) Post) → So (a₀ c) 1 (goto (null_safe (a₀ c).args.first)) 1 c.a.given.0.0 c.a.given.0.1.0 (a₀ c).args.out.now
   dotted c = Steps.ate c.before.before.eat.ensures c.a.given.1 Steps.here
 
   -- ── `[` e `]` ───────────────────────────────────────────────────────────────────────────────────
@@ -38,12 +38,12 @@ module _ (t : ℕ) where
   a₁ c = a₀ (c₁ c)
 
   opened : (c : lts.After-eat-any (K t) (P t) Post) → let i = c.eat-any.result in
-      So (a₁ c) 2 (expression ▸ goto (null-safe-end (a₁ c).args.first i.start)) 1 i (c₁ c).a.given.0.1.0 (a₁ c).args.out.now
+      So (a₁ c) 2 (expression ▸ goto (null_safe_end (a₁ c).args.first i.start)) 1 i (c₁ c).a.given.0.1.0 (a₁ c).args.out.now
   unfolding rule choose has sight
   opened c =
       let f = (a₁ c).args.first in let st = (dotted (c₁ c)).stands (a₁ c).requires.1.0.stands in let bracket = c.before.if1.false in
-      Steps.known (expression ▸ goto (null-safe-end f c.eat-any.result.start)) c.eat-any.ensures.stands refl (λ xs t. refl)
-      (Steps.taken (lit< tt) st c.eat-any.ensures bracket (Steps.known (eat 23 ▸ goto (null-safe-index f)) st bracket (λ xs t. refl) (dotted (c₁ c))))
+      Steps.known (expression ▸ goto (null_safe_end f c.eat-any.result.start)) c.eat-any.ensures.stands refl (λ xs t. refl)
+      (Steps.taken (lit< tt) st c.eat-any.ensures bracket (Steps.known (eat 23 ▸ goto (null_safe_index f)) st bracket (λ xs t. refl) (dotted (c₁ c))))
 
   abbrev c₂ : lts.After-b (K t) (P t) Post → lts.After-expr (K t) (P t) Post
   c₂ c = c.before.before.before.before
@@ -68,48 +68,48 @@ module _ (t : ℕ) where
   over c = Steps.ate c.before.before.eat2.ensures c.d.given.1 (read (c₄ c))
 
   -- ── What each call asks ─────────────────────────────────────────────────────────────────────────
-  member-name-requires : lts.Need-member-name-requires (K t) (P t) Post
-  member-name-requires c κs = let a = c.before.before.before.before in let p = (a₀ a).requires.1 in (Steps.ready p.0 (lit≤ tt) (dotted a), p.1)
+  member_name_requires : lts.Need-member-name-requires (K t) (P t) Post
+  member_name_requires c κs = let a = c.before.before.before.before in let p = (a₀ a).requires.1 in (Steps.ready p.0 (lit≤ tt) (dotted a), p.1)
 
-  eat-any-requires : lts.Need-eat-any-requires (K t) (P t) Post
-  eat-any-requires c κs = let a = c.before.before.before in (dotted a).stands (a₀ a).requires.1.0.stands
+  eat_any_requires : lts.Need-eat-any-requires (K t) (P t) Post
+  eat_any_requires c κs = let a = c.before.before.before in (dotted a).stands (a₀ a).requires.1.0.stands
 
-  expr-requires : lts.Need-expr-requires (K t) (P t) Post
-  expr-requires c κs = let i = c.before in let p = (a₁ i).requires in (omega (arith, p.0), Steps.ready p.1.0 (lit≤ tt) (opened i))
+  expr_requires : lts.Need-expr-requires (K t) (P t) Post
+  expr_requires c κs = let i = c.before in let p = (a₁ i).requires in (omega (arith, p.0), Steps.ready p.1.0 (lit≤ tt) (opened i))
 
-  eat-requires-2 : lts.Need-eat-requires-2 (K t) (P t) Post
-  eat-requires-2 c κs = let b = c.before in (lit< tt, (read b).stands (a₁ (c₃ b)).pre.1.0.stands)
+  eat_requires_2 : lts.Need-eat-requires-2 (K t) (P t) Post
+  eat_requires_2 c κs = let b = c.before in (lit< tt, (read b).stands (a₁ (c₃ b)).pre.1.0.stands)
 
-  put-index-requires : lts.Need-put-index-requires (K t) (P t) Post
-  put-index-requires c κs =
+  put_index_requires : lts.Need-put-index-requires (K t) (P t) Post
+  put_index_requires c κs =
       let d = c.before.before in let b = c₄ d in let p = (a₁ (c₃ b)).pre.1 in
       let i = Steps.ready p.0 (lit≤ tt) (opened (c₃ b)) in
       (Steps.fits p.0 (lit≤ tt) (over d), (within i).0, omega (arith, ((read b).stands p.0.stands).within, p.0.stands.short), p.1)
 
   -- ── What each return owes ───────────────────────────────────────────────────────────────────────
   returns : lts.Need-returns (K t) (P t) Post
-  returns c = Steps.passed-telling (Steps.eats-broken c.before.before.eat.ensures c.before.match.keys2) Steps.here
+  returns c = Steps.passed_telling (Steps.eats_broken c.before.before.eat.ensures c.before.match.keys2) Steps.here
 
-  returns-2 : lts.Need-returns-2 (K t) (P t) Post
+  returns_2 : lts.Need-returns-2 (K t) (P t) Post
   unfolding rule choose has sight
-  returns-2 c =
-      let x = c.before.before in let no-bracket = x.before.before in let a = no-bracket.before.before.before in let y = (a₀ a).args in
+  returns_2 c =
+      let x = c.before.before in let no_bracket = x.before.before in let a = no_bracket.before.before.before in let y = (a₀ a).args in
       let st = (dotted a).stands (a₀ a).requires.1.0.stands in
-      Steps.tail-telling (lit≤ tt) (x.member-name.ensures.tells y.set y.left)
-      (Steps.known (goto (member-name y.first 1)) st refl (λ xs t. simp (ne_eqb _ 23 no-bracket.if1.true)) (dotted a))
+      Steps.tail_telling (lit≤ tt) (x.member_name.ensures.tells y.set y.left)
+      (Steps.known (goto (member_name y.first 1)) st refl (λ xs t. simp (ne_eqb _ 23 no_bracket.if1.true)) (dotted a))
 
-  returns-3 : lts.Need-returns-3 (K t) (P t) Post
-  returns-3 c = let x = c.before.before.before.before in Steps.passed-telling (Steps.takes-broken x.expr.ensures c.before.match2.keys2) (opened x.before.before)
+  returns_3 : lts.Need-returns-3 (K t) (P t) Post
+  returns_3 c = let x = c.before.before.before.before in Steps.passed_telling (Steps.takes_broken x.expr.ensures c.before.match2.keys2) (opened x.before.before)
 
-  returns-4 : lts.Need-returns-4 (K t) (P t) Post
-  returns-4 c = let x = c.before.before in Steps.passed-telling (Steps.eats-broken x.eat2.ensures c.before.match3.keys2) (read x.before.before)
+  returns_4 : lts.Need-returns-4 (K t) (P t) Post
+  returns_4 c = let x = c.before.before in Steps.passed_telling (Steps.eats_broken x.eat2.ensures c.before.match3.keys2) (read x.before.before)
 
-  returns-5 : lts.Need-returns-5 (K t) (P t) Post
+  returns_5 : lts.Need-returns-5 (K t) (P t) Post
   unfolding entry payload
-  returns-5 c = let x = c.before.before in Steps.says_on (lit≤ tt) (lit≤ tt) (Steps.closed 9 (lit≤ tt) x.put-index.ensures (over x.before.before.before))
+  returns_5 c = let x = c.before.before in Steps.says_on (lit≤ tt) (lit≤ tt) (Steps.closed 9 (lit≤ tt) x.put-index.ensures (over x.before.before.before))
 
   -- All of them, in the order of the code.
   pub met : {M : Type 1} → lts.Closed (K t) (P t) Post M
-  met = lts.spec (K t) (P t) Post (λ c κs. search rules) (λ c. search rules) (λ c. search rules) returns member-name-requires (λ c. search rules) returns-2 eat-any-requires expr-requires
-      (λ c. search rules) (λ c. search rules) (λ c. search rules) returns-3 eat-requires-2 (λ c. search rules) (λ c. search rules) (λ c. search rules) returns-4 put-index-requires
-      (λ c. search rules) returns-5
+  met = lts.spec (K t) (P t) Post (λ c κs. search rules) (λ c. search rules) (λ c. search rules) returns member_name_requires (λ c. search rules) returns_2 eat_any_requires expr_requires
+      (λ c. search rules) (λ c. search rules) (λ c. search rules) returns_3 eat_requires_2 (λ c. search rules) (λ c. search rules) (λ c. search rules) returns_4 put_index_requires
+      (λ c. search rules) returns_5

@@ -9,9 +9,9 @@ use borrow.Author.Tests.{ne_eqb}
 use Rattle.leaves.proofs.Steps
 use Rattle.phrases.proofs.slice.Reads.{Post}
 use Rattle.phrases.proofs.+arg_args_array_assert_basic_bind_body_chain_claim_comp_cond_each_ends_expr_field_func_index_init_inside_item_link_load_local_member_name_obj_param_params_pat_rest_rhs_safe_sign_slice_spec_specs_step_value.Lts-slice as lts
-use Rattle.phrases.proofs.+arg_args_array_assert_basic_bind_body_chain_claim_comp_cond_each_ends_expr_field_func_index_init_inside_item_link_load_local_member_name_obj_param_params_pat_rest_rhs_safe_sign_slice_spec_specs_step_value.Proof.Frame.{slice-claims as K, slice_at as P}
+use Rattle.phrases.proofs.+arg_args_array_assert_basic_bind_body_chain_claim_comp_cond_each_ends_expr_field_func_index_init_inside_item_link_load_local_member_name_obj_param_params_pat_rest_rhs_safe_sign_slice_spec_specs_step_value.Proof.Frame.{slice_claims as K, slice_at as P}
 use Rattle.grammar.specs.Trees.{span}
-use Rattle.grammar.specs.Productions.{Body, goto, eat, ◌▸◌, rule, expression, slice-end, slice-ended, slice-step}
+use Rattle.grammar.specs.Productions.{Body, goto, eat, ◌▸◌, rule, expression, slice_end, slice_ended, slice_step}
 use Rattle.grammar.specs.Reading.{choose, has}
 use Rattle.leaves.specs.Meets.{state, Seg, sliced}
 use Rattle.leaves.specs.declared.Cursor.{Cursor}
@@ -21,24 +21,24 @@ use Rattle.leaves.proofs.LeafLaws.{within}
 module _ (t : ℕ) where
   -- a stretch from the start with n trees, of which e bytes are taken, to a body with m trees
   abbrev So : lts.Start (K t) (P t) Post → ℕ → ℕ → Body → ℕ → Cursor → ℕ → List ℕ → Type 0
-  So a n e b m c w o = let x = a.args in Seg x.set x.src.now x.left (state (goto (slice-end x.parts x.x.start x.x.end)) n x.c x.w x.out.now) e 0 (state b m c w o)
+  So a n e b m c w o = let x = a.args in Seg x.set x.src.now x.left (state (goto (slice_end x.parts x.x.start x.x.end)) n x.c x.w x.out.now) e 0 (state b m c w o)
 
   -- ── `:` without an end ──────────────────────────────────────────────────────────────────────────
   abbrev a₀ : lts.After-eat-any (K t) (P t) Post → lts.Start (K t) (P t) Post
   a₀ c = c.before.before.before.before.before.before
 
   endless : (n : ℕ) (c : lts.After-eat-any (K t) (P t) Post) → let x = (a₀ c).args in
-      So (a₀ c) n 1 (goto (slice-step x.parts x.x.start x.x.end 0 0)) n c.eat-any.result x.w x.out.now
+      So (a₀ c) n 1 (goto (slice_step x.parts x.x.start x.x.end 0 0)) n c.eat-any.result x.w x.out.now
   unfolding rule choose has sight
   endless n c =
       let x = (a₀ c).args in let st = (a₀ c).requires.1.0.stands in let colon = c.before.before.if1.true in
       Steps.taken (lit< tt) st c.eat-any.ensures colon
-      (Steps.known (eat 29 ▸ goto (slice-step x.parts x.x.start x.x.end 0 0)) st colon (λ xs t. refl) Steps.here)
+      (Steps.known (eat 29 ▸ goto (slice_step x.parts x.x.start x.x.end 0 0)) st colon (λ xs t. refl) Steps.here)
 
   -- ── The end ─────────────────────────────────────────────────────────────────────────────────────
   -- what comes after the end's expression
   abbrev tail : lts.Start (K t) (P t) Post → Body
-  tail a = let x = a.args in goto (slice-ended x.parts x.x.start x.x.end x.c.start)
+  tail a = let x = a.args in goto (slice_ended x.parts x.x.start x.x.end x.c.start)
 
   abbrev a₁ : lts.Else2 (K t) (P t) Post → lts.Start (K t) (P t) Post
   a₁ c = c.before.before.before.before.before.before
@@ -62,7 +62,7 @@ module _ (t : ℕ) where
 
   -- what comes after that
   abbrev on : lts.After-a (K t) (P t) Post → Body
-  on c = let x = (a₂ c).args in goto (slice-step (x.parts + 2) x.x.start x.x.end x.c.start c.a.given.0.0.at)
+  on c = let x = (a₂ c).args in goto (slice_step (x.parts + 2) x.x.start x.x.end x.c.start c.a.given.0.0.at)
 
   ended : (n : ℕ) (c : lts.After-eat-any2 (K t) (P t) Post) → let a = c₂ c in
       So (a₂ a) n 1 (on a) (n + 1) c.eat-any2.result a.a.given.0.1.0 (c₁ a).expr.last.1.0
@@ -72,65 +72,65 @@ module _ (t : ℕ) where
       Steps.taken (lit< tt) st c.eat-any2.ensures colon (Steps.known (eat 29 ▸ on a) st colon (λ xs t. refl) (read n a))
 
   -- ── What each call asks ─────────────────────────────────────────────────────────────────────────
-  step-requires : lts.Need-step-requires (K t) (P t) Post
-  step-requires c κs = let p = (a₀ c).requires.1 in (omega (arith, (a₀ c).requires.0), (Steps.ready p.0 (lit≤ tt) (endless 0 c), omega (arith, p.1), p.2, p.3, lit< tt, lit< tt))
+  step_requires : lts.Need-step-requires (K t) (P t) Post
+  step_requires c κs = let p = (a₀ c).requires.1 in (omega (arith, (a₀ c).requires.0), (Steps.ready p.0 (lit≤ tt) (endless 0 c), omega (arith, p.1), p.2, p.3, lit< tt, lit< tt))
 
-  expr-requires : lts.Need-expr-requires (K t) (P t) Post
-  expr-requires c κs = let p = (a₁ c.before).pre in (omega (arith, p.0), p.1.0)
+  expr_requires : lts.Need-expr-requires (K t) (P t) Post
+  expr_requires c κs = let p = (a₁ c.before).pre in (omega (arith, p.0), p.1.0)
 
-  eat-any-requires-2 : lts.Need-eat-any-requires-2 (K t) (P t) Post
-  eat-any-requires-2 c κs = let a = c.before.before.before.before in (read 0 a).stands (a₂ a).requires.1.0.stands
+  eat_any_requires_2 : lts.Need-eat-any-requires-2 (K t) (P t) Post
+  eat_any_requires_2 c κs = let a = c.before.before.before.before in (read 0 a).stands (a₂ a).requires.1.0.stands
 
   add_step : lts.Need-overflow-add-step (K t) (P t) Post
   add_step c = omega (arith, (a₂ (c₂ c)).pre.1.1)
 
-  step-requires-2 : lts.Need-step-requires-2 (K t) (P t) Post
-  step-requires-2 c κs =
+  step_requires_2 : lts.Need-step-requires-2 (K t) (P t) Post
+  step_requires_2 c κs =
       let a = c₂ c in let p = (a₂ a).pre.1 in let st = (read 0 a).stands p.0.stands in
       let r = Steps.ready p.0 (lit≤ tt) (ended 0 c) in
       (omega (arith, (a₂ a).pre.0), (r, omega (arith, p.1), p.2, p.3, (within p.0).0, omega (arith, st.within, r.stands.short)))
 
-  add-slice-close : lts.Need-overflow-add-slice-close (K t) (P t) Post
-  add-slice-close c = omega (arith, (a₂ c.before.before.before.before).pre.1.1)
+  add_slice_close : lts.Need-overflow-add-slice-close (K t) (P t) Post
+  add_slice_close c = omega (arith, (a₂ c.before.before.before.before).pre.1.1)
 
-  slice-close-requires-2 : lts.Need-slice-close-requires-2 (K t) (P t) Post
-  slice-close-requires-2 c κs =
+  slice_close_requires_2 : lts.Need-slice-close-requires-2 (K t) (P t) Post
+  slice_close_requires_2 c κs =
       let a = c.before.before.before.before in let p = (a₂ a).requires.1 in
       let r = Steps.ready p.0 (lit≤ tt) (read 0 a) in
       (r, p.2, p.3, (within p.0).0, omega (arith, r.stands.within, r.stands.short), lit< tt, lit< tt)
 
   -- ── What each return owes ───────────────────────────────────────────────────────────────────────
   returns : lts.Need-returns (K t) (P t) Post
-  returns c = let x = c.before.before in record { tells = λ n. Steps.tail-telling (lit≤ tt) (x.step.ensures.tells n) (endless n x.before) }
+  returns c = let x = c.before.before in record { tells = λ n. Steps.tail_telling (lit≤ tt) (x.step.ensures.tells n) (endless n x.before) }
 
-  returns-2 : lts.Need-returns-2 (K t) (P t) Post
+  returns_2 : lts.Need-returns-2 (K t) (P t) Post
   unfolding rule choose has sight
-  returns-2 c =
+  returns_2 c =
       let x = c.before.before in let bracket = x.before.before in let a = bracket.before.before.before.before.before.before in
       let y = a.args in
       record {
-        tells = λ n. Steps.tail-telling (lit≤ tt) (x.slice-close.ensures.tells y.set y.left n)
+        tells = λ n. Steps.tail_telling (lit≤ tt) (x.slice-close.ensures.tells y.set y.left n)
             (Steps.known (sliced y.parts (span y.x.start y.x.end) (span 0 0) (span 0 0)) a.requires.1.0.stands bracket.if2.true (λ xs t. refl) Steps.here);
       }
 
-  returns-3 : lts.Need-returns-3 (K t) (P t) Post
-  returns-3 c = let x = c.before.before.before.before in record { tells = λ n. Steps.passed-telling (Steps.takes-broken x.expr.ensures c.before.match.keys2) (one n x.before.before) }
+  returns_3 : lts.Need-returns-3 (K t) (P t) Post
+  returns_3 c = let x = c.before.before.before.before in record { tells = λ n. Steps.passed_telling (Steps.takes_broken x.expr.ensures c.before.match.keys2) (one n x.before.before) }
 
-  returns-4 : lts.Need-returns-4 (K t) (P t) Post
-  returns-4 c = let x = c.before.before in record { tells = λ n. Steps.tail-telling (lit≤ tt) (x.step2.ensures.tells (n + 1)) (ended n x.before) }
+  returns_4 : lts.Need-returns-4 (K t) (P t) Post
+  returns_4 c = let x = c.before.before in record { tells = λ n. Steps.tail_telling (lit≤ tt) (x.step2.ensures.tells (n + 1)) (ended n x.before) }
 
-  returns-5 : lts.Need-returns-5 (K t) (P t) Post
+  returns_5 : lts.Need-returns-5 (K t) (P t) Post
   unfolding rule choose has sight
-  returns-5 c =
-      let x = c.before.before in let no-colon = x.before.before in let a = no-colon.before.before.before in let y = (a₂ a).args in
+  returns_5 c =
+      let x = c.before.before in let no_colon = x.before.before in let a = no_colon.before.before.before in let y = (a₂ a).args in
       let whole = sliced (y.parts + 2) (span y.x.start y.x.end) (span y.c.start a.a.given.0.0.at) (span 0 0) in
       record {
-        tells = λ n. Steps.tail-telling (lit≤ tt) (x.slice-close2.ensures.tells y.set y.left (n + 1))
-            (Steps.known whole ((read n a).stands (a₂ a).requires.1.0.stands) refl (λ xs t. simp (ne_eqb _ 29 no-colon.if3.false)) (read n a));
+        tells = λ n. Steps.tail_telling (lit≤ tt) (x.slice-close2.ensures.tells y.set y.left (n + 1))
+            (Steps.known whole ((read n a).stands (a₂ a).requires.1.0.stands) refl (λ xs t. simp (ne_eqb _ 29 no_colon.if3.false)) (read n a));
       }
 
   -- All of them, in the order of the code.
   pub met : {M : Type 1} → lts.Closed (K t) (P t) Post M
-  met = lts.spec (K t) (P t) Post (λ c κs. search rules) step-requires (λ c. search rules) returns (λ c κs. search rules) (λ c. search rules) returns-2 expr-requires (λ c. search rules)
-      (λ c. search rules) (λ c. search rules) returns-3 eat-any-requires-2 add_step step-requires-2 (λ c. search rules) returns-4 add-slice-close slice-close-requires-2 (λ c. search rules)
-      returns-5
+  met = lts.spec (K t) (P t) Post (λ c κs. search rules) step_requires (λ c. search rules) returns (λ c κs. search rules) (λ c. search rules) returns_2 expr_requires (λ c. search rules)
+      (λ c. search rules) (λ c. search rules) returns_3 eat_any_requires_2 add_step step_requires_2 (λ c. search rules) returns_4 add_slice_close slice_close_requires_2 (λ c. search rules)
+      returns_5

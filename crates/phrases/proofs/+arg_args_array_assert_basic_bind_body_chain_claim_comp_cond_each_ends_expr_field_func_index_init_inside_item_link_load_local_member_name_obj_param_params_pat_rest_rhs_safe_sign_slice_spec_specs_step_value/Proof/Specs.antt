@@ -10,136 +10,136 @@ use borrow.Author.Tests.{ne_eqb}
 use Rattle.leaves.proofs.Steps
 use Rattle.phrases.proofs.specs.Reads.{Post}
 use Rattle.phrases.proofs.+arg_args_array_assert_basic_bind_body_chain_claim_comp_cond_each_ends_expr_field_func_index_init_inside_item_link_load_local_member_name_obj_param_params_pat_rest_rhs_safe_sign_slice_spec_specs_step_value.Lts-specs as lts
-use Rattle.phrases.proofs.+arg_args_array_assert_basic_bind_body_chain_claim_comp_cond_each_ends_expr_field_func_index_init_inside_item_link_load_local_member_name_obj_param_params_pat_rest_rhs_safe_sign_slice_spec_specs_step_value.Proof.Frame.{specs-claims as K, specs-at as P}
-use Rattle.phrases.proofs.CountLaws.{counts-on, passed-counting}
-use Rattle.grammar.specs.Productions.{Body, goto, end, eat, sub, ◌▸◌, rule, expression, clauses, more-clauses, for-clause, if-clause}
+use Rattle.phrases.proofs.+arg_args_array_assert_basic_bind_body_chain_claim_comp_cond_each_ends_expr_field_func_index_init_inside_item_link_load_local_member_name_obj_param_params_pat_rest_rhs_safe_sign_slice_spec_specs_step_value.Proof.Frame.{specs_claims as K, specs_at as P}
+use Rattle.phrases.proofs.CountLaws.{counts_on, passed_counting}
+use Rattle.grammar.specs.Productions.{Body, goto, end, eat, sub, ◌▸◌, rule, expression, clauses, more_clauses, for_clause, if_clause}
 use Rattle.grammar.specs.Reading.{choose, has}
 use Rattle.leaves.specs.Meets.{state, Seg}
 use Rattle.leaves.specs.declared.Cursor.{Cursor}
 use Rattle.leaves.proofs.LeafLaws.{within}
 use Rattle.leaves.proofs.LexemeLaws.{sight}
-use Rattle.phrases.proofs.ClauseLaws.{clauses-begin, if-read, if-broken}
+use Rattle.phrases.proofs.ClauseLaws.{clauses_begin, if_read, if_broken}
 
 abbrev pub Inv-loop : lts.invariant-loop
-Inv-loop src out₀ w left set cur₀ at₀ n₀ out cur at n = Steps.Turns set src left (goto clauses) 0 cur₀ at₀ out₀ (goto more-clauses) n cur at out × (cur₀.at + n ≤ cur.at)
+Inv-loop src out₀ w left set cur₀ at₀ n₀ out cur at n = Steps.Turns set src left (goto clauses) 0 cur₀ at₀ out₀ (goto more_clauses) n cur at out × (cur₀.at + n ≤ cur.at)
 
-abbrev pub μ-loop : lts.decreases-loop
-μ-loop src out₀ w left set cur₀ at₀ n₀ out cur at n = length src - cur.at
+abbrev pub μ_loop : lts.decreases-loop
+μ_loop src out₀ w left set cur₀ at₀ n₀ out cur at n = length src - cur.at
 
 module _ (t : ℕ) where
   abbrev Turn : Type 0
-  Turn = lts.At-loop (K t) (P t) Post Inv-loop μ-loop
+  Turn = lts.At-loop (K t) (P t) Post Inv-loop μ_loop
 
-  abbrev a₀ : Turn → lts.Start (K t) (P t) Post Inv-loop μ-loop
+  abbrev a₀ : Turn → lts.Start (K t) (P t) Post Inv-loop μ_loop
   a₀ l = l.before.before.before
 
   -- a stretch of one turn over its keyword, of whose bytes v are owed
   abbrev So : Turn → ℕ → Body → ℕ → Cursor → ℕ → List ℕ → Type 0
-  So l v b n c w o = let a = (a₀ l).args in Seg a.set a.src.now a.left (state (goto more-clauses) l.loop.n l.loop.cur l.loop.at l.loop.out) 1 v (state b n c w o)
+  So l v b n c w o = let a = (a₀ l).args in Seg a.set a.src.now a.left (state (goto more_clauses) l.loop.n l.loop.cur l.loop.at l.loop.out) 1 v (state b n c w o)
 
   -- ── A `for` clause ──────────────────────────────────────────────────────────────────────────────
-  abbrev l₁ : lts.After-eat-any (K t) (P t) Post Inv-loop μ-loop → Turn
+  abbrev l₁ : lts.After-eat-any (K t) (P t) Post Inv-loop μ_loop → Turn
   l₁ c = c.before.before.before.before
 
-  past-for : (c : lts.After-eat-any (K t) (P t) Post Inv-loop μ-loop)
-      → let l = (l₁ c).loop in So (l₁ c) 0 (sub for-clause ▸ goto more-clauses) l.n c.eat-any.result l.at l.out
+  past_for : (c : lts.After-eat-any (K t) (P t) Post Inv-loop μ_loop)
+      → let l = (l₁ c).loop in So (l₁ c) 0 (sub for_clause ▸ goto more_clauses) l.n c.eat-any.result l.at l.out
   unfolding rule choose has sight
-  past-for c =
-      let st = (l₁ c).loop.invariant.0.ok.stands in let at-for = c.before.before.if1.true in
-      Steps.taken (lit< tt) st c.eat-any.ensures at-for (Steps.known (eat 83 ▸ sub for-clause ▸ goto more-clauses) st at-for (λ xs t. refl) Steps.here)
+  past_for c =
+      let st = (l₁ c).loop.invariant.0.ok.stands in let at_for = c.before.before.if1.true in
+      Steps.taken (lit< tt) st c.eat-any.ensures at_for (Steps.known (eat 83 ▸ sub for_clause ▸ goto more_clauses) st at_for (λ xs t. refl) Steps.here)
 
-  abbrev l₂ : lts.After-a (K t) (P t) Post Inv-loop μ-loop → lts.After-spec (K t) (P t) Post Inv-loop μ-loop
+  abbrev l₂ : lts.After-a (K t) (P t) Post Inv-loop μ_loop → lts.After-spec (K t) (P t) Post Inv-loop μ_loop
   l₂ c = c.before.before.before.before
 
-  abbrev l₃ : lts.After-a (K t) (P t) Post Inv-loop μ-loop → Turn
+  abbrev l₃ : lts.After-a (K t) (P t) Post Inv-loop μ_loop → Turn
   l₃ c = l₁ (l₂ c).before
 
-  over-for : (c : lts.After-a (K t) (P t) Post Inv-loop μ-loop)
-      → So (l₃ c) 0 (goto more-clauses) ((l₃ c).loop.n + 1) c.a.given.0.0 c.a.given.0.1.0 (l₂ c).spec.new.1.0
-  over-for c = Steps.took (l₂ c).spec.ensures c.a.given.1 (past-for (l₂ c).before)
+  over_for : (c : lts.After-a (K t) (P t) Post Inv-loop μ_loop)
+      → So (l₃ c) 0 (goto more_clauses) ((l₃ c).loop.n + 1) c.a.given.0.0 c.a.given.0.1.0 (l₂ c).spec.new.1.0
+  over_for c = Steps.took (l₂ c).spec.ensures c.a.given.1 (past_for (l₂ c).before)
 
   -- ── An `if` clause ──────────────────────────────────────────────────────────────────────────────
-  abbrev l₄ : lts.After-eat-any2 (K t) (P t) Post Inv-loop μ-loop → Turn
+  abbrev l₄ : lts.After-eat-any2 (K t) (P t) Post Inv-loop μ_loop → Turn
   l₄ c = c.before.before.before.before.before.before
 
   -- the phrase after the keyword, with the keyword's range
   abbrev test : Turn → Body
-  test l = sub (if-clause l.loop.cur.start l.loop.cur.end) ▸ goto more-clauses
+  test l = sub (if_clause l.loop.cur.start l.loop.cur.end) ▸ goto more_clauses
 
-  past-if : (c : lts.After-eat-any2 (K t) (P t) Post Inv-loop μ-loop) → let l = (l₄ c).loop in So (l₄ c) 0 (test (l₄ c)) l.n c.eat-any2.result l.at l.out
+  past_if : (c : lts.After-eat-any2 (K t) (P t) Post Inv-loop μ_loop) → let l = (l₄ c).loop in So (l₄ c) 0 (test (l₄ c)) l.n c.eat-any2.result l.at l.out
   unfolding rule choose has sight
-  past-if c =
+  past_if c =
       let st = (l₄ c).loop.invariant.0.ok.stands in let at-if = c.before.before.if2.false in
       Steps.taken (lit< tt) st c.eat-any2.ensures at-if (Steps.known (eat 71 ▸ test (l₄ c)) st at-if (λ xs t. refl) Steps.here)
 
-  abbrev l₅ : lts.After-b (K t) (P t) Post Inv-loop μ-loop → lts.After-expr (K t) (P t) Post Inv-loop μ-loop
+  abbrev l₅ : lts.After-b (K t) (P t) Post Inv-loop μ_loop → lts.After-expr (K t) (P t) Post Inv-loop μ_loop
   l₅ c = c.before.before.before.before
 
-  abbrev l₆ : lts.After-put-mark (K t) (P t) Post Inv-loop μ-loop → lts.After-b (K t) (P t) Post Inv-loop μ-loop
+  abbrev l₆ : lts.After-put-mark (K t) (P t) Post Inv-loop μ_loop → lts.After-b (K t) (P t) Post Inv-loop μ_loop
   l₆ c = c.before.before.before
 
-  abbrev l₇ : lts.After-put-mark (K t) (P t) Post Inv-loop μ-loop → Turn
+  abbrev l₇ : lts.After-put-mark (K t) (P t) Post Inv-loop μ_loop → Turn
   l₇ c = l₄ (l₅ (l₆ c)).before
 
-  over-if : (c : lts.After-put-mark (K t) (P t) Post Inv-loop μ-loop)
-      → So (l₇ c) 7 (goto more-clauses) ((l₇ c).loop.n + 1) (l₆ c).b.given.0.0 c.put-mark.result c.put-mark.new.0
-  over-if c =
+  over_if : (c : lts.After-put-mark (K t) (P t) Post Inv-loop μ_loop)
+      → So (l₇ c) 7 (goto more_clauses) ((l₇ c).loop.n + 1) (l₆ c).b.given.0.0 c.put-mark.result c.put-mark.new.0
+  over_if c =
       let b = l₆ c in let x = l₅ b in let k = (l₇ c).loop.cur in
-      Steps.took-owing (if-read k.start k.end x.before.eat-any2.ensures.stands x.expr.ensures b.b.given.1 c.put-mark.ensures) refl (past-if x.before)
+      Steps.took_owing (if_read k.start k.end x.before.eat-any2.ensures.stands x.expr.ensures b.b.given.1 c.put-mark.ensures) refl (past_if x.before)
 
   -- ── The loop, and what each call asks ───────────────────────────────────────────────────────────
-  loop-holds : lts.Need-loop-init (K t) (P t) Post Inv-loop μ-loop
-  loop-holds c = let p = c.before.before.requires.1 in (record { ok = p.0; seg = clauses-begin p.0.stands p.1 Steps.here; same = refl }, omega arith)
+  loop_holds : lts.Need-loop-init (K t) (P t) Post Inv-loop μ_loop
+  loop_holds c = let p = c.before.before.requires.1 in (record { ok = p.0; seg = clauses_begin p.0.stands p.1 Steps.here; same = refl }, omega arith)
 
-  spec-requires : lts.Need-spec-requires (K t) (P t) Post Inv-loop μ-loop
-  spec-requires c κs = let l = l₁ c in (omega (arith, (a₀ l).pre.0), Steps.ready l.loop.inv.0.ok (lit≤ tt) (past-for c))
+  spec_requires : lts.Need-spec-requires (K t) (P t) Post Inv-loop μ_loop
+  spec_requires c κs = let l = l₁ c in (omega (arith, (a₀ l).pre.0), Steps.ready l.loop.inv.0.ok (lit≤ tt) (past_for c))
 
-  add-n : lts.Need-overflow-add-n (K t) (P t) Post Inv-loop μ-loop
-  add-n c = let i = (l₃ c.before).loop.inv in record { fits = omega (arith, i.1, i.0.ok.stands.short, i.0.ok.stands.within) }
+  add_n : lts.Need-overflow-add-n (K t) (P t) Post Inv-loop μ_loop
+  add_n c = let i = (l₃ c.before).loop.inv in record { fits = omega (arith, i.1, i.0.ok.stands.short, i.0.ok.stands.within) }
 
-  loop-less : lts.Need-loop-smaller (K t) (P t) Post Inv-loop μ-loop
-  loop-less c = let a = c.before in Steps.closer (l₃ a).loop.invariant.0.ok (lit≤ tt) (over-for a)
+  loop_less : lts.Need-loop-smaller (K t) (P t) Post Inv-loop μ_loop
+  loop_less c = let a = c.before in Steps.closer (l₃ a).loop.invariant.0.ok (lit≤ tt) (over_for a)
 
-  loop-again : lts.Need-loop-preserved (K t) (P t) Post Inv-loop μ-loop
-  loop-again c = let a = c.before in let i = (l₃ a).loop.invariant in (Steps.turned i.0 (lit≤ tt) (over-for a), omega (arith, i.1, (over-for a).onward))
+  loop_again : lts.Need-loop-preserved (K t) (P t) Post Inv-loop μ_loop
+  loop_again c = let a = c.before in let i = (l₃ a).loop.invariant in (Steps.turned i.0 (lit≤ tt) (over_for a), omega (arith, i.1, (over_for a).onward))
 
-  expr-requires : lts.Need-expr-requires (K t) (P t) Post Inv-loop μ-loop
-  expr-requires c κs = let l = l₄ c in (omega (arith, (a₀ l).pre.0), Steps.ready l.loop.inv.0.ok (lit≤ tt) (past-if c))
+  expr_requires : lts.Need-expr-requires (K t) (P t) Post Inv-loop μ_loop
+  expr_requires c κs = let l = l₄ c in (omega (arith, (a₀ l).pre.0), Steps.ready l.loop.inv.0.ok (lit≤ tt) (past_if c))
 
-  put-mark-requires : lts.Need-put-mark-requires (K t) (P t) Post Inv-loop μ-loop
-  put-mark-requires c κs =
+  put_mark_requires : lts.Need-put-mark-requires (K t) (P t) Post Inv-loop μ_loop
+  put_mark_requires c κs =
       let b = c.before.before in let x = l₅ b in let l = l₄ x.before in let a = (a₀ l).args in let ok = l.loop.inv.0.ok in
       let here = Steps.at a.set a.src.now a.left (expression ▸ end) 0 x.before.eat-any2.result l.loop.at l.loop.out in
-      (Steps.fits (Steps.ready ok (lit≤ tt) (past-if x.before)) (lit≤ tt) (Steps.took x.expr.ensures b.b.given.1 here), (within ok).0, (within ok).1)
+      (Steps.fits (Steps.ready ok (lit≤ tt) (past_if x.before)) (lit≤ tt) (Steps.took x.expr.ensures b.b.given.1 here), (within ok).0, (within ok).1)
 
-  add-n-2 : lts.Need-overflow-add-n-2 (K t) (P t) Post Inv-loop μ-loop
-  add-n-2 c = let i = (l₇ c.before.before).loop.inv in record { fits = omega (arith, i.1, i.0.ok.stands.short, i.0.ok.stands.within) }
+  add_n_2 : lts.Need-overflow-add-n-2 (K t) (P t) Post Inv-loop μ_loop
+  add_n_2 c = let i = (l₇ c.before.before).loop.inv in record { fits = omega (arith, i.1, i.0.ok.stands.short, i.0.ok.stands.within) }
 
-  loop-less-2 : lts.Need-loop-smaller-2 (K t) (P t) Post Inv-loop μ-loop
-  loop-less-2 c = let m = c.before.before in Steps.closer (l₇ m).loop.invariant.0.ok (lit≤ tt) (over-if m)
+  loop_less_2 : lts.Need-loop-smaller-2 (K t) (P t) Post Inv-loop μ_loop
+  loop_less_2 c = let m = c.before.before in Steps.closer (l₇ m).loop.invariant.0.ok (lit≤ tt) (over_if m)
 
-  loop-again-2 : lts.Need-loop-preserved-2 (K t) (P t) Post Inv-loop μ-loop
-  loop-again-2 c = let m = c.before.before in let i = (l₇ m).loop.invariant in (Steps.turned i.0 (lit≤ tt) (over-if m), omega (arith, i.1, (over-if m).onward))
+  loop_again_2 : lts.Need-loop-preserved-2 (K t) (P t) Post Inv-loop μ_loop
+  loop_again_2 c = let m = c.before.before in let i = (l₇ m).loop.invariant in (Steps.turned i.0 (lit≤ tt) (over_if m), omega (arith, i.1, (over_if m).onward))
 
   -- ── What each return owes ───────────────────────────────────────────────────────────────────────
-  returns : lts.Need-returns (K t) (P t) Post Inv-loop μ-loop
+  returns : lts.Need-returns (K t) (P t) Post Inv-loop μ_loop
   returns c =
       let x = c.before.before.before.before in
-      passed-counting (Steps.takes-broken x.spec.ensures c.before.match.keys2) (Steps.onto (l₁ x.before).loop.inv.0.seg (past-for x.before))
+      passed_counting (Steps.takes_broken x.spec.ensures c.before.match.keys2) (Steps.onto (l₁ x.before).loop.inv.0.seg (past_for x.before))
 
-  returns-2 : lts.Need-returns-2 (K t) (P t) Post Inv-loop μ-loop
+  returns_2 : lts.Need-returns-2 (K t) (P t) Post Inv-loop μ_loop
   unfolding rule choose has sight
-  returns-2 c =
+  returns_2 c =
       let no-for = c.before.before in let i = no-for.before.before.loop.invariant in
-      counts-on (lit≤ tt) i.1 (Steps.known end i.0.ok.stands refl (λ xs t. simp (ne_eqb _ 83 no-for.if1.false, ne_eqb _ 71 c.if2.true)) i.0.seg)
+      counts_on (lit≤ tt) i.1 (Steps.known end i.0.ok.stands refl (λ xs t. simp (ne_eqb _ 83 no-for.if1.false, ne_eqb _ 71 c.if2.true)) i.0.seg)
 
-  returns-3 : lts.Need-returns-3 (K t) (P t) Post Inv-loop μ-loop
-  returns-3 c =
+  returns_3 : lts.Need-returns-3 (K t) (P t) Post Inv-loop μ_loop
+  returns_3 c =
       let x = c.before.before.before.before in let broken = c.before.match2.keys2 in let l = (l₄ x.before).loop in
-      passed-counting (Steps.takes-broken (if-broken l.cur.start l.cur.end x.before.eat-any2.ensures.stands x.expr.ensures broken) broken)
-      (Steps.onto l.inv.0.seg (past-if x.before))
+      passed_counting (Steps.takes_broken (if_broken l.cur.start l.cur.end x.before.eat-any2.ensures.stands x.expr.ensures broken) broken)
+      (Steps.onto l.inv.0.seg (past_if x.before))
 
   -- All of them, in the order of the code.
   pub met : {M : Type 1} → lts.Closed (K t) (P t) Post M
-  met = lts.spec (K t) (P t) Post Inv-loop μ-loop loop-holds (λ c κs. search rules) spec-requires (λ c. search rules) (λ c. search rules) (λ c. search rules) returns add-n loop-less loop-again
-      (λ c. search rules) returns-2 (λ c κs. search rules) expr-requires (λ c. search rules) (λ c. search rules) (λ c. search rules) returns-3 put-mark-requires add-n-2 loop-less-2 loop-again-2
+  met = lts.spec (K t) (P t) Post Inv-loop μ_loop loop_holds (λ c κs. search rules) spec_requires (λ c. search rules) (λ c. search rules) (λ c. search rules) returns add_n loop_less loop_again
+      (λ c. search rules) returns_2 (λ c κs. search rules) expr_requires (λ c. search rules) (λ c. search rules) (λ c. search rules) returns_3 put_mark_requires add_n_2 loop_less_2 loop_again_2

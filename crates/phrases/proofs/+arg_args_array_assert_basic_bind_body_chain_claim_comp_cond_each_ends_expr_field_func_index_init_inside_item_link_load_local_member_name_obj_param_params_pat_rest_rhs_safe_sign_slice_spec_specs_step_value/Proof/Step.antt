@@ -9,9 +9,9 @@ use borrow.Author.Tests.{ne_eqb}
 use Rattle.leaves.proofs.Steps
 use Rattle.phrases.proofs.step.Reads.{Post}
 use Rattle.phrases.proofs.+arg_args_array_assert_basic_bind_body_chain_claim_comp_cond_each_ends_expr_field_func_index_init_inside_item_link_load_local_member_name_obj_param_params_pat_rest_rhs_safe_sign_slice_spec_specs_step_value.Lts-step as lts
-use Rattle.phrases.proofs.+arg_args_array_assert_basic_bind_body_chain_claim_comp_cond_each_ends_expr_field_func_index_init_inside_item_link_load_local_member_name_obj_param_params_pat_rest_rhs_safe_sign_slice_spec_specs_step_value.Proof.Frame.{step-claims as K, step-at as P}
+use Rattle.phrases.proofs.+arg_args_array_assert_basic_bind_body_chain_claim_comp_cond_each_ends_expr_field_func_index_init_inside_item_link_load_local_member_name_obj_param_params_pat_rest_rhs_safe_sign_slice_spec_specs_step_value.Proof.Frame.{step_claims as K, step_at as P}
 use Rattle.grammar.specs.Trees.{span}
-use Rattle.grammar.specs.Productions.{Body, goto, ◌▸◌, rule, expression, slice-step, slice-stepped}
+use Rattle.grammar.specs.Productions.{Body, goto, ◌▸◌, rule, expression, slice_step, slice_stepped}
 use Rattle.grammar.specs.Reading.{choose, has}
 use Rattle.leaves.specs.Meets.{state, Seg, sliced}
 use Rattle.leaves.specs.declared.Cursor.{Cursor}
@@ -23,12 +23,12 @@ module _ (t : ℕ) where
   abbrev So : lts.Start (K t) (P t) Post → ℕ → Body → ℕ → Cursor → ℕ → List ℕ → Type 0
   So a n b m c w o =
       let x = a.args in
-      let from = goto (slice-step x.parts x.x.start x.x.end x.y.start x.y.end) in
+      let from = goto (slice_step x.parts x.x.start x.x.end x.y.start x.y.end) in
       Seg x.set x.src.now x.left (state from n x.c x.w x.out.now) 0 0 (state b m c w o)
 
   -- what comes after the step's expression
   abbrev tail : lts.Start (K t) (P t) Post → Body
-  tail a = let x = a.args in goto (slice-stepped x.parts x.x.start x.x.end x.y.start x.y.end x.c.start)
+  tail a = let x = a.args in goto (slice_stepped x.parts x.x.start x.x.end x.y.start x.y.end x.c.start)
 
   abbrev a₀ : lts.Else1 (K t) (P t) Post → lts.Start (K t) (P t) Post
   a₀ c = c.before.before.before.before
@@ -47,14 +47,14 @@ module _ (t : ℕ) where
   read n c = Steps.took (c₁ c).expr.ensures c.a.given.1 (one n (c₁ c).before.before)
 
   -- ── What each call asks ─────────────────────────────────────────────────────────────────────────
-  expr-requires : lts.Need-expr-requires (K t) (P t) Post
-  expr-requires c κs = let p = c.before.before.before.before.before.requires in (omega (arith, p.0), p.1.0)
+  expr_requires : lts.Need-expr-requires (K t) (P t) Post
+  expr_requires c κs = let p = c.before.before.before.before.before.requires in (omega (arith, p.0), p.1.0)
 
-  add-slice-close : lts.Need-overflow-add-slice-close (K t) (P t) Post
-  add-slice-close c = omega (arith, (a₁ c.before.before).pre.1.1)
+  add_slice_close : lts.Need-overflow-add-slice-close (K t) (P t) Post
+  add_slice_close c = omega (arith, (a₁ c.before.before).pre.1.1)
 
-  slice-close-requires-2 : lts.Need-slice-close-requires-2 (K t) (P t) Post
-  slice-close-requires-2 c κs =
+  slice_close_requires_2 : lts.Need-slice-close-requires-2 (K t) (P t) Post
+  slice_close_requires_2 c κs =
       let a = c.before.before in let p = (a₁ a).requires.1 in
       let r = Steps.ready p.0 (lit≤ tt) (read 0 a) in
       (r, p.2, p.3, p.4, p.5, (within p.0).0, omega (arith, r.stands.within, r.stands.short))
@@ -66,24 +66,24 @@ module _ (t : ℕ) where
       let x = c.before.before in let at_Bracket = x.before.before in let a = at_Bracket.before.before.before.before in let y = a.args in
       let bare = sliced y.parts (span y.x.start y.x.end) (span y.y.start y.y.end) (span 0 0) in
       record {
-        tells = λ n. Steps.tail-telling (lit≤ tt) (x.slice-close.ensures.tells y.set y.left n)
+        tells = λ n. Steps.tail_telling (lit≤ tt) (x.slice-close.ensures.tells y.set y.left n)
             (Steps.known bare a.requires.1.0.stands at_Bracket.if1.true (λ xs t. refl) Steps.here);
       }
 
-  returns-2 : lts.Need-returns-2 (K t) (P t) Post
-  returns-2 c = let x = c.before.before.before.before in record { tells = λ n. Steps.passed-telling (Steps.takes-broken x.expr.ensures c.before.match.keys2) (one n x.before.before) }
+  returns_2 : lts.Need-returns-2 (K t) (P t) Post
+  returns_2 c = let x = c.before.before.before.before in record { tells = λ n. Steps.passed_telling (Steps.takes_broken x.expr.ensures c.before.match.keys2) (one n x.before.before) }
 
-  returns-3 : lts.Need-returns-3 (K t) (P t) Post
+  returns_3 : lts.Need-returns-3 (K t) (P t) Post
   unfolding rule choose has sight
-  returns-3 c =
+  returns_3 c =
       let x = c.before.before in let a = x.before.before.before in let y = (a₁ a).args in
       let whole = sliced (y.parts + 4) (span y.x.start y.x.end) (span y.y.start y.y.end) (span y.c.start a.a.given.0.0.at) in
       record {
-        tells = λ n. Steps.tail-telling (lit≤ tt) (x.slice-close2.ensures.tells y.set y.left (n + 1))
+        tells = λ n. Steps.tail_telling (lit≤ tt) (x.slice-close2.ensures.tells y.set y.left (n + 1))
             (Steps.known whole ((read n a).stands (a₁ a).requires.1.0.stands) refl (λ xs t. refl) (read n a));
       }
 
   -- All of them, in the order of the code.
   pub met : {M : Type 1} → lts.Closed (K t) (P t) Post M
-  met = lts.spec (K t) (P t) Post (λ c κs. search rules) (λ c. search rules) returns expr-requires (λ c. search rules) (λ c. search rules) (λ c. search rules) returns-2 add-slice-close
-      slice-close-requires-2 (λ c. search rules) returns-3
+  met = lts.spec (K t) (P t) Post (λ c κs. search rules) (λ c. search rules) returns expr_requires (λ c. search rules) (λ c. search rules) (λ c. search rules) returns_2 add_slice_close
+      slice_close_requires_2 (λ c. search rules) returns_3

@@ -7,21 +7,21 @@ use Prim.Native.Nat.{ℕ, ◌+◌}
 use Rattle.leaves.proofs.Steps
 use Rattle.phrases.proofs.value.Reads.{Post}
 use Rattle.phrases.proofs.+arg_args_array_assert_basic_bind_body_chain_claim_comp_cond_each_ends_expr_field_func_index_init_inside_item_link_load_local_member_name_obj_param_params_pat_rest_rhs_safe_sign_slice_spec_specs_step_value.Lts-value as lts
-use Rattle.phrases.proofs.+arg_args_array_assert_basic_bind_body_chain_claim_comp_cond_each_ends_expr_field_func_index_init_inside_item_link_load_local_member_name_obj_param_params_pat_rest_rhs_safe_sign_slice_spec_specs_step_value.Proof.Frame.{value-claims as K, value-at as P}
+use Rattle.phrases.proofs.+arg_args_array_assert_basic_bind_body_chain_claim_comp_cond_each_ends_expr_field_func_index_init_inside_item_link_load_local_member_name_obj_param_params_pat_rest_rhs_safe_sign_slice_spec_specs_step_value.Proof.Frame.{value_claims as K, value_at as P}
 use Rattle.grammar.specs.Image.{entry, payload}
 use Rattle.grammar.specs.Trees.{byte, number, span}
-use Rattle.grammar.specs.Productions.{Body, goto, end, close, ◌▸◌, expression, field-value}
+use Rattle.grammar.specs.Productions.{Body, goto, end, close, ◌▸◌, expression, field_value}
 use Rattle.leaves.specs.Meets.{state, Seg}
 use Rattle.leaves.specs.declared.Cursor.{Cursor}
-use Rattle.leaves.proofs.LeafLaws.{ate-stands, few}
-use Rattle.phrases.proofs.FieldLaws.{colons, goes-broken, some-colon}
+use Rattle.leaves.proofs.LeafLaws.{ate_stands, few}
+use Rattle.phrases.proofs.FieldLaws.{colons, goes_broken, some_colon}
 
 module _ (t : ℕ) where
   -- a stretch from the start over the colons, to a body with n trees
   abbrev So : lts.Start (K t) (P t) Post → Body → ℕ → Cursor → ℕ → List ℕ → Type 0
   So a b n c w o =
       let x = a.args in
-      let from = goto (field-value x.h.start x.h.end x.h.computed x.h.plus x.h.method) in
+      let from = goto (field_value x.h.start x.h.end x.h.computed x.h.plus x.h.method) in
       Seg x.set x.src.now x.left (state from (x.h.params + 1) x.c x.w x.out.now) 1 0 (state b n c w o)
 
   -- the record, with its visibility
@@ -49,30 +49,30 @@ module _ (t : ℕ) where
   value c = Steps.took (c₂ c).expr.ensures c.b.given.1 (opened (c₃ c))
 
   -- ── What each call asks ─────────────────────────────────────────────────────────────────────────
-  visibility-requires : lts.Need-visibility-requires (K t) (P t) Post
-  visibility-requires c κs = let a = c.before in ate-stands (a₀ a).requires.1.0.stands a.before.before.eat.ensures a.a.given.1
+  visibility_requires : lts.Need-visibility-requires (K t) (P t) Post
+  visibility_requires c κs = let a = c.before in ate_stands (a₀ a).requires.1.0.stands a.before.before.eat.ensures a.a.given.1
 
-  expr-requires : lts.Need-expr-requires (K t) (P t) Post
-  expr-requires c κs = let v = c.before.before in let p = (a₀ (c₁ v)).pre in (omega (arith, p.0), Steps.ready p.1.0 (lit≤ tt) (opened v))
+  expr_requires : lts.Need-expr-requires (K t) (P t) Post
+  expr_requires c κs = let v = c.before.before in let p = (a₀ (c₁ v)).pre in (omega (arith, p.0), Steps.ready p.1.0 (lit≤ tt) (opened v))
 
-  put-field-requires : lts.Need-put-field-requires (K t) (P t) Post
-  put-field-requires c κs = let b = c.before.before in let p = (a₀ (c₁ (c₃ b))).pre.1 in (Steps.fits p.0 (lit≤ tt) (value b), p.1, p.2, p.3, few p.0 p.4)
+  put_field_requires : lts.Need-put-field-requires (K t) (P t) Post
+  put_field_requires c κs = let b = c.before.before in let p = (a₀ (c₁ (c₃ b))).pre.1 in (Steps.fits p.0 (lit≤ tt) (value b), p.1, p.2, p.3, few p.0 p.4)
 
   -- ── What each return owes ───────────────────────────────────────────────────────────────────────
   returns : lts.Need-returns (K t) (P t) Post
   returns c =
       let x = c.before.before in let a = x.before.before.before.args in let h = a.h in
-      Steps.passed (goes-broken (λ xs. some-colon a.set a.c.at xs 0 h.start h.end h.computed h.plus h.method (h.params + 1))
+      Steps.passed (goes_broken (λ xs. some_colon a.set a.c.at xs 0 h.start h.end h.computed h.plus h.method (h.params + 1))
       x.eat.ensures c.before.match.keys2) Steps.here
 
-  returns-2 : lts.Need-returns-2 (K t) (P t) Post
-  returns-2 c = let x = c.before.before.before.before in Steps.passed (Steps.takes-broken x.expr.ensures c.before.match2.keys2) (opened x.before.before.before)
+  returns_2 : lts.Need-returns-2 (K t) (P t) Post
+  returns_2 c = let x = c.before.before.before.before in Steps.passed (Steps.takes_broken x.expr.ensures c.before.match2.keys2) (opened x.before.before.before)
 
-  returns-3 : lts.Need-returns-3 (K t) (P t) Post
+  returns_3 : lts.Need-returns-3 (K t) (P t) Post
   unfolding entry payload
-  returns-3 c = let x = c.before.before in Steps.ends (lit≤ tt) (Steps.closed 13 (lit≤ tt) x.put-field.ensures (value x.before.before.before))
+  returns_3 c = let x = c.before.before in Steps.ends (lit≤ tt) (Steps.closed 13 (lit≤ tt) x.put-field.ensures (value x.before.before.before))
 
   -- All of them, in the order of the code.
   pub met : {M : Type 1} → lts.Closed (K t) (P t) Post M
-  met = lts.spec (K t) (P t) Post (λ c κs. search rules) (λ c. search rules) (λ c. search rules) returns visibility-requires expr-requires (λ c. search rules) (λ c. search rules)
-      (λ c. search rules) returns-2 put-field-requires (λ c. search rules) returns-3
+  met = lts.spec (K t) (P t) Post (λ c κs. search rules) (λ c. search rules) (λ c. search rules) returns visibility_requires expr_requires (λ c. search rules) (λ c. search rules)
+      (λ c. search rules) returns_2 put_field_requires (λ c. search rules) returns_3

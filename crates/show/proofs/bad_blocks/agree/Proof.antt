@@ -4,55 +4,55 @@ use Rattle.std.proofs.Common.{◌-◌, rules}
 use Rattle.show.proofs.bad_blocks.agree.Statement.{statement}
 use Rattle.show.proofs.bad_blocks.agree.Tie as tie
 
-abbrev invariant-loop : tie.invariant-loop
-invariant-loop source a b n i₀ i = Unit {0}
+abbrev invariant_loop : tie.invariant-loop
+invariant_loop source a b n i₀ i = Unit {0}
 
-abbrev decreases-loop : tie.decreases-loop
-decreases-loop source a b n i₀ i = n - i
+abbrev decreases_loop : tie.decreases-loop
+decreases_loop source a b n i₀ i = n - i
 
-loop-holds : tie.Need-loop-init invariant-loop decreases-loop
-loop-holds c = search rules
+loop_holds : tie.Need-loop-init invariant_loop decreases_loop
+loop_holds c = search rules
 
-plus-requires : tie.Need-plus-requires invariant-loop decreases-loop
-plus-requires c κs = search rules
+plus_requires : tie.Need-plus-requires invariant_loop decreases_loop
+plus_requires c κs = search rules
 
-byte-requires : tie.Need-byte-requires invariant-loop decreases-loop
-byte-requires c κs = search rules
+byte_requires : tie.Need-byte-requires invariant_loop decreases_loop
+byte_requires c κs = search rules
 
-plus-requires-2 : tie.Need-plus-requires-2 invariant-loop decreases-loop
-plus-requires-2 c κs = search rules
+plus_requires_2 : tie.Need-plus-requires-2 invariant_loop decreases_loop
+plus_requires_2 c κs = search rules
 
-byte-requires-2 : tie.Need-byte-requires-2 invariant-loop decreases-loop
-byte-requires-2 c κs = search rules
+byte_requires_2 : tie.Need-byte-requires-2 invariant_loop decreases_loop
+byte_requires_2 c κs = search rules
 
-returns : tie.Need-returns invariant-loop decreases-loop
+returns : tie.Need-returns invariant_loop decreases_loop
 returns c = search rules
 
-add-i : tie.Need-overflow-add-i invariant-loop decreases-loop
-add-i c = search rules
+add_i : tie.Need-overflow-add-i invariant_loop decreases_loop
+add_i c = search rules
 
-loop-less : tie.Need-loop-smaller invariant-loop decreases-loop
-loop-less c = search rules
+loop_less : tie.Need-loop-smaller invariant_loop decreases_loop
+loop_less c = search rules
 
-loop-again : tie.Need-loop-preserved invariant-loop decreases-loop
-loop-again c = search rules
+loop_again : tie.Need-loop-preserved invariant_loop decreases_loop
+loop_again c = search rules
 
-returns-2 : tie.Need-returns-2 invariant-loop decreases-loop
-returns-2 c = search rules
+returns_2 : tie.Need-returns-2 invariant_loop decreases_loop
+returns_2 c = search rules
 
-pub agree-spec : {M : Type 1} → statement M
-agree-spec =
+pub agree_spec : {M : Type 1} → statement M
+agree_spec =
     tie.close
     (tie.spec
-    invariant-loop
-    decreases-loop
-    loop-holds
-    plus-requires
-    byte-requires
-    plus-requires-2
-    byte-requires-2
+    invariant_loop
+    decreases_loop
+    loop_holds
+    plus_requires
+    byte_requires
+    plus_requires_2
+    byte_requires_2
     returns
-    add-i
-    loop-less
-    loop-again
-    returns-2)
+    add_i
+    loop_less
+    loop_again
+    returns_2)

@@ -4,71 +4,71 @@ use Rattle.std.proofs.Common.{◌-◌, ◌≤◌, length, rules}
 use Rattle.show.proofs.bad_blocks.line_at_fault.Statement.{statement}
 use Rattle.show.proofs.bad_blocks.line_at_fault.Tie as tie
 
-abbrev invariant-loop : tie.invariant-loop
-invariant-loop source start first indent i₀ i = i ≤ length source
+abbrev invariant_loop : tie.invariant-loop
+invariant_loop source start first indent i₀ i = i ≤ length source
 
-abbrev decreases-loop : tie.decreases-loop
-decreases-loop source start first indent i₀ i = length source - i
+abbrev decreases_loop : tie.decreases-loop
+decreases_loop source start first indent i₀ i = length source - i
 
-returns : tie.Need-returns invariant-loop decreases-loop
+returns : tie.Need-returns invariant_loop decreases_loop
 returns c = search rules
 
-line-end-requires : tie.Need-line-end-requires invariant-loop decreases-loop
-line-end-requires c κs = search rules
+line_end_requires : tie.Need-line-end-requires invariant_loop decreases_loop
+line_end_requires c κs = search rules
 
-filled-line-requires : tie.Need-filled-line-requires invariant-loop decreases-loop
-filled-line-requires c κs = search rules
+filled_line_requires : tie.Need-filled-line-requires invariant_loop decreases_loop
+filled_line_requires c κs = search rules
 
-blanks-end-requires : tie.Need-blanks-end-requires invariant-loop decreases-loop
-blanks-end-requires c κs = search rules
+blanks_end_requires : tie.Need-blanks-end-requires invariant_loop decreases_loop
+blanks_end_requires c κs = search rules
 
-sub-indent : tie.Need-overflow-sub-indent invariant-loop decreases-loop
-sub-indent c = search rules
+sub_indent : tie.Need-overflow-sub-indent invariant_loop decreases_loop
+sub_indent c = search rules
 
-loop-holds : tie.Need-loop-init invariant-loop decreases-loop
-loop-holds c = search rules
+loop_holds : tie.Need-loop-init invariant_loop decreases_loop
+loop_holds c = search rules
 
-returns-2 : tie.Need-returns-2 invariant-loop decreases-loop
-returns-2 c = search rules
+returns_2 : tie.Need-returns-2 invariant_loop decreases_loop
+returns_2 c = search rules
 
-agree-requires : tie.Need-agree-requires invariant-loop decreases-loop
-agree-requires c κs = search rules
+agree_requires : tie.Need-agree-requires invariant_loop decreases_loop
+agree_requires c κs = search rules
 
-returns-3 : tie.Need-returns-3 invariant-loop decreases-loop
-returns-3 c = search rules
+returns_3 : tie.Need-returns-3 invariant_loop decreases_loop
+returns_3 c = search rules
 
-line-end-requires-2 : tie.Need-line-end-requires-2 invariant-loop decreases-loop
-line-end-requires-2 c κs = search rules
+line_end_requires_2 : tie.Need-line-end-requires-2 invariant_loop decreases_loop
+line_end_requires_2 c κs = search rules
 
-filled-line-requires-2 : tie.Need-filled-line-requires-2 invariant-loop decreases-loop
-filled-line-requires-2 c κs = search rules
+filled_line_requires_2 : tie.Need-filled-line-requires-2 invariant_loop decreases_loop
+filled_line_requires_2 c κs = search rules
 
-loop-less : tie.Need-loop-smaller invariant-loop decreases-loop
-loop-less c = search rules
+loop_less : tie.Need-loop-smaller invariant_loop decreases_loop
+loop_less c = search rules
 
-loop-again : tie.Need-loop-preserved invariant-loop decreases-loop
-loop-again c = search rules
+loop_again : tie.Need-loop-preserved invariant_loop decreases_loop
+loop_again c = search rules
 
-returns-4 : tie.Need-returns-4 invariant-loop decreases-loop
-returns-4 c = search rules
+returns_4 : tie.Need-returns-4 invariant_loop decreases_loop
+returns_4 c = search rules
 
-pub line-at-fault-spec : {M : Type 1} → statement M
-line-at-fault-spec =
+pub line_at_fault_spec : {M : Type 1} → statement M
+line_at_fault_spec =
     tie.close
     (tie.spec
-    invariant-loop
-    decreases-loop
+    invariant_loop
+    decreases_loop
     returns
-    line-end-requires
-    filled-line-requires
-    blanks-end-requires
-    sub-indent
-    loop-holds
-    returns-2
-    agree-requires
-    returns-3
-    line-end-requires-2
-    filled-line-requires-2
-    loop-less
-    loop-again
-    returns-4)
+    line_end_requires
+    filled_line_requires
+    blanks_end_requires
+    sub_indent
+    loop_holds
+    returns_2
+    agree_requires
+    returns_3
+    line_end_requires_2
+    filled_line_requires_2
+    loop_less
+    loop_again
+    returns_4)

@@ -4,67 +4,67 @@ use Rattle.std.proofs.Common.{◌≤◌, rules}
 use Rattle.show.proofs.refusals.shown_from.Statement.{statement}
 use Rattle.show.proofs.refusals.shown_from.Tie as tie
 
-abbrev invariant-loop : tie.invariant-loop
-invariant-loop source at left₀ i₀ left i = i ≤ at
+abbrev invariant_loop : tie.invariant-loop
+invariant_loop source at left₀ i₀ left i = i ≤ at
 
-abbrev decreases-loop : tie.decreases-loop
-decreases-loop source at left₀ i₀ left i = i
+abbrev decreases_loop : tie.decreases-loop
+decreases_loop source at left₀ i₀ left i = i
 
-loop-holds : tie.Need-loop-init invariant-loop decreases-loop
-loop-holds c = search rules
+loop_holds : tie.Need-loop-init invariant_loop decreases_loop
+loop_holds c = search rules
 
-sub-b : tie.Need-overflow-sub-b invariant-loop decreases-loop
-sub-b c = search rules
+sub_b : tie.Need-overflow-sub-b invariant_loop decreases_loop
+sub_b c = search rules
 
-shared-slice-read-b : tie.Need-shared-slice-read-b invariant-loop decreases-loop
-shared-slice-read-b c = search rules
+shared_slice_read_b : tie.Need-shared-slice-read-b invariant_loop decreases_loop
+shared_slice_read_b c = search rules
 
-returns : tie.Need-returns invariant-loop decreases-loop
+returns : tie.Need-returns invariant_loop decreases_loop
 returns c = search rules
 
-returns-2 : tie.Need-returns-2 invariant-loop decreases-loop
-returns-2 c = search rules
+returns_2 : tie.Need-returns-2 invariant_loop decreases_loop
+returns_2 c = search rules
 
-sub-i : tie.Need-overflow-sub-i invariant-loop decreases-loop
-sub-i c = search rules
+sub_i : tie.Need-overflow-sub-i invariant_loop decreases_loop
+sub_i c = search rules
 
-is-inside-requires : tie.Need-is-inside-requires invariant-loop decreases-loop
-is-inside-requires c κs = search rules
+is_inside_requires : tie.Need-is-inside-requires invariant_loop decreases_loop
+is_inside_requires c κs = search rules
 
-loop-less : tie.Need-loop-smaller invariant-loop decreases-loop
-loop-less c = search rules
+loop_less : tie.Need-loop-smaller invariant_loop decreases_loop
+loop_less c = search rules
 
-loop-again : tie.Need-loop-preserved invariant-loop decreases-loop
-loop-again c = search rules
+loop_again : tie.Need-loop-preserved invariant_loop decreases_loop
+loop_again c = search rules
 
-sub-left : tie.Need-overflow-sub-left invariant-loop decreases-loop
-sub-left c = search rules
+sub_left : tie.Need-overflow-sub-left invariant_loop decreases_loop
+sub_left c = search rules
 
-loop-less-2 : tie.Need-loop-smaller-2 invariant-loop decreases-loop
-loop-less-2 c = search rules
+loop_less_2 : tie.Need-loop-smaller-2 invariant_loop decreases_loop
+loop_less_2 c = search rules
 
-loop-again-2 : tie.Need-loop-preserved-2 invariant-loop decreases-loop
-loop-again-2 c = search rules
+loop_again_2 : tie.Need-loop-preserved-2 invariant_loop decreases_loop
+loop_again_2 c = search rules
 
-returns-3 : tie.Need-returns-3 invariant-loop decreases-loop
-returns-3 c = search rules
+returns_3 : tie.Need-returns-3 invariant_loop decreases_loop
+returns_3 c = search rules
 
-pub shown-from-spec : {M : Type 1} → statement M
-shown-from-spec =
+pub shown_from_spec : {M : Type 1} → statement M
+shown_from_spec =
     tie.close
     (tie.spec
-    invariant-loop
-    decreases-loop
-    loop-holds
-    sub-b
-    shared-slice-read-b
+    invariant_loop
+    decreases_loop
+    loop_holds
+    sub_b
+    shared_slice_read_b
     returns
-    returns-2
-    sub-i
-    is-inside-requires
-    loop-less
-    loop-again
-    sub-left
-    loop-less-2
-    loop-again-2
-    returns-3)
+    returns_2
+    sub_i
+    is_inside_requires
+    loop_less
+    loop_again
+    sub_left
+    loop_less_2
+    loop_again_2
+    returns_3)

@@ -4,51 +4,51 @@ use Rattle.std.proofs.Common.{◌-◌, ◌≤◌, length, rules}
 use Rattle.show.proofs.refusals.shown_to.Statement.{statement}
 use Rattle.show.proofs.refusals.shown_to.Tie as tie
 
-abbrev invariant-loop : tie.invariant-loop
-invariant-loop source at left₀ i₀ left i = (at ≤ i) × (i ≤ length source)
+abbrev invariant_loop : tie.invariant-loop
+invariant_loop source at left₀ i₀ left i = (at ≤ i) × (i ≤ length source)
 
-abbrev decreases-loop : tie.decreases-loop
-decreases-loop source at left₀ i₀ left i = length source - i
+abbrev decreases_loop : tie.decreases-loop
+decreases_loop source at left₀ i₀ left i = length source - i
 
-loop-holds : tie.Need-loop-init invariant-loop decreases-loop
-loop-holds c = search rules
+loop_holds : tie.Need-loop-init invariant_loop decreases_loop
+loop_holds c = search rules
 
-shared-slice-read-if1 : tie.Need-shared-slice-read-if1 invariant-loop decreases-loop
-shared-slice-read-if1 c = search rules
+shared_slice_read_if1 : tie.Need-shared-slice-read-if1 invariant_loop decreases_loop
+shared_slice_read_if1 c = search rules
 
-returns : tie.Need-returns invariant-loop decreases-loop
+returns : tie.Need-returns invariant_loop decreases_loop
 returns c = search rules
 
-returns-2 : tie.Need-returns-2 invariant-loop decreases-loop
-returns-2 c = search rules
+returns_2 : tie.Need-returns-2 invariant_loop decreases_loop
+returns_2 c = search rules
 
-character-end-requires : tie.Need-character-end-requires invariant-loop decreases-loop
-character-end-requires c κs = search rules
+character_end_requires : tie.Need-character-end-requires invariant_loop decreases_loop
+character_end_requires c κs = search rules
 
-sub-left : tie.Need-overflow-sub-left invariant-loop decreases-loop
-sub-left c = search rules
+sub_left : tie.Need-overflow-sub-left invariant_loop decreases_loop
+sub_left c = search rules
 
-loop-less : tie.Need-loop-smaller invariant-loop decreases-loop
-loop-less c = search rules
+loop_less : tie.Need-loop-smaller invariant_loop decreases_loop
+loop_less c = search rules
 
-loop-again : tie.Need-loop-preserved invariant-loop decreases-loop
-loop-again c = search rules
+loop_again : tie.Need-loop-preserved invariant_loop decreases_loop
+loop_again c = search rules
 
-returns-3 : tie.Need-returns-3 invariant-loop decreases-loop
-returns-3 c = search rules
+returns_3 : tie.Need-returns-3 invariant_loop decreases_loop
+returns_3 c = search rules
 
-pub shown-to-spec : {M : Type 1} → statement M
-shown-to-spec =
+pub shown_to_spec : {M : Type 1} → statement M
+shown_to_spec =
     tie.close
     (tie.spec
-    invariant-loop
-    decreases-loop
-    loop-holds
-    shared-slice-read-if1
+    invariant_loop
+    decreases_loop
+    loop_holds
+    shared_slice_read_if1
     returns
-    returns-2
-    character-end-requires
-    sub-left
-    loop-less
-    loop-again
-    returns-3)
+    returns_2
+    character_end_requires
+    sub_left
+    loop_less
+    loop_again
+    returns_3)

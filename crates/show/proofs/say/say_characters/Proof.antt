@@ -4,67 +4,67 @@ use Rattle.std.proofs.Common.{◌≡◌, ◌-◌, ◌≤◌, length, rules}
 use Rattle.show.proofs.say.say_characters.Statement.{statement}
 use Rattle.show.proofs.say.say_characters.Tie as tie
 
-abbrev invariant-loop : tie.invariant-loop
-invariant-loop page₀ text i₀ page i = (length page ≡ length page₀) × (i ≤ length text)
+abbrev invariant_loop : tie.invariant-loop
+invariant_loop page₀ text i₀ page i = (length page ≡ length page₀) × (i ≤ length text)
 
-abbrev decreases-loop : tie.decreases-loop
-decreases-loop page₀ text i₀ page i = length text - i
+abbrev decreases_loop : tie.decreases-loop
+decreases_loop page₀ text i₀ page i = length text - i
 
-loop-holds : tie.Need-loop-init invariant-loop decreases-loop
-loop-holds c = search rules
+loop_holds : tie.Need-loop-init invariant_loop decreases_loop
+loop_holds c = search rules
 
-seen-end-requires : tie.Need-seen-end-requires invariant-loop decreases-loop
-seen-end-requires c κs = search rules
+seen_end_requires : tie.Need-seen-end-requires invariant_loop decreases_loop
+seen_end_requires c κs = search rules
 
-sub-say : tie.Need-overflow-sub-say invariant-loop decreases-loop
-sub-say c = search rules
+sub_say : tie.Need-overflow-sub-say invariant_loop decreases_loop
+sub_say c = search rules
 
-part-say-start : tie.Need-slice-bounds-say-start invariant-loop decreases-loop
-part-say-start c = search rules
+part_say_start : tie.Need-slice-bounds-say-start invariant_loop decreases_loop
+part_say_start c = search rules
 
-part-say-end : tie.Need-slice-bounds-say-end invariant-loop decreases-loop
-part-say-end c = search rules
+part_say_end : tie.Need-slice-bounds-say-end invariant_loop decreases_loop
+part_say_end c = search rules
 
-say-requires : tie.Need-say-requires invariant-loop decreases-loop
-say-requires c κs = search rules
+say_requires : tie.Need-say-requires invariant_loop decreases_loop
+say_requires c κs = search rules
 
-say-character-requires : tie.Need-say-character-requires invariant-loop decreases-loop
-say-character-requires c κs = search rules
+say_character_requires : tie.Need-say-character-requires invariant_loop decreases_loop
+say_character_requires c κs = search rules
 
-loop-less : tie.Need-loop-smaller invariant-loop decreases-loop
-loop-less c = search rules
+loop_less : tie.Need-loop-smaller invariant_loop decreases_loop
+loop_less c = search rules
 
-loop-again : tie.Need-loop-preserved invariant-loop decreases-loop
-loop-again c = search rules
+loop_again : tie.Need-loop-preserved invariant_loop decreases_loop
+loop_again c = search rules
 
-loop-less-2 : tie.Need-loop-smaller-2 invariant-loop decreases-loop
-loop-less-2 c = search rules
+loop_less_2 : tie.Need-loop-smaller-2 invariant_loop decreases_loop
+loop_less_2 c = search rules
 
-loop-again-2 : tie.Need-loop-preserved-2 invariant-loop decreases-loop
-loop-again-2 c = search rules
+loop_again_2 : tie.Need-loop-preserved-2 invariant_loop decreases_loop
+loop_again_2 c = search rules
 
-same_length : tie.Need-same-length invariant-loop decreases-loop
+same_length : tie.Need-same-length invariant_loop decreases_loop
 same_length c = search rules
 
-returns : tie.Need-returns invariant-loop decreases-loop
+returns : tie.Need-returns invariant_loop decreases_loop
 returns c = search rules
 
-pub say-characters-spec : {M : Type 1} → statement M
-say-characters-spec =
+pub say_characters_spec : {M : Type 1} → statement M
+say_characters_spec =
     tie.close
     (tie.spec
-    invariant-loop
-    decreases-loop
-    loop-holds
-    seen-end-requires
-    sub-say
-    part-say-start
-    part-say-end
-    say-requires
-    say-character-requires
-    loop-less
-    loop-again
-    loop-less-2
-    loop-again-2
+    invariant_loop
+    decreases_loop
+    loop_holds
+    seen_end_requires
+    sub_say
+    part_say_start
+    part_say_end
+    say_requires
+    say_character_requires
+    loop_less
+    loop_again
+    loop_less_2
+    loop_again_2
     same_length
     returns)

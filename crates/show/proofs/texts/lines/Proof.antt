@@ -4,67 +4,67 @@ use Rattle.std.proofs.Common.{◌-◌, ◌≤◌, length, rules}
 use Rattle.show.proofs.texts.lines.Statement.{statement}
 use Rattle.show.proofs.texts.lines.Tie as tie
 
-abbrev invariant-loop : tie.invariant-loop
-invariant-loop text n₀ i₀ n i = (n ≤ i) × (i ≤ length text)
+abbrev invariant_loop : tie.invariant-loop
+invariant_loop text n₀ i₀ n i = (n ≤ i) × (i ≤ length text)
 
-abbrev decreases-loop : tie.decreases-loop
-decreases-loop text n₀ i₀ n i = length text - i
+abbrev decreases_loop : tie.decreases-loop
+decreases_loop text n₀ i₀ n i = length text - i
 
-loop-holds : tie.Need-loop-init invariant-loop decreases-loop
-loop-holds c = search rules
+loop_holds : tie.Need-loop-init invariant_loop decreases_loop
+loop_holds c = search rules
 
-add-i : tie.Need-overflow-add-i invariant-loop decreases-loop
-add-i c = search rules
+add_i : tie.Need-overflow-add-i invariant_loop decreases_loop
+add_i c = search rules
 
-sub-if1 : tie.Need-overflow-sub-if1 invariant-loop decreases-loop
-sub-if1 c = search rules
+sub_if1 : tie.Need-overflow-sub-if1 invariant_loop decreases_loop
+sub_if1 c = search rules
 
-shared-slice-read-if1 : tie.Need-shared-slice-read-if1 invariant-loop decreases-loop
-shared-slice-read-if1 c = search rules
+shared_slice_read_if1 : tie.Need-shared-slice-read-if1 invariant_loop decreases_loop
+shared_slice_read_if1 c = search rules
 
-loop-less : tie.Need-loop-smaller invariant-loop decreases-loop
-loop-less c = search rules
+loop_less : tie.Need-loop-smaller invariant_loop decreases_loop
+loop_less c = search rules
 
-loop-again : tie.Need-loop-preserved invariant-loop decreases-loop
-loop-again c = search rules
+loop_again : tie.Need-loop-preserved invariant_loop decreases_loop
+loop_again c = search rules
 
-add-n : tie.Need-overflow-add-n invariant-loop decreases-loop
-add-n c = search rules
+add_n : tie.Need-overflow-add-n invariant_loop decreases_loop
+add_n c = search rules
 
-loop-less-2 : tie.Need-loop-smaller-2 invariant-loop decreases-loop
-loop-less-2 c = search rules
+loop_less_2 : tie.Need-loop-smaller-2 invariant_loop decreases_loop
+loop_less_2 c = search rules
 
-loop-again-2 : tie.Need-loop-preserved-2 invariant-loop decreases-loop
-loop-again-2 c = search rules
+loop_again_2 : tie.Need-loop-preserved-2 invariant_loop decreases_loop
+loop_again_2 c = search rules
 
-is-open-requires : tie.Need-is-open-requires invariant-loop decreases-loop
-is-open-requires c κs = search rules
+is_open_requires : tie.Need-is-open-requires invariant_loop decreases_loop
+is_open_requires c κs = search rules
 
-one-more-requires : tie.Need-one-more-requires invariant-loop decreases-loop
-one-more-requires c κs = search rules
+one_more_requires : tie.Need-one-more-requires invariant_loop decreases_loop
+one_more_requires c κs = search rules
 
-returns : tie.Need-returns invariant-loop decreases-loop
+returns : tie.Need-returns invariant_loop decreases_loop
 returns c = search rules
 
-returns-2 : tie.Need-returns-2 invariant-loop decreases-loop
-returns-2 c = search rules
+returns_2 : tie.Need-returns-2 invariant_loop decreases_loop
+returns_2 c = search rules
 
-pub lines-spec : {M : Type 1} → statement M
-lines-spec =
+pub lines_spec : {M : Type 1} → statement M
+lines_spec =
     tie.close
     (tie.spec
-    invariant-loop
-    decreases-loop
-    loop-holds
-    add-i
-    sub-if1
-    shared-slice-read-if1
-    loop-less
-    loop-again
-    add-n
-    loop-less-2
-    loop-again-2
-    is-open-requires
-    one-more-requires
+    invariant_loop
+    decreases_loop
+    loop_holds
+    add_i
+    sub_if1
+    shared_slice_read_if1
+    loop_less
+    loop_again
+    add_n
+    loop_less_2
+    loop_again_2
+    is_open_requires
+    one_more_requires
     returns
-    returns-2)
+    returns_2)

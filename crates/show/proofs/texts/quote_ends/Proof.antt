@@ -4,14 +4,14 @@ use Rattle.std.proofs.Common.{arith, length-take, rules}
 use Rattle.show.proofs.texts.quote_ends.Statement.{statement}
 use Rattle.show.proofs.texts.quote_ends.Tie as tie
 
-ahead-requires : tie.Need-ahead-requires
-ahead-requires c κs = search rules
+ahead_requires : tie.Need-ahead-requires
+ahead_requires c κs = search rules
 
-behind-requires : tie.Need-behind-requires
-behind-requires c κs = search rules
+behind_requires : tie.Need-behind-requires
+behind_requires c κs = search rules
 
-quote-requires : tie.Need-quote-requires
-quote-requires c κs = search rules
+quote_requires : tie.Need-quote-requires
+quote_requires c κs = search rules
 
 same_length : tie.Need-same-length
 same_length c = search rules
@@ -19,84 +19,84 @@ same_length c = search rules
 returns : tie.Need-returns
 returns c = search rules
 
-sub-if2 : tie.Need-overflow-sub-if2
-sub-if2 c = search rules
+sub_if2 : tie.Need-overflow-sub-if2
+sub_if2 c = search rules
 
-quote-requires-2 : tie.Need-quote-requires-2
-quote-requires-2 c κs = search rules
+quote_requires_2 : tie.Need-quote-requires-2
+quote_requires_2 c κs = search rules
 
-same-length-2 : tie.Need-same-length-2
-same-length-2 c = search rules
+same_length_2 : tie.Need-same-length-2
+same_length_2 c = search rules
 
-returns-2 : tie.Need-returns-2
-returns-2 c = search rules
+returns_2 : tie.Need-returns-2
+returns_2 c = search rules
 
-slice-aggregate-quote : tie.Need-slice-aggregate-quote
-slice-aggregate-quote c = simp length-take (omega arith)
+slice_aggregate_quote : tie.Need-slice-aggregate-quote
+slice_aggregate_quote c = simp length-take (omega arith)
 
-quote-requires-3 : tie.Need-quote-requires-3
-quote-requires-3 c κs = search rules
+quote_requires_3 : tie.Need-quote-requires-3
+quote_requires_3 c κs = search rules
 
-slice-aggregate-say : tie.Need-slice-aggregate-say
-slice-aggregate-say c = search rules
+slice_aggregate_say : tie.Need-slice-aggregate-say
+slice_aggregate_say c = search rules
 
-say-requires : tie.Need-say-requires
-say-requires c κs = search rules
+say_requires : tie.Need-say-requires
+say_requires c κs = search rules
 
-sub-say-number : tie.Need-overflow-sub-say-number
-sub-say-number c = search rules
+sub_say_number : tie.Need-overflow-sub-say-number
+sub_say_number c = search rules
 
-say-number-requires : tie.Need-say-number-requires
-say-number-requires c κs = search rules
+say_number_requires : tie.Need-say-number-requires
+say_number_requires c κs = search rules
 
-slice-aggregate-say-2 : tie.Need-slice-aggregate-say-2
-slice-aggregate-say-2 c = search rules
+slice_aggregate_say_2 : tie.Need-slice-aggregate-say-2
+slice_aggregate_say_2 c = search rules
 
-say-requires-2 : tie.Need-say-requires-2
-say-requires-2 c κs = search rules
+say_requires_2 : tie.Need-say-requires-2
+say_requires_2 c κs = search rules
 
-sub-quote : tie.Need-overflow-sub-quote
-sub-quote c = search rules
+sub_quote : tie.Need-overflow-sub-quote
+sub_quote c = search rules
 
-part-quote-start : tie.Need-slice-bounds-quote-start
-part-quote-start c = search rules
+part_quote_start : tie.Need-slice-bounds-quote-start
+part_quote_start c = search rules
 
-part-quote-end : tie.Need-slice-bounds-quote-end
-part-quote-end c = search rules
+part_quote_end : tie.Need-slice-bounds-quote-end
+part_quote_end c = search rules
 
-quote-requires-4 : tie.Need-quote-requires-4
-quote-requires-4 c κs = search rules
+quote_requires_4 : tie.Need-quote-requires-4
+quote_requires_4 c κs = search rules
 
-same-length-3 : tie.Need-same-length-3
-same-length-3 c = search rules
+same_length_3 : tie.Need-same-length-3
+same_length_3 c = search rules
 
-returns-3 : tie.Need-returns-3
-returns-3 c = search rules
+returns_3 : tie.Need-returns-3
+returns_3 c = search rules
 
-pub quote-ends-spec : {M : Type 1} → statement M
-quote-ends-spec =
+pub quote_ends_spec : {M : Type 1} → statement M
+quote_ends_spec =
     tie.close
     (tie.spec
-    ahead-requires
-    behind-requires
-    quote-requires
+    ahead_requires
+    behind_requires
+    quote_requires
     same_length
     returns
-    sub-if2
-    quote-requires-2
-    same-length-2
-    returns-2
-    slice-aggregate-quote
-    quote-requires-3
-    slice-aggregate-say
-    say-requires
-    sub-say-number
-    say-number-requires
-    slice-aggregate-say-2
-    say-requires-2
-    sub-quote
-    part-quote-start
-    part-quote-end
-    quote-requires-4
-    same-length-3
-    returns-3)
+    sub_if2
+    quote_requires_2
+    same_length_2
+    returns_2
+    slice_aggregate_quote
+    quote_requires_3
+    slice_aggregate_say
+    say_requires
+    sub_say_number
+    say_number_requires
+    slice_aggregate_say_2
+    say_requires_2
+    sub_quote
+    part_quote_start
+    part_quote_end
+    quote_requires_4
+    same_length_3
+    returns_3)

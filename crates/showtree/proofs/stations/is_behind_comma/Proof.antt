@@ -6,51 +6,51 @@ use Prim.Native.Nat.{◌≤◌}
 use Rattle.showtree.proofs.stations.is_behind_comma.Statement.{statement}
 use Rattle.showtree.proofs.stations.is_behind_comma.Tie as tie
 
-abbrev invariant-loop : tie.invariant-loop
-invariant-loop text at i₀ i = i ≤ length text
+abbrev invariant_loop : tie.invariant-loop
+invariant_loop text at i₀ i = i ≤ length text
 
-abbrev decreases-loop : tie.decreases-loop
-decreases-loop text at i₀ i = i
+abbrev decreases_loop : tie.decreases-loop
+decreases_loop text at i₀ i = i
 
-returns : tie.Need-returns invariant-loop decreases-loop
+returns : tie.Need-returns invariant_loop decreases_loop
 returns c = search rules
 
-loop-holds : tie.Need-loop-init invariant-loop decreases-loop
-loop-holds c = search rules
+loop_holds : tie.Need-loop-init invariant_loop decreases_loop
+loop_holds c = search rules
 
-sub-i : tie.Need-overflow-sub-i invariant-loop decreases-loop
-sub-i c = search rules
+sub_i : tie.Need-overflow-sub-i invariant_loop decreases_loop
+sub_i c = search rules
 
-shared-slice-read-b : tie.Need-shared-slice-read-b invariant-loop decreases-loop
-shared-slice-read-b c = search rules
+shared_slice_read_b : tie.Need-shared-slice-read-b invariant_loop decreases_loop
+shared_slice_read_b c = search rules
 
-returns-2 : tie.Need-returns-2 invariant-loop decreases-loop
-returns-2 c = search rules
+returns_2 : tie.Need-returns-2 invariant_loop decreases_loop
+returns_2 c = search rules
 
-returns-3 : tie.Need-returns-3 invariant-loop decreases-loop
-returns-3 c = search rules
+returns_3 : tie.Need-returns-3 invariant_loop decreases_loop
+returns_3 c = search rules
 
-loop-less : tie.Need-loop-smaller invariant-loop decreases-loop
-loop-less c = search rules
+loop_less : tie.Need-loop-smaller invariant_loop decreases_loop
+loop_less c = search rules
 
-loop-again : tie.Need-loop-preserved invariant-loop decreases-loop
-loop-again c = search rules
+loop_again : tie.Need-loop-preserved invariant_loop decreases_loop
+loop_again c = search rules
 
-returns-4 : tie.Need-returns-4 invariant-loop decreases-loop
-returns-4 c = search rules
+returns_4 : tie.Need-returns-4 invariant_loop decreases_loop
+returns_4 c = search rules
 
-pub is-behind-comma-spec : {M : Type 1} → statement M
-is-behind-comma-spec =
+pub is_behind_comma_spec : {M : Type 1} → statement M
+is_behind_comma_spec =
     tie.close
     (tie.spec
-    invariant-loop
-    decreases-loop
+    invariant_loop
+    decreases_loop
     returns
-    loop-holds
-    sub-i
-    shared-slice-read-b
-    returns-2
-    returns-3
-    loop-less
-    loop-again
-    returns-4)
+    loop_holds
+    sub_i
+    shared_slice_read_b
+    returns_2
+    returns_3
+    loop_less
+    loop_again
+    returns_4)

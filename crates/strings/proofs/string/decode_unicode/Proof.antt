@@ -1,63 +1,63 @@
 -- `strings::string::decode_unicode` meets its contract: four digits, or the first byte that is none.
 -- Assumes nothing.
 use native.Mathlib.Omega.{arith}
-use Rattle.strings.proofs.Escapes.{digit-is, digit-none, four_is, not-four}
+use Rattle.strings.proofs.Escapes.{digit_is, digit_none, four_is, not_four}
 use borrow.Author.Rules.{rules}
 use Rattle.strings.proofs.string.decode_unicode.Statement.{statement}
 use Rattle.strings.proofs.string.decode_unicode.Tie as tie
 
-digit-at-requires : tie.Need-digit-at-requires
-digit-at-requires c κs = search rules
+digit_at_requires : tie.Need-digit-at-requires
+digit_at_requires c κs = search rules
 
 returns : tie.Need-returns
-returns c = not-four _ 0 (omega arith) (digit-none c.before.digit_at.ensures c.if1.true)
+returns c = not_four _ 0 (omega arith) (digit_none c.before.digit_at.ensures c.if1.true)
 
-digit-at-requires-2 : tie.Need-digit-at-requires-2
-digit-at-requires-2 c κs = search rules
+digit_at_requires_2 : tie.Need-digit-at-requires-2
+digit_at_requires_2 c κs = search rules
 
-returns-2 : tie.Need-returns-2
-returns-2 c = not-four _ 1 (omega arith) (digit-none c.before.digit-at2.ensures c.if2.true)
+returns_2 : tie.Need-returns-2
+returns_2 c = not_four _ 1 (omega arith) (digit_none c.before.digit-at2.ensures c.if2.true)
 
-digit-at-requires-3 : tie.Need-digit-at-requires-3
-digit-at-requires-3 c κs = search rules
+digit_at_requires_3 : tie.Need-digit-at-requires-3
+digit_at_requires_3 c κs = search rules
 
-returns-3 : tie.Need-returns-3
-returns-3 c = not-four _ 2 (omega arith) (digit-none c.before.digit-at3.ensures c.if3.true)
+returns_3 : tie.Need-returns-3
+returns_3 c = not_four _ 2 (omega arith) (digit_none c.before.digit-at3.ensures c.if3.true)
 
-digit-at-requires-4 : tie.Need-digit-at-requires-4
-digit-at-requires-4 c κs = search rules
+digit_at_requires_4 : tie.Need-digit-at-requires-4
+digit_at_requires_4 c κs = search rules
 
-returns-4 : tie.Need-returns-4
-returns-4 c = not-four _ 3 (omega arith) (digit-none c.before.digit-at4.ensures c.if4.true)
+returns_4 : tie.Need-returns-4
+returns_4 c = not_four _ 3 (omega arith) (digit_none c.before.digit-at4.ensures c.if4.true)
 
-mul-result : tie.Need-overflow-mul-result
-mul-result c = search rules
+mul_result : tie.Need-overflow-mul-result
+mul_result c = search rules
 
-mul-result-2 : tie.Need-overflow-mul-result-2
-mul-result-2 c = search rules
+mul_result_2 : tie.Need-overflow-mul-result-2
+mul_result_2 c = search rules
 
-add-result : tie.Need-overflow-add-result
-add-result c = search rules
+add_result : tie.Need-overflow-add-result
+add_result c = search rules
 
-mul-result-3 : tie.Need-overflow-mul-result-3
-mul-result-3 c = search rules
+mul_result_3 : tie.Need-overflow-mul-result-3
+mul_result_3 c = search rules
 
-add-result-2 : tie.Need-overflow-add-result-2
-add-result-2 c = search rules
+add_result_2 : tie.Need-overflow-add-result-2
+add_result_2 c = search rules
 
-add-result-3 : tie.Need-overflow-add-result-3
-add-result-3 c = search rules
+add_result_3 : tie.Need-overflow-add-result-3
+add_result_3 c = search rules
 
-returns-5 : tie.Need-returns-5
-returns-5 c =
+returns_5 : tie.Need-returns-5
+returns_5 c =
     let third = c.before.before in
     let second = third.before.before in
     let first = second.before.before in
     four_is _
-    (digit-is first.before.digit_at.ensures first.if1.false)
-    (digit-is second.before.digit-at2.ensures second.if2.false)
-    (digit-is third.before.digit-at3.ensures third.if3.false)
-    (digit-is c.before.digit-at4.ensures c.if4.false)
+    (digit_is first.before.digit_at.ensures first.if1.false)
+    (digit_is second.before.digit-at2.ensures second.if2.false)
+    (digit_is third.before.digit-at3.ensures third.if3.false)
+    (digit_is c.before.digit-at4.ensures c.if4.false)
 
-pub decode-unicode-spec : {M : Type 1} → statement M
-decode-unicode-spec = tie.close (tie.spec digit-at-requires returns digit-at-requires-2 returns-2 digit-at-requires-3 returns-3 digit-at-requires-4 returns-4 mul-result mul-result-2 add-result mul-result-3 add-result-2 add-result-3 returns-5)
+pub decode_unicode_spec : {M : Type 1} → statement M
+decode_unicode_spec = tie.close (tie.spec digit_at_requires returns digit_at_requires_2 returns_2 digit_at_requires_3 returns_3 digit_at_requires_4 returns_4 mul_result mul_result_2 add_result mul_result_3 add_result_2 add_result_3 returns_5)

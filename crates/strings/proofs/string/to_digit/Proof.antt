@@ -3,46 +3,46 @@
 use native.Mathlib.Omega.{arith}
 use Rattle.strings.specs.Literals.{digit, upper, lower}
 use Rattle.strings.specs.Inner.Digit.{is, none}
-use Rattle.strings.proofs.Escapes.{no-hex}
+use Rattle.strings.proofs.Escapes.{no_hex}
 use borrow.Author.Rules.{rules}
 use Rattle.strings.proofs.string.to_digit.Statement.{statement}
 use Rattle.strings.proofs.string.to_digit.Tie as tie
 
-cast-result : tie.Need-overflow-cast-result
-cast-result c = search rules
+cast_result : tie.Need-overflow-cast-result
+cast_result c = search rules
 
-sub-result : tie.Need-overflow-sub-result
-sub-result c = search rules
+sub_result : tie.Need-overflow-sub-result
+sub_result c = search rules
 
-cast-result-2 : tie.Need-overflow-cast-result-2
-cast-result-2 c = search rules
+cast_result_2 : tie.Need-overflow-cast-result-2
+cast_result_2 c = search rules
 
-sub-result-2 : tie.Need-overflow-sub-result-2
-sub-result-2 c = search rules
+sub_result_2 : tie.Need-overflow-sub-result-2
+sub_result_2 c = search rules
 
-cast-result-3 : tie.Need-overflow-cast-result-3
-cast-result-3 c = search rules
+cast_result_3 : tie.Need-overflow-cast-result-3
+cast_result_3 c = search rules
 
 returns : tie.Need-returns
 returns c = is (digit {b = c.before.before.args.b} (omega arith))
 
-returns-2 : tie.Need-returns-2
-returns-2 c = is (upper {b = c.before.before.before.before.args.b} (omega arith))
+returns_2 : tie.Need-returns-2
+returns_2 c = is (upper {b = c.before.before.before.before.args.b} (omega arith))
 
-returns-3 : tie.Need-returns-3
-returns-3 c = is (lower {b = c.before.before.before.before.before.before.args.b} (omega arith))
+returns_3 : tie.Need-returns-3
+returns_3 c = is (lower {b = c.before.before.before.before.before.before.args.b} (omega arith))
 
-returns-4 : tie.Need-returns-4
-returns-4 c = none (no-hex _ (λ h. omega arith) (λ h. omega arith) (λ h. omega arith))
+returns_4 : tie.Need-returns-4
+returns_4 c = none (no_hex _ (λ h. omega arith) (λ h. omega arith) (λ h. omega arith))
 
-returns-5 : tie.Need-returns-5
-returns-5 c = none (no-hex _ (λ h. omega arith) (λ h. omega arith) (λ h. omega arith))
+returns_5 : tie.Need-returns-5
+returns_5 c = none (no_hex _ (λ h. omega arith) (λ h. omega arith) (λ h. omega arith))
 
-returns-6 : tie.Need-returns-6
-returns-6 c = none (no-hex _ (λ h. omega arith) (λ h. omega arith) (λ h. omega arith))
+returns_6 : tie.Need-returns-6
+returns_6 c = none (no_hex _ (λ h. omega arith) (λ h. omega arith) (λ h. omega arith))
 
-returns-7 : tie.Need-returns-7
-returns-7 c = none (no-hex _ (λ h. omega arith) (λ h. omega arith) (λ h. omega arith))
+returns_7 : tie.Need-returns-7
+returns_7 c = none (no_hex _ (λ h. omega arith) (λ h. omega arith) (λ h. omega arith))
 
-pub to-digit-spec : {M : Type 1} → statement M
-to-digit-spec = tie.close (tie.spec cast-result sub-result cast-result-2 sub-result-2 cast-result-3 returns returns-2 returns-3 returns-4 returns-5 returns-6 returns-7)
+pub to_digit_spec : {M : Type 1} → statement M
+to_digit_spec = tie.close (tie.spec cast_result sub_result cast_result_2 sub_result_2 cast_result_3 returns returns_2 returns_3 returns_4 returns_5 returns_6 returns_7)

@@ -6,52 +6,52 @@ use Prim.Native.Nat.{◌≤◌, ◌-◌}
 use native.Mathlib.Omega.{arith}
 use borrow.Author.Rules.{rules}
 use Rattle.strings.specs.Valid.{NoneAbove}
-use Rattle.strings.proofs.ValidLaws.{none-above-on}
+use Rattle.strings.proofs.ValidLaws.{none_above_on}
 use Rattle.strings.proofs.utf8.largest.Statement.{statement}
 use Rattle.strings.proofs.utf8.largest.Tie as tie
 
-abbrev invariant-loop : tie.invariant-loop
-invariant-loop s from most₀ k₀ most k = (k ≤ 64) × NoneAbove s from k most
+abbrev invariant_loop : tie.invariant-loop
+invariant_loop s from most₀ k₀ most k = (k ≤ 64) × NoneAbove s from k most
 
-abbrev decreases-loop : tie.decreases-loop
-decreases-loop s from most₀ k₀ most k = 64 - k
+abbrev decreases_loop : tie.decreases-loop
+decreases_loop s from most₀ k₀ most k = 64 - k
 
-loop-holds : tie.Need-loop-init invariant-loop decreases-loop
-loop-holds c = (omega arith, record { at_most = λ k h. absurd (omega arith) })
+loop_holds : tie.Need-loop-init invariant_loop decreases_loop
+loop_holds c = (omega arith, record { at_most = λ k h. absurd (omega arith) })
 
-add-b : tie.Need-overflow-add-b invariant-loop decreases-loop
-add-b c = omega arith
+add_b : tie.Need-overflow-add-b invariant_loop decreases_loop
+add_b c = omega arith
 
-shared-slice-read-b : tie.Need-shared-slice-read-b invariant-loop decreases-loop
-shared-slice-read-b c = omega arith
+shared_slice_read_b : tie.Need-shared-slice-read-b invariant_loop decreases_loop
+shared_slice_read_b c = omega arith
 
-add-k : tie.Need-overflow-add-k invariant-loop decreases-loop
-add-k c = omega arith
+add_k : tie.Need-overflow-add-k invariant_loop decreases_loop
+add_k c = omega arith
 
-loop-less : tie.Need-loop-smaller invariant-loop decreases-loop
-loop-less c = omega arith
+loop_less : tie.Need-loop-smaller invariant_loop decreases_loop
+loop_less c = omega arith
 
-loop-again : tie.Need-loop-preserved invariant-loop decreases-loop
-loop-again c =
+loop_again : tie.Need-loop-preserved invariant_loop decreases_loop
+loop_again c =
     let inv = c.before.before.before.loop.invariant in
-    let passed = none-above-on inv.1 in
+    let passed = none_above_on inv.1 in
     (omega arith, ⊎_elim (λ w. passed (omega arith) (omega arith)) (λ w. passed (omega arith) (omega arith)) c.if1.branch)
 
-returns : tie.Need-returns invariant-loop decreases-loop
+returns : tie.Need-returns invariant_loop decreases_loop
 returns c =
     let all : c.before.loop.k ≡ 64 = omega arith in
     rw all at c.before.loop.invariant.1
 
-pub largest-spec : {M : Type 1} → statement M
-largest-spec =
+pub largest_spec : {M : Type 1} → statement M
+largest_spec =
     tie.close
     (tie.spec
-    invariant-loop
-    decreases-loop
-    loop-holds
-    add-b
-    shared-slice-read-b
-    add-k
-    loop-less
-    loop-again
+    invariant_loop
+    decreases_loop
+    loop_holds
+    add_b
+    shared_slice_read_b
+    add_k
+    loop_less
+    loop_again
     returns)

@@ -1,55 +1,55 @@
 -- `strings::utf8::lead_of` meets its contract: each answer is the row that the tests leave.
 -- Assumes nothing.
 use native.Mathlib.Omega.{arith}
-use Rattle.strings.specs.Rows.{row-00-7F, none-80-C1, row-C2-DF, row-E0, row-E1-EC, row-ED, row-EE-EF, row-F0, row-F1-F3, row-F4, none-F5-FF}
+use Rattle.strings.specs.Rows.{row_00_7_f, none_80_C1, row_C2_DF, row_E0, row_E1_EC, row_ED, row_EE_EF, row_F0, row_F1_F3, row_F4, none_F5_FF}
 use Rattle.strings.proofs.utf8.lead_of.Statement.{statement}
 use Rattle.strings.proofs.utf8.lead_of.Tie as tie
 
 returns : tie.Need-returns
-returns c = row-00-7F (omega arith)
+returns c = row_00_7_f (omega arith)
 
-returns-2 : tie.Need-returns-2
-returns-2 c = none-80-C1 (omega arith)
+returns_2 : tie.Need-returns-2
+returns_2 c = none_80_C1 (omega arith)
 
-returns-3 : tie.Need-returns-3
-returns-3 c = row-C2-DF (omega arith)
+returns_3 : tie.Need-returns-3
+returns_3 c = row_C2_DF (omega arith)
 
-returns-4 : tie.Need-returns-4
-returns-4 c = row-E0 (omega arith)
+returns_4 : tie.Need-returns-4
+returns_4 c = row_E0 (omega arith)
 
-returns-5 : tie.Need-returns-5
-returns-5 c = row-E1-EC (omega arith)
+returns_5 : tie.Need-returns-5
+returns_5 c = row_E1_EC (omega arith)
 
-returns-6 : tie.Need-returns-6
-returns-6 c = row-ED (omega arith)
+returns_6 : tie.Need-returns-6
+returns_6 c = row_ED (omega arith)
 
-returns-7 : tie.Need-returns-7
-returns-7 c = row-EE-EF (omega arith)
+returns_7 : tie.Need-returns-7
+returns_7 c = row_EE_EF (omega arith)
 
-returns-8 : tie.Need-returns-8
-returns-8 c = row-F0 (omega arith)
+returns_8 : tie.Need-returns-8
+returns_8 c = row_F0 (omega arith)
 
-returns-9 : tie.Need-returns-9
-returns-9 c = row-F1-F3 (omega arith)
+returns_9 : tie.Need-returns-9
+returns_9 c = row_F1_F3 (omega arith)
 
-returns-10 : tie.Need-returns-10
-returns-10 c = row-F4 (omega arith)
+returns_10 : tie.Need-returns-10
+returns_10 c = row_F4 (omega arith)
 
-returns-11 : tie.Need-returns-11
-returns-11 c = none-F5-FF (omega arith)
+returns_11 : tie.Need-returns-11
+returns_11 c = none_F5_FF (omega arith)
 
-pub lead-of-spec : {M : Type 1} → statement M
-lead-of-spec =
+pub lead_of_spec : {M : Type 1} → statement M
+lead_of_spec =
     tie.close
     (tie.spec
     returns
-    returns-2
-    returns-3
-    returns-4
-    returns-5
-    returns-6
-    returns-7
-    returns-8
-    returns-9
-    returns-10
-    returns-11)
+    returns_2
+    returns_3
+    returns_4
+    returns_5
+    returns_6
+    returns_7
+    returns_8
+    returns_9
+    returns_10
+    returns_11)

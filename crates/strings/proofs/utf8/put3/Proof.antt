@@ -4,19 +4,19 @@ use mathlib.Core.Path.{◌∙◌}
 use mathlib.Core.List.{[], ◌∷◌}
 use Prim.Native.Nat.{◌+◌}
 use native.Mathlib.Omega.{arith}
-use Rattle.strings.proofs.Stores.{sets-append}
+use Rattle.strings.proofs.Stores.{sets_append}
 use borrow.Author.Rules.{rules}
 use Rattle.strings.proofs.utf8.put3.Statement.{statement}
 use Rattle.strings.proofs.utf8.put3.Tie as tie
 
-put2-requires : tie.Need-put2-requires
-put2-requires c κs = search rules
+put2_requires : tie.Need-put2-requires
+put2_requires c κs = search rules
 
-add-put : tie.Need-overflow-add-put
-add-put c = search rules
+add_put : tie.Need-overflow-add-put
+add_put c = search rules
 
-put-requires : tie.Need-put-requires
-put-requires c κs = search rules
+put_requires : tie.Need-put-requires
+put_requires c κs = search rules
 
 same_length : tie.Need-same-length
 same_length c = search rules
@@ -27,7 +27,7 @@ returns c =
     let first = last.before.before.before.before in
     let args = first.before.before.before.args in
     last.put.ensures
-    ∙ rw first.put2.ensures (sets-append args.out.now args.at (args.at + 2) (args.a ∷ args.b ∷ []) (args.c ∷ []) (omega arith))
+    ∙ rw first.put2.ensures (sets_append args.out.now args.at (args.at + 2) (args.a ∷ args.b ∷ []) (args.c ∷ []) (omega arith))
 
-pub put3-spec : {M : Type 1} → statement M
-put3-spec = tie.close (tie.spec put2-requires add-put put-requires same_length returns)
+pub put3_spec : {M : Type 1} → statement M
+put3_spec = tie.close (tie.spec put2_requires add_put put_requires same_length returns)

@@ -6,47 +6,47 @@ use Prim.Native.Nat.{◌-◌}
 use Rattle.trees.proofs.paths.is_name.Statement.{statement}
 use Rattle.trees.proofs.paths.is_name.Tie as tie
 
-abbrev invariant-loop : tie.invariant-loop
-invariant-loop text i₀ i = Unit {0}
+abbrev invariant_loop : tie.invariant-loop
+invariant_loop text i₀ i = Unit {0}
 
-abbrev decreases-loop : tie.decreases-loop
-decreases-loop text i₀ i = length text - i
+abbrev decreases_loop : tie.decreases-loop
+decreases_loop text i₀ i = length text - i
 
-loop-holds : tie.Need-loop-init invariant-loop decreases-loop
-loop-holds c = search rules
+loop_holds : tie.Need-loop-init invariant_loop decreases_loop
+loop_holds c = search rules
 
-shared-slice-read-is-letter : tie.Need-shared-slice-read-is-letter invariant-loop decreases-loop
-shared-slice-read-is-letter c = search rules
+shared_slice_read_is_letter : tie.Need-shared-slice-read-is-letter invariant_loop decreases_loop
+shared_slice_read_is_letter c = search rules
 
-is-letter-requires : tie.Need-is-letter-requires invariant-loop decreases-loop
-is-letter-requires c κs = search rules
+is_letter_requires : tie.Need-is-letter-requires invariant_loop decreases_loop
+is_letter_requires c κs = search rules
 
-returns : tie.Need-returns invariant-loop decreases-loop
+returns : tie.Need-returns invariant_loop decreases_loop
 returns c = search rules
 
-add-i : tie.Need-overflow-add-i invariant-loop decreases-loop
-add-i c = search rules
+add_i : tie.Need-overflow-add-i invariant_loop decreases_loop
+add_i c = search rules
 
-loop-less : tie.Need-loop-smaller invariant-loop decreases-loop
-loop-less c = search rules
+loop_less : tie.Need-loop-smaller invariant_loop decreases_loop
+loop_less c = search rules
 
-loop-again : tie.Need-loop-preserved invariant-loop decreases-loop
-loop-again c = search rules
+loop_again : tie.Need-loop-preserved invariant_loop decreases_loop
+loop_again c = search rules
 
-returns-2 : tie.Need-returns-2 invariant-loop decreases-loop
-returns-2 c = search rules
+returns_2 : tie.Need-returns-2 invariant_loop decreases_loop
+returns_2 c = search rules
 
-pub is-name-spec : {M : Type 1} → statement M
-is-name-spec =
+pub is_name_spec : {M : Type 1} → statement M
+is_name_spec =
     tie.close
     (tie.spec
-    invariant-loop
-    decreases-loop
-    loop-holds
-    shared-slice-read-is-letter
-    is-letter-requires
+    invariant_loop
+    decreases_loop
+    loop_holds
+    shared_slice_read_is_letter
+    is_letter_requires
     returns
-    add-i
-    loop-less
-    loop-again
-    returns-2)
+    add_i
+    loop_less
+    loop_again
+    returns_2)

@@ -5,59 +5,59 @@ use Prim.Native.Nat.{◌-◌}
 use Rattle.trees.proofs.paths.runs.Statement.{statement}
 use Rattle.trees.proofs.paths.runs.Tie as tie
 
-abbrev invariant-loop : tie.invariant-loop
-invariant-loop image links head n count₀ part₀ i₀ count part i = Unit {0}
+abbrev invariant_loop : tie.invariant-loop
+invariant_loop image links head n count₀ part₀ i₀ count part i = Unit {0}
 
-abbrev decreases-loop : tie.decreases-loop
-decreases-loop image links head n count₀ part₀ i₀ count part i = n - i
+abbrev decreases_loop : tie.decreases-loop
+decreases_loop image links head n count₀ part₀ i₀ count part i = n - i
 
-two-more-requires : tie.Need-two-more-requires invariant-loop decreases-loop
-two-more-requires c κs = search rules
+two_more_requires : tie.Need-two-more-requires invariant_loop decreases_loop
+two_more_requires c κs = search rules
 
-loop-holds : tie.Need-loop-init invariant-loop decreases-loop
-loop-holds c = search rules
+loop_holds : tie.Need-loop-init invariant_loop decreases_loop
+loop_holds c = search rules
 
-add-i : tie.Need-overflow-add-i invariant-loop decreases-loop
-add-i c = search rules
+add_i : tie.Need-overflow-add-i invariant_loop decreases_loop
+add_i c = search rules
 
-two-more-requires-2 : tie.Need-two-more-requires-2 invariant-loop decreases-loop
-two-more-requires-2 c κs = search rules
+two_more_requires_2 : tie.Need-two-more-requires-2 invariant_loop decreases_loop
+two_more_requires_2 c κs = search rules
 
-begins-run-requires : tie.Need-begins-run-requires invariant-loop decreases-loop
-begins-run-requires c κs = search rules
+begins_run_requires : tie.Need-begins-run-requires invariant_loop decreases_loop
+begins_run_requires c κs = search rules
 
-one-more-requires : tie.Need-one-more-requires invariant-loop decreases-loop
-one-more-requires c κs = search rules
+one_more_requires : tie.Need-one-more-requires invariant_loop decreases_loop
+one_more_requires c κs = search rules
 
-loop-less : tie.Need-loop-smaller invariant-loop decreases-loop
-loop-less c = search rules
+loop_less : tie.Need-loop-smaller invariant_loop decreases_loop
+loop_less c = search rules
 
-loop-again : tie.Need-loop-preserved invariant-loop decreases-loop
-loop-again c = search rules
+loop_again : tie.Need-loop-preserved invariant_loop decreases_loop
+loop_again c = search rules
 
-loop-less-2 : tie.Need-loop-smaller-2 invariant-loop decreases-loop
-loop-less-2 c = search rules
+loop_less_2 : tie.Need-loop-smaller-2 invariant_loop decreases_loop
+loop_less_2 c = search rules
 
-loop-again-2 : tie.Need-loop-preserved-2 invariant-loop decreases-loop
-loop-again-2 c = search rules
+loop_again_2 : tie.Need-loop-preserved-2 invariant_loop decreases_loop
+loop_again_2 c = search rules
 
-returns : tie.Need-returns invariant-loop decreases-loop
+returns : tie.Need-returns invariant_loop decreases_loop
 returns c = search rules
 
-pub runs-spec : {M : Type 1} → statement M
-runs-spec =
+pub runs_spec : {M : Type 1} → statement M
+runs_spec =
     tie.close
     (tie.spec
-    invariant-loop
-    decreases-loop
-    two-more-requires
-    loop-holds
-    add-i
-    two-more-requires-2
-    begins-run-requires
-    one-more-requires
-    loop-less
-    loop-again
-    loop-less-2
-    loop-again-2
+    invariant_loop
+    decreases_loop
+    two_more_requires
+    loop_holds
+    add_i
+    two_more_requires_2
+    begins_run_requires
+    one_more_requires
+    loop_less
+    loop_again
+    loop_less_2
+    loop_again_2
     returns)
