@@ -11,8 +11,8 @@ use native.Mathlib.Nat.{add-zero}
 use borrow.Author.Tests.{ne_eqb}
 use lib.Dec.{T, eqb, eqb→eq, leb, leb→le}
 use lib.ListN.{length, get_or}
-use Rattle.regex.specs.Regex.{in_class}
-use Rattle.regex.proofs.Bools.{and_left, and_right, implies, implied}
+use Rattle.regexes.specs.Regex.{in_class}
+use Rattle.regexes.proofs.Bools.{and_left, and_right, implies, implied}
 use Rattle.lexemes.specs.Kinds.{IDENT, L_PAREN, R_PAREN, L_BRACK, R_BRACK, L_BRACE, R_BRACE, COLON, SEMI, COMMA, DOLLAR, PLUS, MINUS, BIT_NOT}
 use Rattle.lexemes.specs.Kinds.{MUL, MODULO, LT, GT, BIT_AND, BIT_OR, BIT_XOR, NOT, ASSIGN, QUESTION_MARK, OR, NULL_COAELSE, AND, EQ, NE, LE, GE, LHS, RHS}
 use Rattle.lexemes.specs.Rules.{alpha, alnum}

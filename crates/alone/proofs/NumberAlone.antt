@@ -4,14 +4,14 @@ use mathlib.Core.Path.{◌≡◌, refl, sym, subst, ◌∙◌}
 use mathlib.Core.Bool.{◌||◌}
 use mathlib.Core.List.{List, [], ◌∷◌, ◌++◌}
 use mathlib.Core.Logic.{◌⊎◌, inl, inr, ⊎_elim}
-use Prim.Native.Nat.{ℕ, zero, ◌+◌, ◌≤◌, ◌<◌}
+use Prim.Native.Nat.{ℕ, ◌+◌, ◌≤◌, ◌<◌}
 use native.Mathlib.Omega.{arith}
 use native.Mathlib.Decide.{ℕ_discrete}
 use lib.Dec.{T, eqb, leb, leb→le}
 use borrow.Author.Tests.{ne_eqb}
 use lib.ListN.{length, get_or}
-use Rattle.regex.specs.Regex.{within}
-use Rattle.regex.proofs.Bools.{and_left, and_right, implies, implied}
+use Rattle.regexes.specs.Regex.{within}
+use Rattle.regexes.proofs.Bools.{and_left, and_right, implies, implied}
 use Rattle.lexemes.specs.Kinds.{FLOAT}
 use Rattle.lexemes.specs.Rules.{◌–◌}
 use Rattle.lexemes.specs.Scan.{class_of, ascii_class, IsDigit, IsE, Hops, here, digit_on, Digits, ExponentAt, FractionAt}
@@ -27,7 +27,7 @@ use Rattle.alone.proofs.Alone.{Bytes, split}
 
 -- No numeral goes on with the byte.
 pub record Stops (b : ℕ) : Type 0 where
-  pub no_digit_lem : IsDigit b → ⊥
+  pub no_digit : IsDigit b → ⊥
   pub no_group : b ≡ 95 → ⊥
   pub no_point : b ≡ 46 → ⊥
   pub no_e : b ≡ 101 → ⊥

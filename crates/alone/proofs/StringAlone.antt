@@ -81,7 +81,7 @@ module _ {s : List ℕ} {at q g : ℕ} where
         within k (within k₂ (within k₃ (here (leap (i + 1 + 1 + 1 + 1) m e (omega arith) n) u)))
 
     high : {i b : ℕ} {r : List ℕ} → 0x80 ≤ b → There s i (b ∷ r) → InString s at q g i → Utf8 (b ∷ r) → Scanned s at q g (i + 1) r
-    high h e m (Utf8.more (Character.row_00_7_f x) u) = absurd (omega (arith, x.1))
+    high h e m (Utf8.more (Character.row_00_7F x) u) = absurd (omega (arith, x.1))
     high h e m (Utf8.more (Character.row_C2_DF x y) u) = two m e h (omega (arith, x.1)) y.0 u
     high h e m (Utf8.more (Character.row_E0 x y z) u) = three m e x.0 (omega (arith, x.1)) (omega (arith, y.0)) z.0 u
     high h e m (Utf8.more (Character.row_E1_EC x y z) u) = three m e (omega (arith, x.0)) (omega (arith, x.1)) y.0 z.0 u

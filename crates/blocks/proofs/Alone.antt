@@ -2,17 +2,17 @@
 -- Assumes nothing.
 use mathlib.Core.Path.{◌≡◌, refl, sym, ◌∙◌, ap, subst}
 use mathlib.Core.Bool.{Bool}
-use mathlib.Core.List.{List, [], ◌∷◌, ◌++◌, nil≢cons, cons≢nil, head-eq_of_cons-eq, tail-eq_of_cons-eq, append_cancel_left, append_assoc}
+use mathlib.Core.List.{List, [], ◌∷◌, ◌++◌, head-eq_of_cons-eq, tail-eq_of_cons-eq, append_cancel_left, append_assoc}
 use mathlib.Core.Logic.{⊎_elim}
-use Prim.Native.Nat.{ℕ, ◌+◌, ◌-◌, ◌≤◌}
+use Prim.Native.Nat.{ℕ, ◌-◌, ◌≤◌}
 use native.Mathlib.Omega.{arith}
 use lib.ListN.{length, take, drop, length-append, length-drop, take-append-drop}
 use lib.Seq.{take-append_seam}
 use Rattle.blocks.specs.declared.Block.TheVariants.{Good}
-use Rattle.blocks.specs.Blocks.{Run, stop, more, LineFeed, HeaderBlank, Blank, InLine, Dash, there, Header, header, Indent, first, Lines, empty, content, Other, Found, good, closed, Last, another, Body, indented, Stands, after_header, text, BlockText, means, ends, BlockAt, a_good}
+use Rattle.blocks.specs.Blocks.{Run, stop, more, LineFeed, Blank, InLine, Dash, there, Header, header, Indent, first, Lines, empty, content, Other, good, closed, Last, another, Body, indented, Stands, after_header, text, BlockText, means, ends, BlockAt, a_good}
 use Rattle.blocks.proofs.Runs.{run_split, run_stops}
 use Rattle.blocks.proofs.Once.{indent_blank}
-use Rattle.blocks.proofs.Laws.{good_decodes, text_once}
+use Rattle.blocks.proofs.Laws.{text_once}
 
 -- ── Before another rest ───────────────────────────────────────────────────────────────────────────
 
@@ -23,13 +23,19 @@ pub record Alone (s r : List ℕ) (P : List ℕ → List ℕ → Type 0) : Type 
   pub before : (r' : List ℕ) → P (bytes ++ r') r'
 
 -- A run, and behind it a byte that ends it and some bytes more.
-run_alone : {P : ℕ → Type 0} {s l r : List ℕ} {b : ℕ} (k : List ℕ) → Run P s l (b ∷ (k ++ r)) → Alone s r (λ s' r'. Run P s' l (b ∷ (k ++ r')))
-run_alone {b = b} k (stop h) = record { bytes = b ∷ k; are = refl; before = λ r'. stop h }
-run_alone k (more {b = c} p d) =
-    let a = run_alone k d in
+run_to : {P : ℕ → Type 0} {s l v r : List ℕ} {b : ℕ} (k : List ℕ) → Run P s l v → v ≡ b ∷ (k ++ r) → Alone s r (λ s' r'. Run P s' l (b ∷ (k ++ r')))
+run_to k Run.end e = cc
+run_to {P} {b = b} k (stop {b = c} h) e =
+    record { bytes = b ∷ k; are = e; before = λ r'. stop (subst (λ (x : ℕ). P x → ⊥) (head-eq_of_cons-eq e) h) }
+run_to k (more {b = c} p d) e =
+    let a = run_to k d e in
     record { bytes = c ∷ a.bytes; are = ap (λ (t : List ℕ). c ∷ t) a.are; before = λ r'. more p (a.before r') }
 
+run_alone : {P : ℕ → Type 0} {s l r : List ℕ} {b : ℕ} (k : List ℕ) → Run P s l (b ∷ (k ++ r)) → Alone s r (λ s' r'. Run P s' l (b ∷ (k ++ r')))
+run_alone k d = run_to k d refl
+
 header_alone : {s r : List ℕ} {d : Bool} → Header s d (0x0A ∷ r) → Alone s r (λ s' r'. Header s' d (0x0A ∷ r'))
+header_alone {r = r} (header {blanks = blanks} Dash.end p) = elim p [ ]
 header_alone (header there p) =
     let a = run_alone [] p in
     record { bytes = 0x2D ∷ a.bytes; are = ap (λ (t : List ℕ). 0x2D ∷ t) a.are; before = λ r'. header there (a.before r') }
@@ -148,6 +154,7 @@ module _ {b : ℕ} {i r : List ℕ} {Q : List ℕ → List ℕ → Type 0} (no-f
 
   indented_alone : {s em line q t : List ℕ} {ls : List (List ℕ)} → Run LineFeed s em line → Run Blank line (b ∷ i) q → Lines (b ∷ i) s ls t → Other (b ∷ i) t → Alone t r Q
       → Alone s r (IndentedThen (b ∷ i) ls Q)
+  indented_alone {q = q} {t = t} {ls = ls} Run.end p _ o a = elim p [ ]
   indented_alone (stop h) p Lines.none o a = absurd (o.not_content _ (run_split p))
   indented_alone (stop h) p (empty d) o a = absurd (h refl)
   indented_alone (stop h) p (content e l d) o a = first_alone p e l (lines_alone d a)

@@ -171,7 +171,7 @@ run_alone Run.end = Run.end
 run_alone (stop h) = Run.end
 run_alone (more p d) = more p (run_alone d)
 
-run_before : {l : List ℕ} (u : List ℕ) → Run InLine l l [] → Run InLine (l ++ 0x0A ∷ u) l (0x0A ∷ u)
+run_before : {m l : List ℕ} (u : List ℕ) → Run InLine m l [] → Run InLine (l ++ 0x0A ∷ u) l (0x0A ∷ u)
 run_before u Run.end = stop (λ h. h refl)
 run_before u (more p d) = more p (run_before u d)
 

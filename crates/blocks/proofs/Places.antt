@@ -11,7 +11,7 @@ use lib.Seq.{sets, slice, length-sets, slice_empty, take-suc, drop-append-le, le
 use borrow.Author.Tests.{lt-ltb, le-ltb}
 use Rattle.strings.proofs.Stores.{sets_append}
 use Rattle.blocks.specs.Blocks.{Run, stop, more, LineFeed, Dash, there, NoBars}
-use Rattle.blocks.specs.Inside.{Says, holds, fails, Spans, Dashed, BarsAt, bars, none, StartsAt, starts, differs, feeds}
+use Rattle.blocks.specs.Inside.{Says, holds, fails, Spans, Dashed, BarsAt, bars, StartsAt, starts, differs, feeds}
 use Rattle.strings.proofs.Stores.{drop-next}
 
 -- What a test's answer tells.

@@ -6,7 +6,7 @@ use mathlib.Core.List.{List, [], ◌∷◌, ◌++◌, append_assoc, append_cance
 use Prim.Native.Nat.{ℕ, suc, ◌+◌, ◌-◌, ◌≤◌, ◌<◌}
 use native.Mathlib.Omega.{arith}
 use native.Mathlib.Numerals.{add-one}
-use lib.ListN.{length, get_or, take, drop, length-append, length-drop, take-append-drop, drop_of_length-le}
+use lib.ListN.{length, get_or, take, drop, length-append, length-drop, drop_of_length-le}
 use lib.Seq.{sets, slice, slice-cons, length-slice, length-sets, length-take-le, take-suc, take_at, drop-append-le}
 use Rattle.strings.proofs.Stores.{sets_append}
 use Rattle.blocks.specs.declared.Block.{Block}

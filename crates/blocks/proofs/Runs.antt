@@ -10,7 +10,7 @@ use borrow.Author.Count.{below_more}
 use lib.ListN.{length, get_or, take, drop, length-append, drop_of_length-le}
 use lib.Seq.{slice, slice-cons}
 use Rattle.strings.proofs.Stores.{drop-next}
-use Rattle.blocks.specs.Blocks.{Run, end, stop, more, InLine, NoBars, Sought, here, on}
+use Rattle.blocks.specs.Blocks.{Run, stop, more, InLine, NoBars, Sought, here, on}
 use Rattle.blocks.specs.Inside.{Spans, SoughtTo}
 
 -- a byte that is not other than b is b

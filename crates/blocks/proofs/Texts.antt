@@ -6,7 +6,7 @@ use mathlib.Core.List.{List, [], ◌∷◌, ◌++◌, append_assoc}
 use Prim.Native.Nat.{ℕ, ◌+◌, ◌≤◌}
 use native.Mathlib.Omega.{arith}
 use lib.ListN.{length, length-append}
-use Rattle.blocks.specs.Blocks.{Run, stop, more, LineFeed, InLine, Lines, none, empty, content, joined, text}
+use Rattle.blocks.specs.Blocks.{Run, stop, more, LineFeed, InLine, Lines, empty, content, joined, text}
 use Rattle.blocks.proofs.Runs.{run_length}
 
 -- lines, each with its LF

@@ -1,12 +1,11 @@
 -- The text of a block in a UTF-8 source is UTF-8: lines are cut at ASCII bytes.
 -- Assumes nothing.
-use mathlib.Core.Path.{◌≡◌, refl}
 use mathlib.Core.Bool.{Bool, true, false}
 use mathlib.Core.List.{List, [], ◌∷◌, ◌++◌}
-use mathlib.Core.Logic.{◌⊎◌, inl, inr}
+use mathlib.Core.Logic.{inl, inr}
 use Prim.Native.Nat.{ℕ, ◌<◌}
 use native.Mathlib.Omega.{arith}
-use Rattle.strings.specs.Utf8.{Utf8, In, row_00_7_f}
+use Rattle.strings.specs.Utf8.{Utf8, In, row_00_7F}
 use Rattle.strings.specs.Utf8 as unicode
 use Rattle.strings.proofs.CharacterLaws.{utf8_append, ascii-rest, ascii_splits}
 use Rattle.blocks.specs.Blocks.{Blank, HeaderBlank, InLine, Run, Dash, Header, header, Indent, first, Lines, Last, another, Closing, closed, Found, good, Body, indented, joined, text, BlockText, means}
@@ -60,7 +59,7 @@ lines_utf8 a (blocks.Lines.content {line = line} e l x) u =
     more parts.0 (lines_utf8 a x parts.1)
 
 feed : {t : List ℕ} → Utf8 t → Utf8 (0x0A ∷ t)
-feed u = let h : In 0x00 0x7F 0x0A = omega arith in unicode.Utf8.more (row_00_7_f h) u
+feed u = let h : In 0x00 0x7F 0x0A = omega arith in unicode.Utf8.more (row_00_7F h) u
 
 joined-utf8 : {ls : List (List ℕ)} → Each ls → Utf8 (joined ls)
 unfolding joined

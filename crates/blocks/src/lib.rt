@@ -1,3 +1,4 @@
+#![tactic(auto)]
 // Text blocks (string_block.rs): where one ends or what is wrong with it, and its text.
 ghost use Rattle.std.specs.Prelude.{◌≡◌, ◌+◌, ◌-◌, ◌≤◌, ◌<◌, ◌^◌, length, drop};
 ghost use Rattle.std.proofs.lemmas.List.Edits.{sets};

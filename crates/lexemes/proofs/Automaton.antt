@@ -1,19 +1,16 @@
 -- The automaton of the rules that are no keywords: its states, each by a text that leads to it, and where a letter leads from each.
 -- From it: at every place there is a longest match or none, and no two of these rules ever end a longest match at one place.
 -- Assumes nothing.
-use mathlib.Core.Path.{◌≡◌, refl, sym, subst}
-use mathlib.Core.Bool.{Bool}
 use mathlib.Core.List.{List, [], ◌∷◌, map}
-use mathlib.Core.Logic.{◌⊎◌}
-use Prim.Native.Nat.{ℕ, ◌+◌, ◌≤◌}
+use Prim.Native.Nat.{ℕ}
 use Prim.Native.String.{String}
 use native.Mathlib.Omega.{arith}
 use lib.Dec.{T}
 use lib.ListN.{length}
-use Rattle.regex.specs.Regex.{Rule, ◌⇒◌, eps}
-use Rattle.regex.proofs.Tables.{left}
-use Rattle.regex.proofs.Exists.{closes, Outcome, outcome}
-use Rattle.lexemes.specs.Kinds.{OR, NULL_COAELSE, AND, BIT_XOR, EQ, NE, LE, GE, LHS, RHS, PLUS, MINUS, MUL, MODULO, BIT_NOT, L_BRACK, R_BRACK, L_PAREN, R_PAREN, L_BRACE, R_BRACE, COLON, SEMI, DOTDOTDOT, COMMA, DOLLAR, ERROR_FLOAT_JUNK_AFTER_POINT, ERROR_FLOAT_JUNK_AFTER_EXPONENT, ERROR_FLOAT_JUNK_AFTER_EXPONENT_SIGN, STRING_DOUBLE, STRING_SINGLE, STRING_BLOCK, SINGLE_LINE_SLASH_COMMENT, SINGLE_LINE_HASH_COMMENT, MULTI_LINE_COMMENT}
+use Rattle.regexes.specs.Regex.{Rule, ◌⇒◌, eps}
+use Rattle.regexes.proofs.Tables.{left}
+use Rattle.regexes.proofs.Exists.{closes, Outcome, outcome}
+use Rattle.lexemes.specs.Kinds.{NULL_COAELSE, AND, BIT_XOR, EQ, NE, LE, GE, LHS, RHS, PLUS, MINUS, MUL, MODULO, BIT_NOT, L_BRACK, R_BRACK, L_PAREN, R_PAREN, L_BRACE, R_BRACE, COLON, SEMI, DOTDOTDOT, COMMA, DOLLAR, ERROR_FLOAT_JUNK_AFTER_POINT, ERROR_FLOAT_JUNK_AFTER_EXPONENT, ERROR_FLOAT_JUNK_AFTER_EXPONENT_SIGN, STRING_DOUBLE, STRING_SINGLE, STRING_BLOCK, SINGLE_LINE_SLASH_COMMENT, SINGLE_LINE_HASH_COMMENT, MULTI_LINE_COMMENT}
 use Rattle.lexemes.specs.Letters.{text, ascii}
 use Rattle.lexemes.specs.Rules.{rules}
 use Rattle.lexemes.specs.Lexeme.{Beats}

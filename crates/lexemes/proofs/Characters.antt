@@ -1,18 +1,18 @@
 -- On UTF-8 a letter is one whole character: where the bytes of a code point stand, the letter is the code point's, and the next place is past
 -- these bytes. So a class such as `[^0-9]` takes one character, and `\s` is Unicode's White_Space.
 -- Assumes nothing.
-use mathlib.Core.Path.{◌≡◌, refl, sym, ◌∙◌, ap, ap₂, subst}
+use mathlib.Core.Path.{◌≡◌, refl, sym, ◌∙◌, ap, subst}
 use mathlib.Core.Bool.{Bool, cond}
-use mathlib.Core.List.{List, [], ◌∷◌, ◌++◌}
-use mathlib.Core.Logic.{◌⊎◌, inl, inr}
-use Prim.Native.Nat.{ℕ, ◌+◌, ◌-◌, ◌*◌, ◌/◌, ◌%◌, ◌≤◌, ◌<◌, min}
+use mathlib.Core.List.{List, ◌∷◌, ◌++◌}
+use mathlib.Core.Logic.{inl, inr}
+use Prim.Native.Nat.{ℕ, ◌+◌, ◌-◌, ◌*◌, ◌/◌, ◌%◌, ◌≤◌, ◌<◌}
 use native.Mathlib.Omega.{arith}
 use native.Mathlib.Nat.{add-zero}
 use lib.Dec.{ltb}
 use lib.ListN.{length, get_or, drop, length-drop}
 use lib.Seq.{get_or-drop, drop-drop, drop_at}
 use borrow.Author.Tests.{lt-ltb, le-ltb}
-use Rattle.regex.specs.Regex.{within}
+use Rattle.regexes.specs.Regex.{within}
 use Rattle.strings.specs.Utf8.{Character, Scalar, utf8}
 use Rattle.strings.proofs.Utf8Laws.{by_range, utf8_1, utf8_2, utf8_3, utf8_4, character_scalar}
 use Rattle.lexemes.specs.Letters.{WHITE, OTHER, letter, next, beyond, code_point, white_space}

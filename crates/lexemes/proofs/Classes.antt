@@ -1,7 +1,7 @@
 -- The table of byte classes and its rule: one test of all 256 entries, which antt computes, and what it says of each.
 -- Assumes nothing.
 use mathlib.Core.Path.{◌≡◌, refl, sym, ◌∙◌, ap, subst}
-use mathlib.Core.Bool.{Bool, true, false, not, ◌&&◌}
+use mathlib.Core.Bool.{Bool, not, ◌&&◌}
 use mathlib.Core.List.{List, [], ◌∷◌}
 use Prim.Native.Nat.{ℕ, zero, suc, ◌+◌, ◌-◌, ◌<◌, ◌≤◌}
 use native.Mathlib.Omega.{arith}
@@ -9,10 +9,10 @@ use native.Mathlib.Decide.{dec_lt}
 use borrow.Author.Tests.{le-ltb}
 use lib.Dec.{T, eqb, eqb→eq, leb, le→leb, leb→le}
 use lib.ListN.{length, get_or, get_or-eq_default}
-use Rattle.regex.specs.Regex.{END, Rule}
-use Rattle.regex.proofs.Bools.{and, refutes, refuted, and_left, and_right, every, Each, each, all, all_at, implies, implied}
-use Rattle.regex.proofs.Tables.{steps, gives}
-use Rattle.lexemes.specs.Letters.{WHITE, OTHER, letter, next}
+use Rattle.regexes.specs.Regex.{END, Rule}
+use Rattle.regexes.proofs.Bools.{and, refutes, refuted, and_left, and_right, every, Each, each, all, all_at, implies, implied}
+use Rattle.regexes.proofs.Tables.{steps, gives}
+use Rattle.lexemes.specs.Letters.{WHITE, OTHER, next}
 use Rattle.lexemes.specs.Scan.{class_of, ascii_class, class_table, Ran, InWord, single, Best}
 use Rattle.lexemes.proofs.Letters.{letter-ascii, next-ascii, by_byte, inside}
 use Rattle.lexemes.proofs.Moves.{Sees, not_in, Rest, at_rest, go, stop}

@@ -1,11 +1,11 @@
 -- Which kinds are dropped and which are bad, by the tests that the code makes.
 -- Assumes nothing.
-use mathlib.Core.Path.{◌≡◌, refl, sym, subst}
+use mathlib.Core.Path.{◌≡◌}
 use mathlib.Core.Bool.{Bool, true, false, not, ◌&&◌}
 use mathlib.Core.List.{List, [], ◌∷◌}
 use Prim.Native.Nat.{ℕ, ◌≤◌, ◌<◌}
 use lib.Dec.{T, leb, le→leb}
-use Rattle.regex.proofs.Bools.{true_is, false_is, and, implies, implied}
+use Rattle.regexes.proofs.Bools.{true_is, false_is, and, implies, implied}
 use Rattle.lexemes.specs.Kept.{dropped, bad}
 use Rattle.lexemes.proofs.Moves.{not_in, Rest, at_rest}
 

@@ -1,25 +1,25 @@
 -- The first byte of a lexeme: classes of one byte, blanks, and characters that no rule begins with.
 -- Assumes nothing.
 use mathlib.Core.Path.{◌≡◌, refl, sym, ◌∙◌, subst}
-use mathlib.Core.Bool.{Bool, true, false, not, ◌&&◌, ◌||◌}
+use mathlib.Core.Bool.{Bool, not, ◌&&◌, ◌||◌}
 use mathlib.Core.List.{List, [], ◌∷◌}
 use Prim.Native.Nat.{ℕ, ◌+◌, ◌≤◌, ◌<◌}
 use native.Mathlib.Omega.{arith}
 use native.Mathlib.Decide.{dec_lt}
-use lib.Dec.{T, leb, leb→le, ltb, eqb, eqb→eq, eqb_refl}
-use lib.ListN.{length, get_or}
+use lib.Dec.{T, leb, leb→le, eqb, eqb→eq, eqb_refl}
+use lib.ListN.{get_or}
 use borrow.Author.Tests.{le-ltb}
-use Rattle.regex.specs.Regex.{in_class, ◌to◌, within, Rule}
-use Rattle.regex.proofs.Bools.{and_left, and_right, all, all_at, implies, implied}
-use Rattle.regex.proofs.Tables.{left, steps, gives, silent}
+use Rattle.regexes.specs.Regex.{◌to◌, within, Rule}
+use Rattle.regexes.proofs.Bools.{and_left, and_right, all, all_at, implies, implied}
+use Rattle.regexes.proofs.Tables.{left, steps, gives}
 use Rattle.lexemes.specs.Kinds.{WHITESPACE, LEXING_ERROR}
-use Rattle.lexemes.specs.Letters.{letter, next}
+use Rattle.lexemes.specs.Letters.{next}
 use Rattle.lexemes.specs.Rules.{rules}
 use Rattle.lexemes.specs.Lexeme.{Ruled, longest, error}
-use Rattle.lexemes.specs.Scan.{class_of, ascii_class, Ran, Best}
+use Rattle.lexemes.specs.Scan.{class_of, ascii_class, Ran}
 use Rattle.lexemes.proofs.Letters.{by_byte}
 use Rattle.lexemes.proofs.Moves.{Sees, not_in, Rest, at_rest, go, never}
-use Rattle.lexemes.proofs.Classes.{covers, classed, between, is_between, class_small, run_stop}
+use Rattle.lexemes.proofs.Classes.{covers, classed, class_small, run_stop}
 use Rattle.lexemes.proofs.Verbatim.{silent_rules}
 
 -- The byte of a class that has one.

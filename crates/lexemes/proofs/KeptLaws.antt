@@ -2,16 +2,16 @@
 -- ones from a place are none, or one and the kept ones from its end.
 -- Assumes nothing.
 use mathlib.Core.Path.{◌≡◌, refl, sym, ◌∙◌, ap, subst}
-use mathlib.Core.Bool.{Bool, true, false, not, cond, ◌&&◌, ◌||◌}
-use mathlib.Core.List.{List, [], ◌∷◌, ◌++◌, append_assoc}
-use mathlib.Core.Logic.{◌⊎◌, inl, inr, ⊎_elim}
+use mathlib.Core.Bool.{Bool, true, false, not, cond, ◌&&◌}
+use mathlib.Core.List.{List, [], ◌∷◌, ◌++◌}
+use mathlib.Core.Logic.{◌⊎◌, inl, inr}
 use Prim.Native.Nat.{ℕ, zero, suc, ◌+◌, ◌-◌, ◌≤◌, ◌<◌}
 use native.Mathlib.Omega.{arith}
-use native.Mathlib.Decide.{dec_lt, ℕ_discrete}
-use lib.Dec.{T, eqb, leb, ltb, le→leb, lt→ltb, eqb→eq}
+use native.Mathlib.Decide.{dec_lt}
+use lib.Dec.{T, eqb, eqb→eq}
 use lib.ListN.{length, get_or, take, drop, drop_of_length-le, take-append-drop}
 use lib.Seq.{drop-drop}
-use Rattle.regex.proofs.Bools.{false_is, and, and_left, and_right, or_cases, all, all_at, implies, implied, refuted}
+use Rattle.regexes.proofs.Bools.{false_is, and_left, and_right, or_cases, all, all_at}
 use Rattle.lexemes.specs.declared.Lexeme.{Lexeme}
 use Rattle.lexemes.specs.declared.kept.Cursor.{Cursor}
 use Rattle.lexemes.specs.Kinds.{EOF, WHITESPACE}

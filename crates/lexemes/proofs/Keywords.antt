@@ -1,7 +1,7 @@
 -- Words: what spells a keyword, the keywords' rules as the code's tables, and the word that a run of letters and digits is.
 -- Assumes nothing.
 use mathlib.Core.Path.{◌≡◌, refl, sym, ◌∙◌, ap, subst}
-use mathlib.Core.Bool.{Bool, true, false, not, ◌&&◌, ◌||◌}
+use mathlib.Core.Bool.{Bool, true, false, not, ◌&&◌}
 use mathlib.Core.List.{List, [], ◌∷◌, ◌++◌}
 use mathlib.Core.Logic.{◌⊎◌, inl, inr, ⊎_elim}
 use Prim.Native.Nat.{ℕ, zero, suc, ◌+◌, ◌-◌, ◌*◌, ◌≤◌, ◌<◌}
@@ -10,9 +10,9 @@ use native.Mathlib.Nat.{add-zero}
 use lib.Dec.{T, leb, leb→le, ltb, ltb→lt, eqb, eqb→eq, eqb_refl}
 use lib.ListN.{length, get_or, take, drop, length-take, length-drop, take-append-drop}
 use lib.Seq.{get_or-take, get_or-drop}
-use Rattle.regex.specs.Regex.{Re, ◌·◌, eps, one, Star, stop, more, Rule, ◌⇒◌, Match, Takes, in_class}
-use Rattle.regex.proofs.Bools.{and, and_left, and_right, every, Each, each, ask, asked, all, all_at, refuted}
-use Rattle.regex.proofs.Tables.{left, Among, accepts, steps, steps_eq, gives, silent, silent_eq, takes_forth, takes_back, append_to, append_from}
+use Rattle.regexes.specs.Regex.{Re, ◌·◌, eps, one, Star, stop, more, Rule, ◌⇒◌, Match, Takes, in_class}
+use Rattle.regexes.proofs.Bools.{and, and_left, and_right, every, Each, each, ask, asked, all, all_at, refuted}
+use Rattle.regexes.proofs.Tables.{left, Among, steps, steps_eq, gives, silent, silent_eq, takes_forth, takes_back, append_to, append_from}
 use Rattle.lexemes.specs.Kinds.{IDENT, TAILSTRICT_KW, ASSERT_KW}
 use Rattle.lexemes.specs.Letters.{text, letter, next}
 use Rattle.lexemes.specs.Rules.{rules, alpha, alnum}

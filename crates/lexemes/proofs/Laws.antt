@@ -2,7 +2,7 @@
 -- and IDENT ever end a longest match at one place with different kinds.
 -- Assumes nothing.
 use mathlib.Core.Path.{◌≡◌, refl, sym, ◌∙◌, ap, ap₂, subst}
-use mathlib.Core.Bool.{Bool, true, false, not, ◌&&◌}
+use mathlib.Core.Bool.{not}
 use mathlib.Core.List.{List, [], ◌∷◌, ◌++◌}
 use mathlib.Core.Logic.{◌⊎◌, inl, inr, ⊎_elim}
 use Prim.Native.Nat.{ℕ, zero, suc, ◌+◌, ◌≤◌, ◌<◌}
@@ -10,11 +10,11 @@ use native.Mathlib.Omega.{arith}
 use native.Mathlib.Decide.{dec_lt, ℕ_discrete}
 use lib.Dec.{T, eqb, ltb, ltb→lt}
 use lib.ListN.{length, get_or}
-use Rattle.regex.specs.Regex.{END, Rule, in_class, Class, only, but, within, Takes, Longest, Nothing}
-use Rattle.regex.proofs.Bools.{and_left, refuted}
-use Rattle.regex.proofs.Tables.{left, Among, accepts, silent, silent_eq, takes_forth, takes_along, append_from, kinds, kind_of}
-use Rattle.regex.proofs.Longest.{takes_up, once, join_left, join_none}
-use Rattle.regex.proofs.Exists.{Outcome}
+use Rattle.regexes.specs.Regex.{END, Rule, in_class, Class, only, but, within, Takes, Nothing}
+use Rattle.regexes.proofs.Bools.{and_left, refuted}
+use Rattle.regexes.proofs.Tables.{left, Among, silent_eq, takes_forth, takes_along, kinds, kind_of}
+use Rattle.regexes.proofs.Longest.{takes_up, once, join_left, join_none}
+use Rattle.regexes.proofs.Exists.{Outcome}
 use Rattle.blocks.specs.declared.Block.{Block}
 use Rattle.blocks.specs.declared.Block.TheVariants.{Good, UnexpectedEnd, MissingNewLine, MissingTermination, MissingIndent}
 use Rattle.blocks.specs.Blocks.{BlockAt}
@@ -24,7 +24,7 @@ use Rattle.lexemes.specs.declared.Lexeme.{Lexeme}
 use Rattle.lexemes.specs.Kinds.{EOF, IDENT, STRING_BLOCK, LEXING_ERROR}
 use Rattle.lexemes.specs.Letters.{text, letter, next}
 use Rattle.lexemes.specs.Rules.{rules}
-use Rattle.lexemes.specs.Lexeme.{Beats, Keyword, Ruled, longest, error, LexemeAt, end, rule, block, lexeme, block_kind, block_end}
+use Rattle.lexemes.specs.Lexeme.{Beats, Ruled, longest, error, LexemeAt, end, rule, block, lexeme, block_kind, block_end}
 use Rattle.lexemes.specs.Scan.{Best, Never}
 use Rattle.lexemes.specs.Words.{word_text, word_kind, Spells, KeywordAt}
 use Rattle.lexemes.proofs.Letters.{up, sound, next-within, letter_inside}

@@ -1,6 +1,6 @@
 -- The letters of a source: the next place is further on, a byte below 128 is its own letter, past the end stands END.
 -- Assumes nothing.
-use mathlib.Core.Path.{◌≡◌, refl, sym, ◌∙◌, subst}
+use mathlib.Core.Path.{◌≡◌, sym, ◌∙◌, subst}
 use mathlib.Core.Bool.{Bool, true, false, cond}
 use mathlib.Core.List.{List}
 use Prim.Native.Nat.{ℕ, ◌+◌, ◌≤◌, ◌<◌, min}
@@ -9,8 +9,8 @@ use native.Mathlib.Decide.{dec_lt}
 use lib.Dec.{T, ltb}
 use lib.ListN.{length, get_or, get_or-eq_default}
 use borrow.Author.Tests.{lt-ltb, le-ltb}
-use Rattle.regex.specs.Regex.{END, within}
-use Rattle.regex.proofs.Longest.{Sound}
+use Rattle.regexes.specs.Regex.{END, within}
+use Rattle.regexes.proofs.Longest.{Sound}
 use Rattle.lexemes.specs.Letters.{WHITE, OTHER, text, letter, next, beyond, width, white_space, code_point}
 
 either : (t : Bool) (a b : ℕ) (P : ℕ → Type 0) → P a → P b → P (cond t a b)

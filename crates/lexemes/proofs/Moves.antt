@@ -3,17 +3,17 @@
 use mathlib.Core.Path.{◌≡◌, refl, sym, ◌∙◌, subst}
 use mathlib.Core.Bool.{Bool, true, false, not, ◌&&◌, ◌||◌}
 use mathlib.Core.List.{List, [], ◌∷◌}
-use mathlib.Core.Logic.{◌⊎◌, inl, inr, ⊎_elim}
+use mathlib.Core.Logic.{inl, inr, ⊎_elim}
 use Prim.Native.Nat.{ℕ, ◌+◌, ◌≤◌, ◌<◌}
 use native.Mathlib.Omega.{arith}
 use native.Mathlib.Nat.{le_antisymm, le_refl}
 use lib.Dec.{T, leb, leb→le, le→leb, eqb→eq, ltb, lt→ltb, eqb, eqb_refl}
 use lib.ListN.{length, get_or}
 use borrow.Author.Tests.{ne_eqb}
-use Rattle.regex.specs.Regex.{END, Re, one, only, ◌to◌, within, in_class, Match, Rule, Longest, Nothing}
-use Rattle.regex.proofs.Bools.{and, and_left, and_right, or_cases, or_left}
-use Rattle.regex.proofs.Tables.{left, accepts, Among, steps, steps_eq, gives, gives_eq, silent, silent_eq}
-use Rattle.regex.proofs.Longest.{on, halt, fail, empty}
+use Rattle.regexes.specs.Regex.{END, Re, one, only, ◌to◌, in_class, Match, Rule}
+use Rattle.regexes.proofs.Bools.{and, and_left, and_right, or_cases, or_left}
+use Rattle.regexes.proofs.Tables.{left, Among, steps, steps_eq, gives, gives_eq, silent, silent_eq}
+use Rattle.regexes.proofs.Longest.{on, halt, fail, empty}
 use Rattle.lexemes.specs.Letters.{WHITE, OTHER, text, letter, next}
 use Rattle.lexemes.specs.Lexeme.{Beats}
 use Rattle.lexemes.specs.Scan.{Best, Never}

@@ -1,23 +1,23 @@
 -- A lexer that computes, with fuel, for worked examples: by what is left of the rules after each letter. What it gives is a lexeme.
 -- Assumes nothing.
-use mathlib.Core.Path.{◌≡◌, refl, sym, ap, subst}
+use mathlib.Core.Path.{◌≡◌, refl, sym, subst}
 use mathlib.Core.Bool.{Bool, true, false, ◌&&◌, true≢false}
 use mathlib.Core.List.{List, [], ◌∷◌}
-use mathlib.Core.Logic.{◌⊎◌, inl, inr, ⊎_elim}
-use Prim.Native.Nat.{ℕ, zero, suc, ◌≤◌, ◌<◌}
+use mathlib.Core.Logic.{inl, inr, ⊎_elim}
+use Prim.Native.Nat.{ℕ, zero, suc, ◌<◌}
 use native.Mathlib.Omega.{arith}
-use lib.Dec.{T, eqb, leb, ltb, leb→le, eqb→eq, ltb→lt, nltb→le}
+use lib.Dec.{T, eqb, leb, ltb, leb→le, eqb→eq}
 use lib.ListN.{length}
 use borrow.Author.Tests.{ltb-true, ltb-false, eqb-false}
-use Rattle.regex.specs.Regex.{Text, Rule, Longest, Nothing}
-use Rattle.regex.proofs.Bools.{and_left, and_right}
-use Rattle.regex.proofs.Tables.{left, accepts, Among}
-use Rattle.regex.proofs.Longest.{Sound, empty, fail, on, halt}
+use Rattle.regexes.specs.Regex.{Text, Rule, Longest, Nothing}
+use Rattle.regexes.proofs.Bools.{and_left, and_right}
+use Rattle.regexes.proofs.Tables.{left, accepts, Among}
+use Rattle.regexes.proofs.Longest.{Sound, empty, fail, on, halt}
 use Rattle.lexemes.specs.declared.Lexeme.{Lexeme}
-use Rattle.lexemes.specs.Kinds.{IDENT, STRING_BLOCK, TAILSTRICT_KW, ASSERT_KW, LEXING_ERROR}
+use Rattle.lexemes.specs.Kinds.{IDENT, STRING_BLOCK, TAILSTRICT_KW, ASSERT_KW}
 use Rattle.lexemes.specs.Letters.{text, letter, next}
 use Rattle.lexemes.specs.Rules.{rules}
-use Rattle.lexemes.specs.Lexeme.{Beats, Ruled, longest, error, LexemeAt, end, rule, lexeme}
+use Rattle.lexemes.specs.Lexeme.{Beats, Ruled, longest, rule, lexeme}
 use Rattle.lexemes.specs.Kept.{Lexemes, none, some}
 use Rattle.lexemes.proofs.Letters.{sound}
 

@@ -1,22 +1,22 @@
 -- Numbers: the tables of rules on the way through one, and how far a scan has come.
 -- Assumes nothing.
-use mathlib.Core.Path.{◌≡◌, refl, sym, ◌∙◌, subst}
+use mathlib.Core.Path.{◌≡◌, refl, sym, subst}
 use mathlib.Core.Bool.{Bool, true, false, not, ◌&&◌}
 use mathlib.Core.List.{List, [], ◌∷◌}
-use mathlib.Core.Logic.{◌⊎◌, inl, inr, ⊎_elim}
+use mathlib.Core.Logic.{inl, inr, ⊎_elim}
 use Prim.Native.Nat.{ℕ, zero, suc, ◌+◌, ◌-◌, ◌≤◌, ◌<◌}
 use native.Mathlib.Omega.{arith}
 use native.Mathlib.Decide.{ℕ_discrete}
 use lib.Dec.{T, ltb, lt→ltb, eqb, eqb→eq}
 use lib.ListN.{length, get_or}
-use Rattle.regex.specs.Regex.{END, Rule, ◌⇒◌, Re, one, but, ◌·◌, star, in_class, within, ◌to◌, Takes}
-use Rattle.regex.proofs.Bools.{and, implies}
-use Rattle.regex.proofs.Tables.{left, steps, gives, silent}
+use Rattle.regexes.specs.Regex.{END, Rule, within, ◌to◌, Takes}
+use Rattle.regexes.proofs.Bools.{and}
+use Rattle.regexes.proofs.Tables.{left, steps, gives, silent}
 use Rattle.lexemes.specs.Kinds.{FLOAT, ERROR_FLOAT_JUNK_AFTER_POINT, ERROR_FLOAT_JUNK_AFTER_EXPONENT, ERROR_FLOAT_JUNK_AFTER_EXPONENT_SIGN}
 use Rattle.lexemes.specs.Letters.{letter, next, text}
 use Rattle.lexemes.specs.Rules.{rules}
 use Rattle.lexemes.specs.Lexeme.{Ruled, longest}
-use Rattle.lexemes.specs.Scan.{class_of, ascii_class, Ran, Best, Never, Tried, Ended, IsDigit, Hops, here, digit_on, group_on, Digits, after_point, after_e, after_sign, IsE, ExponentAt, FractionAt, Says}
+use Rattle.lexemes.specs.Scan.{Ran, Best, Never, Tried, Ended, IsDigit, Hops, here, digit_on, group_on, Digits, after_point, after_e, after_sign, IsE, ExponentAt, FractionAt, Says}
 use Rattle.lexemes.proofs.Letters.{inside_letter, letter_inside}
 use Rattle.lexemes.proofs.Spaces.{within_to}
 use Rattle.lexemes.proofs.Moves.{Sees, low, not_in, NotAll, byte, none, end, go, stop, stop_before, fail_before, never}

@@ -4,23 +4,22 @@ use mathlib.Core.Path.{◌≡◌, refl, sym, ◌∙◌, ap, subst}
 use mathlib.Core.Bool.{Bool, true, false, not, cond, ◌&&◌}
 use mathlib.Core.List.{List, [], ◌∷◌}
 use mathlib.Core.Logic.{inl, inr}
-use Prim.Native.Nat.{ℕ, ◌+◌, ◌≤◌, ◌<◌}
+use Prim.Native.Nat.{ℕ, ◌+◌, ◌<◌}
 use native.Mathlib.Omega.{arith}
 use native.Mathlib.Decide.{dec_lt, ℕ_discrete}
-use lib.Dec.{T, eqb, eqb→eq, eqb_refl, ltb, ltb→lt}
-use lib.ListN.{length, get_or}
+use lib.Dec.{T, eqb, eqb→eq, ltb, ltb→lt}
+use lib.ListN.{get_or}
 use borrow.Author.Tests.{ne_eqb}
-use Rattle.regex.specs.Regex.{END, Rule}
-use Rattle.regex.proofs.Bools.{and, and_left, and_right, every, Each, each, ask, asked, all, all_at, implies, implied}
-use Rattle.regex.proofs.Tables.{left, steps, gives, silent, same}
-use Rattle.regex.proofs.Longest.{on}
+use Rattle.regexes.specs.Regex.{END}
+use Rattle.regexes.proofs.Bools.{and, and_left, and_right, every, Each, each, ask, all, all_at, implies, implied}
+use Rattle.regexes.proofs.Tables.{left, steps, gives, silent}
 use Rattle.lexemes.specs.Kinds.{OR, DOT, DOTDOTDOT, STRING_BLOCK}
-use Rattle.lexemes.specs.Letters.{WHITE, OTHER, letter, next, text}
+use Rattle.lexemes.specs.Letters.{WHITE, OTHER, next}
 use Rattle.lexemes.specs.Rules.{rules}
 use Rattle.lexemes.specs.Lexeme.{Ruled, longest}
 use Rattle.lexemes.specs.Scan.{Best, class_of, ascii_class, single, pair, Alone, Lone}
 use Rattle.lexemes.proofs.Letters.{by_byte}
-use Rattle.lexemes.proofs.Moves.{Sees, plain, not_in, NotAll, not_all, Rest, at_rest, byte, none, go, stop, stop_before, never}
+use Rattle.lexemes.proofs.Moves.{Sees, plain, not_in, not_all, Rest, at_rest, byte, none, go, stop, stop_before, never}
 use Rattle.lexemes.proofs.Classes.{between, is_between, class_small}
 use Rattle.lexemes.proofs.Quotes.{done, ended}
 

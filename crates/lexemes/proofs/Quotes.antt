@@ -1,19 +1,19 @@
 -- Strings between quotes: the tables of rules on the way through one, and how far a scan has come.
 -- Assumes nothing.
-use mathlib.Core.Path.{◌≡◌, refl, sym, ◌∙◌, subst}
-use mathlib.Core.Bool.{Bool, true}
+use mathlib.Core.Path.{◌≡◌, sym, subst}
+use mathlib.Core.Bool.{true}
 use mathlib.Core.List.{List, [], ◌∷◌}
-use mathlib.Core.Logic.{◌⊎◌, inl, inr}
+use mathlib.Core.Logic.{inl, inr}
 use Prim.Native.Nat.{ℕ, ◌+◌, ◌≤◌, ◌<◌}
 use lib.Dec.{T, eqb}
 use lib.ListN.{length, get_or}
-use Rattle.regex.specs.Regex.{END, Rule, ◌⇒◌, Re, ◌to◌, but, one, eps, ◌·◌, ◌∣◌, star}
-use Rattle.regex.proofs.Tables.{steps, gives, silent}
+use Rattle.regexes.specs.Regex.{END, Rule, ◌⇒◌, Re, ◌to◌, but, one, eps, ◌·◌, ◌∣◌, star}
+use Rattle.regexes.proofs.Tables.{steps, gives, silent}
 use Rattle.lexemes.specs.Letters.{next}
 use Rattle.lexemes.specs.Rules.{rules}
 use Rattle.lexemes.specs.Lexeme.{Ruled, longest}
-use Rattle.lexemes.specs.Scan.{Best, Quote, RawQuote}
-use Rattle.lexemes.proofs.Moves.{is, plain, low, other, not_in, NotAll, byte, char, none, end, anything, go, stop, stop_before, never}
+use Rattle.lexemes.specs.Scan.{Best, Quote}
+use Rattle.lexemes.proofs.Moves.{is, plain, low, other, NotAll, byte, char, end, anything, go, stop, stop_before, never}
 
 -- A rule that is all taken.
 abbrev pub done : ℕ → List Rule

@@ -3,17 +3,16 @@
 use mathlib.Core.Path.{◌≡◌, refl, sym, ap, subst, ◌∙◌}
 use mathlib.Core.Bool.{Bool, true, false, cond}
 use mathlib.Core.List.{List, [], ◌∷◌}
-use mathlib.Core.Logic.{◌⊎◌, inl, inr}
-use Prim.Native.Nat.{ℕ, zero, suc, ◌+◌, ◌-◌, ◌≤◌, ◌<◌}
+use Prim.Native.Nat.{ℕ, zero, suc, ◌+◌, ◌-◌, ◌≤◌}
 use native.Mathlib.Omega.{arith}
 use lib.ListN.{length, take, drop, length-drop}
-use lib.Seq.{take-nil, take-take, drop-drop, length-take-le}
+use lib.Seq.{take-take, drop-drop, length-take-le}
 use Rattle.lexemes.specs.declared.Lexeme.{Lexeme}
 use Rattle.lexemes.specs.Kinds.{EOF}
 use Rattle.lexemes.specs.Lexeme.{lexeme}
 use Rattle.lexemes.specs.Kept.{dropped, bad, keep, Kept, first_bad, FirstBad}
 use Rattle.lexemes.specs.Texts.{part}
-use Rattle.lexemes.specs.Same.{SameLexeme, SameList, none, more, SameLexemes, Place, here, at_end, later}
+use Rattle.lexemes.specs.Same.{SameList, none, more, SameLexemes, Place, here, later}
 use Rattle.lexemes.proofs.KeptLaws.{dropped-good, lexemes_once}
 
 -- ── The first bad lexeme ──────────────────────────────────────────────────────────────────────────

@@ -1,23 +1,23 @@
 -- Comments: the tables of rules on the way through one, and how far a scan has come.
 -- Assumes nothing.
-use mathlib.Core.Path.{◌≡◌, refl, sym, ◌∙◌, ap, subst}
-use mathlib.Core.Bool.{Bool, true, false, not, ◌&&◌, ◌||◌, true≢false}
+use mathlib.Core.Path.{◌≡◌, refl, sym, subst}
+use mathlib.Core.Bool.{Bool, true, false, true≢false}
 use mathlib.Core.List.{List, [], ◌∷◌, ◌++◌}
 use mathlib.Core.Logic.{◌⊎◌, inl, inr, ⊎_elim}
 use Prim.Native.Nat.{ℕ, ◌+◌, ◌≤◌, ◌<◌}
 use native.Mathlib.Omega.{arith}
-use lib.Dec.{T, eqb, ltb}
+use lib.Dec.{T, eqb}
 use lib.ListN.{length, get_or}
-use Rattle.regex.specs.Regex.{END, Rule, ◌⇒◌, Re, ◌·◌, ◌∣◌, star, Takes}
-use Rattle.regex.proofs.Tables.{left, accepts, Among, steps, steps_eq, gives, silent, silent_eq, takes_forth, append_from}
-use Rattle.regex.proofs.Longest.{empty, join_left, join_right, join_none}
+use Rattle.regexes.specs.Regex.{END, Rule, ◌⇒◌, ◌·◌, ◌∣◌, star, Takes}
+use Rattle.regexes.proofs.Tables.{left, steps, steps_eq, gives, silent, takes_forth, append_from}
+use Rattle.regexes.proofs.Longest.{empty, join_left, join_right, join_none}
 use Rattle.lexemes.specs.Kinds.{DIV, SINGLE_LINE_SLASH_COMMENT, SINGLE_LINE_HASH_COMMENT, MULTI_LINE_COMMENT, ERROR_COMMENT_TOO_SHORT, ERROR_COMMENT_UNTERMINATED}
 use Rattle.lexemes.specs.Letters.{text, letter, next}
-use Rattle.lexemes.specs.Rules.{rules, chr, no_star, no_star_slash, no_slash}
+use Rattle.lexemes.specs.Rules.{rules, chr, no_star_slash, no_slash}
 use Rattle.lexemes.specs.Lexeme.{Beats, Ruled, longest}
 use Rattle.lexemes.specs.Scan.{Best, Never, in_line, LineEnd, in_comment, unclosed, Closing, Opening}
 use Rattle.lexemes.proofs.Letters.{up, sound}
-use Rattle.lexemes.proofs.Moves.{is, is_to, plain, Sees, low, other, not_in, NotAll, byte, char, none, end, go, stop, stop_before, fail_before, never}
+use Rattle.lexemes.proofs.Moves.{is, is_to, plain, Sees, other, not_in, NotAll, byte, char, none, end, go, stop, stop_before, fail_before, never}
 use Rattle.lexemes.proofs.Quotes.{done, ended}
 
 -- A line comment, in it and after a CR in it.

@@ -1,15 +1,15 @@
 -- White space beyond ASCII: the list of ranges, as the code's match takes it apart.
 -- Assumes nothing.
-use mathlib.Core.Path.{◌≡◌, refl, sym, ◌∙◌, ap, subst}
-use mathlib.Core.Bool.{Bool, true, false, cond, ◌&&◌, ◌||◌}
+use mathlib.Core.Path.{◌≡◌, ap}
+use mathlib.Core.Bool.{Bool, cond, ◌&&◌}
 use mathlib.Core.List.{List, [], ◌∷◌}
 use mathlib.Core.Logic.{◌⊎◌, inl, inr, ⊎_elim}
 use Prim.Native.Nat.{ℕ, ◌≤◌, ◌<◌}
 use native.Mathlib.Omega.{arith}
 use lib.Dec.{T, leb, le→leb, leb→le}
 use types.Run.{OneOf}
-use Rattle.regex.specs.Regex.{Range, ◌to◌, within}
-use Rattle.regex.proofs.Bools.{true_is, false_is, refutes, and, and_left, and_right, or_left, or_right_lem, or_cases}
+use Rattle.regexes.specs.Regex.{Range, ◌to◌, within}
+use Rattle.regexes.proofs.Bools.{true_is, false_is, refutes, and, and_left, and_right, or_left, or_right_lem, or_cases}
 use Rattle.lexemes.specs.Letters.{WHITE, OTHER, white_space}
 
 -- In one of the ranges.

@@ -3,28 +3,28 @@
 -- Assumes nothing.
 use mathlib.Core.Path.{◌≡◌, refl, sym, ◌∙◌, ap, ap₂, subst}
 use mathlib.Core.Bool.{Bool, true, false, not, cond, ◌&&◌, ◌||◌}
-use mathlib.Core.List.{List, [], ◌∷◌, ◌++◌, append_assoc, append-nil}
+use mathlib.Core.List.{List, [], ◌∷◌, ◌++◌}
 use mathlib.Core.Logic.{◌⊎◌, inl, inr, ⊎_elim}
 use Prim.Native.Nat.{ℕ, zero, suc, ◌+◌, ◌-◌, ◌≤◌, ◌<◌}
 use native.Mathlib.Omega.{arith}
 use native.Mathlib.Numerals.{add-one}
 use native.Mathlib.Nat.{le_refl, le_trans, le_of_lt}
 use native.Mathlib.Decide.{ℕ_discrete}
-use lib.Dec.{T, leb, leb→le, ltb, ltb→lt, eqb, eqb→eq, eqb_refl}
+use lib.Dec.{T, leb, ltb, ltb→lt, eqb, eqb_refl}
 use lib.ListN.{length, get_or, take, drop, take-append-drop}
 use lib.Seq.{drop-cons, drop-drop, take-length}
-use Rattle.regex.specs.Regex.{END, Range, Class, only, but, Re, none, eps, one, ◌·◌, ◌∣◌, star, in_class, within, ◌to◌, Star, stop, more, Match, Rule, ◌⇒◌, Takes, Longest}
-use Rattle.regex.proofs.Bools.{every, Each, each, and, and_left, and_right, or_cases, implies, implied, refuted}
-use Rattle.regex.proofs.Derive.{or, or_to, along}
-use Rattle.regex.proofs.Tables.{append_to}
+use Rattle.regexes.specs.Regex.{END, Range, only, Re, none, eps, one, ◌·◌, ◌∣◌, star, in_class, within, ◌to◌, Star, stop, more, Match, Rule, ◌⇒◌, Takes}
+use Rattle.regexes.proofs.Bools.{every, each, and_left, and_right, or_cases, implies, implied, refuted}
+use Rattle.regexes.proofs.Derive.{or, or_to, along}
+use Rattle.regexes.proofs.Tables.{append_to}
 use Rattle.lexemes.specs.declared.Lexeme.{Lexeme}
 use Rattle.lexemes.specs.Letters.{text, letter, next}
 use Rattle.lexemes.specs.Rules.{rules, alpha, alnum, digit, groups, some, opt, sign, quoted, verbatim, whole, fraction, exponent}
-use Rattle.lexemes.specs.Kinds.{EOF, LEXING_ERROR, ERROR_STRING_BLOCK_MISSING_INDENT, IDENT, TAILSTRICT_KW, FLOAT, STRING_DOUBLE, STRING_SINGLE, STRING_DOUBLE_VERBATIM, STRING_SINGLE_VERBATIM, STRING_BLOCK}
-use Rattle.lexemes.specs.Lexeme.{Beats, Ruled, longest, error, LexemeAt, end, rule, block, lexeme, block_kind, block_end}
+use Rattle.lexemes.specs.Kinds.{EOF, LEXING_ERROR, ERROR_STRING_BLOCK_MISSING_INDENT, IDENT, FLOAT, STRING_DOUBLE, STRING_SINGLE, STRING_DOUBLE_VERBATIM, STRING_SINGLE_VERBATIM, STRING_BLOCK}
+use Rattle.lexemes.specs.Lexeme.{Beats, Ruled, longest, error, LexemeAt, end, rule, block, block_kind, block_end}
 use Rattle.lexemes.specs.Scan.{Best}
 use Rattle.lexemes.specs.Words.{word_text, word_bytes, word_from, word_kind, Spells, KeywordAt}
-use Rattle.lexemes.specs.Texts.{part, text_of, All, Identifier, keywords, Among, plain, is_digit, is_e, is_sign, Whole, digits, Fraction, point, Exponent, unsigned, signed, Numeral, numeral, Enclosed, EnclosedRaw}
+use Rattle.lexemes.specs.Texts.{part, text_of, All, Identifier, keywords, Among, plain, is_digit, is_e, Whole, digits, Fraction, point, Exponent, unsigned, signed, Numeral, numeral, Enclosed, EnclosedRaw}
 use Rattle.lexemes.proofs.Letters.{of_letter, sound, up, inside as byte_inside}
 use Rattle.strings.specs.Utf8.{Utf8}
 use Rattle.strings.specs.Literals.{Quoted, Verbatim}

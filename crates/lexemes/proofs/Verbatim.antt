@@ -1,23 +1,23 @@
 -- What begins with `@`: verbatim strings, and junk. The tables of rules on the way, and how far a scan has come.
 -- Assumes nothing.
-use mathlib.Core.Path.{◌≡◌, refl, sym, ◌∙◌, ap, subst}
-use mathlib.Core.Bool.{Bool, true, false, not, ◌&&◌, true≢false}
+use mathlib.Core.Path.{◌≡◌, refl, sym, subst}
+use mathlib.Core.Bool.{true, false, not, ◌&&◌}
 use mathlib.Core.List.{List, [], ◌∷◌}
 use mathlib.Core.Logic.{◌⊎◌, inl, inr, ⊎_elim}
 use Prim.Native.Nat.{ℕ, ◌+◌, ◌≤◌, ◌<◌}
 use native.Mathlib.Omega.{arith}
 use lib.Dec.{T, eqb, ltb, ltb→lt, lt→ltb, leb, le→leb}
 use lib.ListN.{length, get_or}
-use Rattle.regex.specs.Regex.{END, within, Rule, ◌⇒◌, Re, ◌to◌, but, one, eps, ◌·◌, ◌∣◌, star, in_class}
-use Rattle.regex.proofs.Bools.{true_is, false_is, and, and_left, is_true, is_false, implies, implied}
-use Rattle.regex.proofs.Tables.{left, steps, gives, silent}
+use Rattle.regexes.specs.Regex.{END, within, Rule, ◌⇒◌, Re, ◌to◌, but, one, eps, ◌·◌, ◌∣◌, star, in_class}
+use Rattle.regexes.proofs.Bools.{true_is, false_is, and, and_left, is_true, is_false, implies, implied}
+use Rattle.regexes.proofs.Tables.{left, steps, gives, silent}
 use Rattle.lexemes.specs.Kinds.{LEXING_ERROR, ERROR_STRING_VERBATIM_MISSING_QUOTES}
 use Rattle.lexemes.specs.Letters.{letter, next}
 use Rattle.lexemes.specs.Rules.{rules, space}
 use Rattle.lexemes.specs.Lexeme.{Ruled, longest, error}
 use Rattle.lexemes.specs.Scan.{Best, Never, RawQuote, black, blacks, BlackEnd}
 use Rattle.lexemes.proofs.Letters.{up, letter_inside}
-use Rattle.lexemes.proofs.Moves.{is, Sees, plain, low, other, not_in, NotAll, not_all, byte, char, none, end, go, stop, stop_before, fail_before, never}
+use Rattle.lexemes.proofs.Moves.{is, Sees, plain, low, other, not_in, NotAll, not_all, byte, char, none, end, go, stop, fail_before, never}
 
 -- (?:[^q]|qq)*
 abbrev body : ℕ → Re

@@ -1,7 +1,7 @@
 -- The lexemes of a source, the kept ones among them, and the first bad one: document 01, "White space and good comments are dropped",
 -- and number 4, "a bad lexeme anywhere".
 -- Assumes nothing.
-use Rattle.std.specs.Prelude.{◌≡◌, Bool, true, false, cond, ◌||◌, List, [], ◌∷◌, ℕ, ◌≤◌, ◌<◌, eqb, length}
+use Rattle.std.specs.Prelude.{◌≡◌, Bool, false, cond, ◌||◌, List, [], ◌∷◌, ℕ, ◌≤◌, ◌<◌, eqb, length}
 use Rattle.lexemes.specs.declared.Lexeme.{Lexeme}
 use Rattle.lexemes.specs.declared.kept.Cursor.{Cursor}
 use Rattle.lexemes.specs.Kinds.{EOF, WHITESPACE, SINGLE_LINE_SLASH_COMMENT, SINGLE_LINE_HASH_COMMENT, MULTI_LINE_COMMENT, ERROR_FLOAT_JUNK_AFTER_POINT, ERROR_FLOAT_JUNK_AFTER_EXPONENT, ERROR_FLOAT_JUNK_AFTER_EXPONENT_SIGN, ERROR_STRING_DOUBLE_UNTERMINATED, ERROR_STRING_SINGLE_UNTERMINATED, ERROR_STRING_DOUBLE_VERBATIM_UNTERMINATED, ERROR_STRING_SINGLE_VERBATIM_UNTERMINATED, ERROR_STRING_VERBATIM_MISSING_QUOTES, ERROR_STRING_BLOCK_UNEXPECTED_END, ERROR_STRING_BLOCK_MISSING_NEW_LINE, ERROR_STRING_BLOCK_MISSING_TERMINATION, ERROR_STRING_BLOCK_MISSING_INDENT, ERROR_COMMENT_TOO_SHORT, ERROR_COMMENT_UNTERMINATED, ERROR_NO_OPERATOR, ERROR_MISSING_TOKEN, ERROR_UNEXPECTED_TOKEN, ERROR_CUSTOM, LEXING_ERROR}

@@ -4,7 +4,7 @@
 use Rattle.std.specs.Prelude.{cond, List, [], ◌∷◌, ℕ, ◌+◌, ◌*◌, ◌%◌, min, ltb, length, get_or}
 use Prim.Native.Char.{code}
 use Prim.Native.String.{String, [] as nil, ◌∷◌ as ◌then◌}
-use Rattle.regex.specs.Regex.{Text, END, Range, ◌to◌, within}
+use Rattle.regexes.specs.Regex.{Text, END, Range, ◌to◌, within}
 
 abbrev pub WHITE : ℕ
 WHITE = 128

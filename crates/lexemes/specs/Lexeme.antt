@@ -1,7 +1,7 @@
 -- The lexeme at a place: document 01, "Lexemes". "The longest matching rule wins; a keyword beats `IDENT`."
 -- Assumes nothing.
 use Rattle.std.specs.Prelude.{◌≡◌, List, ℕ, ◌≤◌, ◌<◌, length}
-use Rattle.regex.specs.Regex.{Longest, Nothing}
+use Rattle.regexes.specs.Regex.{Longest, Nothing}
 use Rattle.blocks.specs.Blocks.{BlockAt}
 use Rattle.blocks.specs.declared.Block.{Block}
 use Rattle.blocks.specs.declared.Block.TheVariants.{Good, UnexpectedEnd, MissingNewLine, MissingTermination, MissingIndent}

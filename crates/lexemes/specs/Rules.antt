@@ -1,10 +1,10 @@
 -- R6, R9, R10, R11. The rules of syntax_kinds.rs: each `#[token]` and `#[regex]` as a value, in the order of the kinds, with the attribute above it.
 -- A row `KIND ⇒ token "..."` is the attribute `#[token("...")]` of that kind.
 -- Assumes nothing.
-use Rattle.std.specs.Prelude.{List, [], ◌∷◌, ℕ}
+use Rattle.std.specs.Prelude.{List, [], ◌∷◌}
 use Prim.Native.Char.{Char, code}
 use Prim.Native.String.{String, [] as nil, ◌∷◌ as ◌then◌}
-use Rattle.regex.specs.Regex.{Range, ◌to◌, Class, only, but, Re, eps, one, ◌·◌, ◌∣◌, star, Rule, ◌⇒◌}
+use Rattle.regexes.specs.Regex.{Range, ◌to◌, Class, only, but, Re, eps, one, ◌·◌, ◌∣◌, star, Rule, ◌⇒◌}
 use Rattle.lexemes.specs.Letters.{WHITE}
 use Rattle.lexemes.specs.Kinds.{OR, NULL_COAELSE, AND, BIT_OR, BIT_XOR, BIT_AND, EQ, NE, LT, GT, LE, GE, LHS, RHS, PLUS, MINUS, MUL, DIV, MODULO, NOT, BIT_NOT, L_BRACK, R_BRACK, L_PAREN, R_PAREN, L_BRACE, R_BRACE, COLON, SEMI, DOT, DOTDOTDOT, COMMA, DOLLAR, ASSIGN, QUESTION_MARK, FLOAT, ERROR_FLOAT_JUNK_AFTER_POINT, ERROR_FLOAT_JUNK_AFTER_EXPONENT, ERROR_FLOAT_JUNK_AFTER_EXPONENT_SIGN, STRING_DOUBLE, ERROR_STRING_DOUBLE_UNTERMINATED, STRING_SINGLE, ERROR_STRING_SINGLE_UNTERMINATED, STRING_DOUBLE_VERBATIM, ERROR_STRING_DOUBLE_VERBATIM_UNTERMINATED, STRING_SINGLE_VERBATIM, ERROR_STRING_SINGLE_VERBATIM_UNTERMINATED, ERROR_STRING_VERBATIM_MISSING_QUOTES, STRING_BLOCK, IDENT, WHITESPACE, SINGLE_LINE_SLASH_COMMENT, SINGLE_LINE_HASH_COMMENT, MULTI_LINE_COMMENT, ERROR_COMMENT_TOO_SHORT, ERROR_COMMENT_UNTERMINATED, TAILSTRICT_KW, LOCAL_KW, IMPORTSTR_KW, IMPORTBIN_KW, IMPORT_KW, IF_KW, THEN_KW, ELSE_KW, FUNCTION_KW, ERROR_KW, IN_KW, NULL_KW, TRUE_KW, FALSE_KW, SELF_KW, SUPER_KW, FOR_KW, ASSERT_KW}
 

@@ -3,7 +3,7 @@
 -- Assumes nothing.
 use Rattle.std.specs.Prelude.{◌≡◌, List, [], ◌∷◌, ℕ, suc}
 use Rattle.lexemes.specs.declared.Lexeme.{Lexeme}
-use Rattle.lexemes.specs.Kept.{Kept, first}
+use Rattle.lexemes.specs.Kept.{Kept}
 use Rattle.lexemes.specs.Texts.{text_of}
 
 module _ (s t : List ℕ) where

@@ -2,11 +2,11 @@
 -- Assumes nothing.
 use Rattle.std.specs.Prelude.{◌≡◌, Bool, true, false, cond, List, [], ◌∷◌, ◌++◌, ◌⊎◌, ℕ, ◌+◌, ◌≤◌, ◌<◌, eqb, ltb, length, get_or}
 use Prim.Native.Char.{code}
-use Rattle.regex.specs.Regex.{Range, ◌to◌, within, Class, only, but, Re, eps, one, ◌·◌, ◌∣◌, star, Rule, ◌⇒◌, in_class, Longest, Nothing, Takes}
+use Rattle.regexes.specs.Regex.{within, Class, but, one, ◌·◌, ◌∣◌, star, Rule, ◌⇒◌, in_class, Longest, Nothing, Takes}
 use Rattle.lexemes.specs.Kinds.{OR, NULL_COAELSE, AND, BIT_OR, BIT_XOR, BIT_AND, EQ, NE, LT, GT, LE, GE, LHS, RHS, PLUS, MINUS, MUL, MODULO, NOT, BIT_NOT, L_BRACK, R_BRACK, L_PAREN, R_PAREN, L_BRACE, R_BRACE, COLON, SEMI, DOT, COMMA, DOLLAR, ASSIGN, QUESTION_MARK, FLOAT, ERROR_FLOAT_JUNK_AFTER_POINT, ERROR_FLOAT_JUNK_AFTER_EXPONENT, ERROR_FLOAT_JUNK_AFTER_EXPONENT_SIGN, STRING_DOUBLE, STRING_SINGLE, STRING_DOUBLE_VERBATIM, STRING_SINGLE_VERBATIM, ERROR_STRING_VERBATIM_MISSING_QUOTES, SINGLE_LINE_SLASH_COMMENT, SINGLE_LINE_HASH_COMMENT, MULTI_LINE_COMMENT, ERROR_COMMENT_UNTERMINATED}
-use Rattle.lexemes.specs.Letters.{text, letter, next, ascii}
+use Rattle.lexemes.specs.Letters.{text, ascii}
 use Rattle.lexemes.specs.Rules.{◌–◌, chr, some, alpha, digit, no_digit, groups, exponent, ee, sign, opt, line, new_line, space, no_star, no_star_slash, no_slash}
-use Rattle.lexemes.specs.Lexeme.{Beats, Ruled}
+use Rattle.lexemes.specs.Lexeme.{Beats}
 
 -- The longest match of what is left of the rules, and none.
 abbrev pub Best : List ℕ → List Rule → ℕ → ℕ → ℕ → Type 0

@@ -2,7 +2,7 @@
 -- Assumes nothing.
 use Rattle.std.specs.Prelude.{◌≡◌, Bool, true, false, cond, List, [], ◌∷◌, ◌++◌, ◌⊎◌, ℕ, ◌-◌, T, eqb, take, drop}
 use Prim.Native.Char.{code}
-use Rattle.regex.specs.Regex.{only, in_class, within}
+use Rattle.regexes.specs.Regex.{in_class, within}
 use Rattle.lexemes.specs.declared.Lexeme.{Lexeme}
 use Rattle.lexemes.specs.Letters.{ascii}
 use Rattle.lexemes.specs.Rules.{◌–◌, alpha, alnum}

@@ -1,6 +1,6 @@
 // What begins with `@`: verbatim strings, and the junk rule for `@` with no quote.
 ghost use Rattle.std.specs.Prelude.{◌≡◌, ℕ, ◌+◌, ◌≤◌, ◌<◌, length, get_or};
-ghost use Rattle.regex.specs.Regex.{in_class};
+ghost use Rattle.regexes.specs.Regex.{in_class};
 ghost use Rattle.lexemes.specs.Lexeme.{Ruled};
 ghost use Rattle.lexemes.specs.Scan.{RawQuote, black, BlackEnd};
 

@@ -1,6 +1,6 @@
 // Bytes and characters of a source: the class of a byte, runs of bytes of some classes, the character at a place.
 ghost use Rattle.std.specs.Prelude.{◌≡◌, cond, ℕ, ◌+◌, ◌≤◌, ◌<◌, min, length, get_or};
-ghost use Rattle.regex.specs.Regex.{within};
+ghost use Rattle.regexes.specs.Regex.{within};
 ghost use Rattle.lexemes.specs.Letters.{WHITE, OTHER, letter, next, code_point, white_space};
 ghost use Rattle.lexemes.specs.Scan.{class_of, class_table, Ran, InWord, Says};
 

@@ -1,3 +1,4 @@
+#![tactic(auto)]
 // Lexemes: the longest match of the rules of syntax_kinds.rs, written out, and the kept lexemes of a source.
 mod at; // what begins with `@`: verbatim strings, and junk
 mod bytes; // bytes, characters and their classes

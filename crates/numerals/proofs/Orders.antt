@@ -2,11 +2,10 @@
 -- Assumes nothing.
 use mathlib.Core.Path.{◌≡◌, refl, sym, ap, subst, ◌∙◌}
 use mathlib.Core.Bool.{Bool, true, false, not, cond}
-use mathlib.Core.List.{List, [], ◌∷◌}
-use mathlib.Core.Logic.{◌⊎◌, inl, inr, ⊎_elim}
+use mathlib.Core.Logic.{◌⊎◌, ⊎_elim}
 use Prim.Native.Nat.{ℕ, zero, suc, ◌+◌, ◌-◌, ◌*◌, ◌%◌, ◌^◌, ◌≤◌, ◌<◌}
 use native.Mathlib.Omega.{arith}
-use native.Mathlib.Nat.{mul_assoc, add-mul, mul-le-mul_right, mul-lt-mul_of_pos_right, mul-mod_left, le_trans, lt_of_lt_of_le}
+use native.Mathlib.Nat.{mul_assoc, add-mul, mul-le-mul_right, mul-lt-mul_of_pos_right, mul-mod_left, le_trans}
 use lib.Dec.{T, lit<, leb, leb→le, nleb→lt}
 use lib.Pow.{pow-add}
 use lib.ListN.{take, get_or}

@@ -1,6 +1,6 @@
 -- A literal's two parts decided, where what the code keeps of them is known.
 -- Assumes nothing.
-use mathlib.Core.Path.{◌≡◌, refl, sym, ap, subst, ◌∙◌}
+use mathlib.Core.Path.{◌≡◌, refl, sym, subst, ◌∙◌}
 use mathlib.Core.Bool.{Bool, true, false, true≢false}
 use mathlib.Core.List.{List, [], ◌∷◌}
 use mathlib.Core.Logic.{◌⊎◌, inl, inr, ⊎_elim}
@@ -8,7 +8,7 @@ use Prim.Native.Nat.{ℕ, ◌+◌, ◌-◌, ◌^◌, ◌≤◌, ◌<◌}
 use native.Mathlib.Omega.{arith}
 use native.Mathlib.Nat.{lt_of_lt_of_le}
 use lib.ListN.{length}
-use Rattle.numerals.specs.Value.{spelled, digits, behind, places, has, AtLeast, Large, multiplied, divided, TooLarge, Verdict, too_large, in_range, before}
+use Rattle.numerals.specs.Value.{spelled, digits, behind, places, has, AtLeast, Large, multiplied, divided, Verdict, too_large, in_range, before}
 use Rattle.numerals.specs.Inner.{Led, Says, Decides, Capped}
 use Rattle.numerals.specs.declared.Lead.{Lead}
 use Rattle.numerals.proofs.Powers.{few, none, power_grows}

@@ -1,9 +1,9 @@
 -- Powers of ten beside the limit: a number of enough digits reaches it, one of too few does not.
 -- Assumes nothing.
-use mathlib.Core.Path.{◌≡◌, refl, sym, ap, subst, ◌∙◌}
-use Prim.Native.Nat.{ℕ, zero, suc, ◌+◌, ◌-◌, ◌*◌, ◌^◌, ◌≤◌, ◌<◌}
+use mathlib.Core.Path.{◌≡◌, sym, subst}
+use Prim.Native.Nat.{ℕ, ◌+◌, ◌*◌, ◌^◌, ◌≤◌, ◌<◌}
 use native.Mathlib.Omega.{arith}
-use native.Mathlib.Nat.{one-le-pow, pow-le-pow_right, mul-le-mul_right, mul-lt-mul_of_pos_right, le_of_mul-le-mul_right, mul_right_comm, mul_assoc, le_trans, le_of_lt, lt_of_lt_of_le, lt_of_le_of_lt}
+use native.Mathlib.Nat.{one-le-pow, pow-le-pow_right, mul-le-mul_right, mul-lt-mul_of_pos_right, le_of_mul-le-mul_right, mul_right_comm, le_trans, lt_of_lt_of_le}
 use lib.Dec.{lit<, lit≤}
 use lib.Pow.{pow-add}
 use Rattle.numerals.specs.Value.{LIMIT, AtLeast}

@@ -4,7 +4,7 @@ use mathlib.Core.Path.{◌≡◌, refl, sym, ap, subst, ◌∙◌}
 use mathlib.Core.Bool.{Bool, true, false, ◌&&◌, cond}
 use mathlib.Core.List.{List, [], ◌∷◌, ◌++◌}
 use mathlib.Core.Logic.{◌⊎◌, ⊎_elim}
-use Prim.Native.Nat.{ℕ, zero, suc, ◌+◌, ◌-◌, ◌*◌, ◌%◌, ◌^◌, ◌≤◌, ◌<◌}
+use Prim.Native.Nat.{ℕ, suc, ◌+◌, ◌-◌, ◌*◌, ◌%◌, ◌^◌, ◌≤◌, ◌<◌}
 use native.Mathlib.Omega.{arith}
 use native.Mathlib.Numerals.{add-one}
 use native.Mathlib.Nat.{mul_assoc, add-mul, mul-le-mul_right}
@@ -12,7 +12,7 @@ use lib.Dec.{T, leb, leb→le, le→leb}
 use lib.Pow.{pow-add}
 use lib.ListN.{length, take, drop, get_or, length-take, length-drop, take-append-drop}
 use lib.Seq.{take-suc}
-use Rattle.regex.proofs.Bools.{all, all_at}
+use Rattle.regexes.proofs.Bools.{all, all_at}
 use Rattle.numerals.specs.Value.{LIMIT, is_digit, spelled, digits}
 use Rattle.numerals.specs.Inner.{limit_digits, pushed}
 

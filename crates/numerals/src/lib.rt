@@ -1,3 +1,4 @@
+#![tactic(auto)]
 // Whether a number literal is beyond a double: its exact value against 2^1024 - 2^970, digit by digit.
 ghost use Rattle.std.specs.Prelude.{◌≡◌, ◌+◌, ◌≤◌, ◌<◌, ◌^◌, length};
 ghost use Rattle.numerals.specs.Value.{Verdict, Large, spelled, digits, behind, has};

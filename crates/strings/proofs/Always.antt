@@ -1,18 +1,18 @@
 -- Decided: whether a character begins a list, how far it is UTF-8, whether an inside has a text or a bad escape. So every source has an answer, whoever computes it.
 -- Assumes nothing.
-use mathlib.Core.Path.{◌≡◌, refl, sym}
-use mathlib.Core.List.{List, [], ◌∷◌, ◌++◌}
+use mathlib.Core.Path.{◌≡◌, refl}
+use mathlib.Core.List.{List, [], ◌∷◌}
 use mathlib.Core.Logic.{◌⊎◌, inl, inr}
-use Prim.Native.Nat.{ℕ, zero, suc, ◌+◌, ◌-◌, ◌*◌, ◌≤◌, ◌<◌}
+use Prim.Native.Nat.{ℕ, zero, suc, ◌+◌, ◌-◌, ◌≤◌, ◌<◌}
 use native.Mathlib.Omega.{arith}
 use native.Mathlib.Decide.{dec_lt, dec_le, ℕ_discrete}
 use lib.ListN.{length, get_or, take, drop, drop_of_length-le}
-use Rattle.strings.specs.Utf8.{In, Character, CharacterLength, begins, nothing, Utf8, none, ValidTo, Scalar}
-use Rattle.strings.specs.Rows.{Row, row_00_7_f, none_80_C1, row_C2_DF, row_E0, row_E1_EC, row_ED, row_EE_EF, row_F0, row_F1_F3, row_F4, none_F5_FF}
+use Rattle.strings.specs.Utf8.{In, Character, CharacterLength, begins, nothing, Utf8, none, ValidTo}
+use Rattle.strings.specs.Rows.{Row, row_00_7F, none_80_C1, row_C2_DF, row_E0, row_E1_EC, row_ED, row_EE_EF, row_F0, row_F1_F3, row_F4, none_F5_FF}
 use Rattle.strings.specs.Literals.{Hex, digit, upper, lower, Four, four, Low, low, Letter, backslash, double, single, backspace, form_feed, line_feed, return, tab, Escape, letter, unit, pair, two, Quoted, BadEscape, here, past_plain, past_escape}
 use Rattle.strings.specs.Literals as literals
 use Rattle.strings.proofs.Rows.{Follows, end, next, Led, led, to_led, from_led, led_some, row_once}
-use Rattle.strings.proofs.CharacterLaws.{character_at, character_parted, valid_stop, valid_on}
+use Rattle.strings.proofs.CharacterLaws.{character_at, valid_stop, valid_on}
 use Rattle.strings.proofs.Escapes.{no_hex, four_small, four_long, four_digits, low_bytes, low_long, hex_byte, letter_low, no_letter, no_escape, four_once, Units, u_view, x_view, no_units, low_unit, high_unit}
 use Rattle.strings.proofs.Steps.{escape_short}
 
@@ -40,7 +40,7 @@ row_of : (a : ℕ) → a ≤ 0xFF → Rowed a
 row_of a h = by (dec_lt a 0x80) (dec_lt a 0xC2) (dec_lt a 0xE0) (dec_lt a 0xE1) (dec_lt a 0xED) (dec_lt a 0xEE) (dec_lt a 0xF0) (dec_lt a 0xF1) (dec_lt a 0xF4) (dec_lt a 0xF5)
   where
     by : Dec (a < 0x80) → Dec (a < 0xC2) → Dec (a < 0xE0) → Dec (a < 0xE1) → Dec (a < 0xED) → Dec (a < 0xEE) → Dec (a < 0xF0) → Dec (a < 0xF1) → Dec (a < 0xF4) → Dec (a < 0xF5) → Rowed a
-    by (yes p) q r s t u v w x y = record { wide = 1; lo = 0x80; hi = 0xBF; row = row_00_7_f (omega arith) }
+    by (yes p) q r s t u v w x y = record { wide = 1; lo = 0x80; hi = 0xBF; row = row_00_7F (omega arith) }
     by (no p) (yes q) r s t u v w x y = record { wide = 0; lo = 0x80; hi = 0xBF; row = none_80_C1 (omega arith) }
     by (no p) (no q) (yes r) s t u v w x y = record { wide = 2; lo = 0x80; hi = 0xBF; row = row_C2_DF (omega arith) }
     by (no p) (no q) (no r) (yes s) t u v w x y = record { wide = 3; lo = 0xA0; hi = 0xBF; row = row_E0 (omega arith) }
@@ -53,7 +53,7 @@ row_of a h = by (dec_lt a 0x80) (dec_lt a 0xC2) (dec_lt a 0xE0) (dec_lt a 0xE1) 
     by (no p) (no q) (no r) (no s) (no t) (no u) (no v) (no w) (no x) (no y) = record { wide = 0; lo = 0x80; hi = 0xBF; row = none_F5_FF (omega arith) }
 
 row_byte : {a n lo hi : ℕ} → Row a n lo hi → a ≤ 0xFF
-row_byte (row_00_7_f h) = omega arith
+row_byte (row_00_7F h) = omega arith
 row_byte (none_80_C1 h) = omega arith
 row_byte (row_C2_DF h) = omega arith
 row_byte (row_E0 h) = omega arith

@@ -7,7 +7,7 @@ use native.Mathlib.Omega.{arith}
 use native.Mathlib.Decide.{dec_lt}
 use lib.ListN.{length, take, drop, length-append, length-take, length-drop, take-append-drop}
 use lib.Seq.{drop_at, take_at, take-add, take-length, drop-drop}
-use Rattle.strings.specs.Utf8.{In, Character, row_00_7_f, CharacterLength, begins, nothing, Utf8, none, more, ValidTo}
+use Rattle.strings.specs.Utf8.{In, Character, row_00_7F, CharacterLength, begins, nothing, Utf8, none, more, ValidTo}
 use Rattle.strings.proofs.Rows.{Led, led, to_led, from_led, led_some, row_once, row_low, follows_once, follows_append, Apart, follows_apart, Within, follows_within}
 
 -- A list begins with at most one character.
@@ -81,6 +81,7 @@ utf8_one p = more p none
 
 -- What follows a character of UTF-8 is UTF-8, and so is what follows UTF-8.
 pub utf8-rest : {s r : List ℕ} → Character s r → Utf8 s → Utf8 r
+utf8-rest {r = r} p none = elim p [ ]
 utf8-rest p (more p' u) = rw (character_once p p') u
 
 pub utf8_cancel : {p : List ℕ} (q : List ℕ) → Utf8 p → Utf8 (p ++ q) → Utf8 q
@@ -132,7 +133,7 @@ led_within d p b s h e (led {a = a} {t = t} x f) =
 
 -- What stands before and after an ASCII byte of UTF-8 is UTF-8.
 pub ascii-rest : {b : ℕ} {s : List ℕ} → Utf8 (b ∷ s) → b < 0x80 → Utf8 s
-ascii-rest {b} u h = let x : In 0x00 0x7F b = omega arith in utf8-rest (row_00_7_f x) u
+ascii-rest {b} u h = let x : In 0x00 0x7F b = omega arith in utf8-rest (row_00_7F x) u
 
 splits : {u : List ℕ} (p : List ℕ) (b : ℕ) (s : List ℕ) → b < 0x80 → u ≡ p ++ b ∷ s → Utf8 u → Utf8 p × Utf8 s
 splits p b s h e none = absurd (omega (arith, ap length e, length-append p (b ∷ s)))

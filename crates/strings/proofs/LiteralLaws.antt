@@ -3,13 +3,13 @@
 -- Assumes nothing.
 use mathlib.Core.Path.{◌≡◌, refl, sym, ◌∙◌, ap, subst}
 use mathlib.Core.List.{List, [], ◌∷◌, ◌++◌}
-use Prim.Native.Nat.{ℕ, suc, ◌+◌, ◌≤◌, ◌<◌}
+use Prim.Native.Nat.{ℕ, suc, ◌≤◌, ◌<◌}
 use native.Mathlib.Omega.{arith}
 use native.Mathlib.Decide.{ℕ_discrete}
 use lib.ListN.{length, get_or, length-append}
 use lib.Seq.{append_snoc, get_or-drop}
-use Rattle.strings.specs.Utf8.{In, utf8, Utf8, more, row_00_7_f}
-use Rattle.strings.specs.Literals.{Four, four, Low, low, Escape, letter, unit, pair, two, Quoted, BadEscape, here, past_plain, past_escape, Verbatim}
+use Rattle.strings.specs.Utf8.{In, utf8, Utf8, more, row_00_7F}
+use Rattle.strings.specs.Literals.{Four, four, Low, low, Escape, letter, unit, pair, two, Quoted, BadEscape, here, past_plain, past_escape, Begins, Verbatim}
 use Rattle.strings.specs.Literals as literals
 use Rattle.strings.specs.Decoding.{Decoding, Never}
 use Rattle.strings.specs.declared.Decoded.{Decoded}
@@ -33,17 +33,32 @@ quoted_short literals.Quoted.end = omega arith
 quoted_short (literals.Quoted.plain h x) = omega (arith, quoted_short x)
 quoted_short (literals.Quoted.escape {t = t} {c = c} e x) = omega (arith, escape_short e, quoted_short x, length-append (utf8 c) t)
 
+-- The same for two insides that are equal: they are matched apart.
+verbatim_alike : {q : ℕ} {s s' t u : List ℕ} → Verbatim q s t → Verbatim q s' u → s ≡ s' → t ≡ u
+verbatim_alike literals.Verbatim.end literals.Verbatim.end e = refl
+verbatim_alike literals.Verbatim.end (literals.Verbatim.plain g y) e = cc
+verbatim_alike literals.Verbatim.end (literals.Verbatim.doubled y) e = cc
+verbatim_alike literals.Verbatim.end (literals.Verbatim.alone g y) e = cc
+verbatim_alike (literals.Verbatim.plain h x) literals.Verbatim.end e = cc
+verbatim_alike (literals.Verbatim.plain {b = b} {s = s} h x) (literals.Verbatim.plain {b = c} {s = s'} g y) e =
+    let rest : s ≡ s' = cc in let first : b ≡ c = cc in let text = verbatim_alike x y rest in cc
+verbatim_alike {q} (literals.Verbatim.plain {b = b} h x) (literals.Verbatim.doubled y) e = absurd (h (let first : b ≡ q = cc in first))
+verbatim_alike {q} (literals.Verbatim.plain {b = b} h x) (literals.Verbatim.alone g y) e = absurd (h (let first : b ≡ q = cc in first))
+verbatim_alike (literals.Verbatim.doubled x) literals.Verbatim.end e = cc
+verbatim_alike {q} (literals.Verbatim.doubled x) (literals.Verbatim.plain {b = b} g y) e = absurd (g (let first : b ≡ q = cc in first))
+verbatim_alike (literals.Verbatim.doubled {s = s} x) (literals.Verbatim.doubled {s = s'} y) e =
+    let rest : s ≡ s' = cc in let text = verbatim_alike x y rest in cc
+verbatim_alike {q} (literals.Verbatim.doubled {s = s} x) (literals.Verbatim.alone {s = s'} g y) e =
+    let rest : q ∷ s ≡ s' = cc in absurd (g (subst (Begins q) rest refl))
+verbatim_alike (literals.Verbatim.alone h x) literals.Verbatim.end e = cc
+verbatim_alike {q} (literals.Verbatim.alone h x) (literals.Verbatim.plain {b = b} g y) e = absurd (g (let first : b ≡ q = cc in first))
+verbatim_alike {q} (literals.Verbatim.alone {s = s} h x) (literals.Verbatim.doubled {s = s'} y) e =
+    let rest : q ∷ s' ≡ s = cc in absurd (h (subst (Begins q) rest refl))
+verbatim_alike (literals.Verbatim.alone {s = s} h x) (literals.Verbatim.alone {s = s'} g y) e =
+    let rest : s ≡ s' = cc in let text = verbatim_alike x y rest in cc
+
 pub verbatim_once : {q : ℕ} {s t u : List ℕ} → Verbatim q s t → Verbatim q s u → t ≡ u
-verbatim_once literals.Verbatim.end literals.Verbatim.end = refl
-verbatim_once (literals.Verbatim.plain h x) (literals.Verbatim.plain g y) = rw (verbatim_once x y)
-verbatim_once (literals.Verbatim.plain h x) (literals.Verbatim.doubled y) = absurd (h refl)
-verbatim_once (literals.Verbatim.plain h x) (literals.Verbatim.alone g y) = absurd (h refl)
-verbatim_once (literals.Verbatim.doubled x) (literals.Verbatim.plain g y) = absurd (g refl)
-verbatim_once (literals.Verbatim.doubled x) (literals.Verbatim.doubled y) = rw (verbatim_once x y)
-verbatim_once (literals.Verbatim.doubled x) (literals.Verbatim.alone g y) = absurd (g refl)
-verbatim_once (literals.Verbatim.alone h x) (literals.Verbatim.plain g y) = absurd (g refl)
-verbatim_once (literals.Verbatim.alone h x) (literals.Verbatim.doubled y) = absurd (h refl)
-verbatim_once (literals.Verbatim.alone h x) (literals.Verbatim.alone g y) = rw (verbatim_once x y)
+verbatim_once x y = verbatim_alike x y refl
 
 pub verbatim_short : {q : ℕ} {s t : List ℕ} → Verbatim q s t → length t ≤ length s
 verbatim_short literals.Verbatim.end = omega arith
@@ -95,7 +110,7 @@ verbatim_on h (literals.Verbatim.plain {b} {s} {t} g x) p u = rw append_snoc at 
 verbatim_on {q} h (literals.Verbatim.doubled x) p u =
     let parts = ascii_splits p u h in
     let one : In 0x00 0x7F q = omega arith in
-    utf8_append parts.0 (more (row_00_7_f one) (verbatim_on h x [] (ascii-rest parts.1 h)))
+    utf8_append parts.0 (more (row_00_7F one) (verbatim_on h x [] (ascii-rest parts.1 h)))
 verbatim_on {q} h (literals.Verbatim.alone g x) p u = rw append_snoc at (verbatim_on h x (p ++ (q ∷ [])) (rw append_snoc u))
 
 pub verbatim-utf8 : {q : ℕ} {s t : List ℕ} → q < 0x80 → Verbatim q s t → Utf8 s → Utf8 t
@@ -105,6 +120,7 @@ verbatim-utf8 h x u = verbatim_on h x [] u
 
 -- An inside that has a text has none.
 pub bad_escape_no_text : {s t : List ℕ} {n : ℕ} → Quoted s t → BadEscape s n → ⊥
+bad_escape_no_text {n = n} literals.Quoted.end x4 = elim x4 [ ]
 bad_escape_no_text (literals.Quoted.plain h x) (here f) = h refl
 bad_escape_no_text (literals.Quoted.plain h x) (past_plain g y) = bad_escape_no_text x y
 bad_escape_no_text (literals.Quoted.plain h x) (past_escape k e l y) = h refl

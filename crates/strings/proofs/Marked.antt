@@ -1,9 +1,7 @@
 -- 01's marked readings 5, 6 and 7: the insides of their literals.
 -- Assumes nothing.
-use mathlib.Core.Path.{◌≡◌, refl}
-use mathlib.Core.List.{List, [], ◌∷◌}
-use mathlib.Core.Logic.{inl, inr}
-use Prim.Native.Nat.{ℕ}
+use mathlib.Core.Path.{refl}
+use mathlib.Core.List.{[], ◌∷◌}
 use native.Mathlib.Omega.{arith}
 use Rattle.strings.specs.Utf8.{utf8}
 use Rattle.strings.specs.Literals.{digit, upper, Four, four, low, pair, two, Quoted, BadEscape, here}

@@ -11,7 +11,7 @@ use lib.Dec.{T, ltb, leb, eqb, leb→le, eqb→eq}
 use lib.ListN.{length}
 use Rattle.strings.specs.Utf8 as table
 use Rattle.strings.specs.Utf8.{In, Character}
-use Rattle.strings.specs.Rows.{Row, row_00_7_f, none_80_C1, row_C2_DF, row_E0, row_E1_EC, row_ED, row_EE_EF, row_F0, row_F1_F3, row_F4, none_F5_FF}
+use Rattle.strings.specs.Rows.{Row, row_00_7F, none_80_C1, row_C2_DF, row_E0, row_E1_EC, row_ED, row_EE_EF, row_F0, row_F1_F3, row_F4, none_F5_FF}
 
 -- The row of a byte, computed.
 unfoldable width : ℕ → ℕ
@@ -70,7 +70,7 @@ entry {a} first last n lo hi x t =
 
 row-entry : {a n lo hi : ℕ} → Row a n lo hi → Entry a n lo hi
 unfolding tried has width low high
-row-entry (row_00_7_f x) = entry _ _ _ _ _ x tt
+row-entry (row_00_7F x) = entry _ _ _ _ _ x tt
 row-entry (none_80_C1 x) = entry _ _ _ _ _ x tt
 row-entry (row_C2_DF x) = entry _ _ _ _ _ x tt
 row-entry (row_E0 x) = entry _ _ _ _ _ x tt
@@ -92,7 +92,7 @@ pub data Led : List ℕ → List ℕ → Type 0 where
   led : {a n lo hi : ℕ} {t r : List ℕ} → Row a (suc n) lo hi → Follows lo hi n t r → Led (a ∷ t) r
 
 pub to_led : {s r : List ℕ} → Character s r → Led s r
-to_led (table.row_00_7_f x) = led (row_00_7_f x) end
+to_led (table.row_00_7F x) = led (row_00_7F x) end
 to_led (table.row_C2_DF x y) = led (row_C2_DF x) (next y end)
 to_led (table.row_E0 x y z) = led (row_E0 x) (next y (next z end))
 to_led (table.row_E1_EC x y z) = led (row_E1_EC x) (next y (next z end))
@@ -103,7 +103,7 @@ to_led (table.row_F1_F3 x y z w) = led (row_F1_F3 x) (next y (next z (next w end
 to_led (table.row_F4 x y z w) = led (row_F4 x) (next y (next z (next w end)))
 
 pub from_led : {s r : List ℕ} → Led s r → Character s r
-from_led (led (row_00_7_f x) end) = table.row_00_7_f x
+from_led (led (row_00_7F x) end) = table.row_00_7F x
 from_led (led (row_C2_DF x) (next y end)) = table.row_C2_DF x y
 from_led (led (row_E0 x) (next y (next z end))) = table.row_E0 x y z
 from_led (led (row_E1_EC x) (next y (next z end))) = table.row_E1_EC x y z

@@ -15,7 +15,7 @@ use Rattle.strings.specs.Literals as literals
 use Rattle.strings.specs.Inner.{EscapeAt, code, broken}
 use Rattle.strings.specs.declared.string.Escaped.TheVariants.{Code, Broken}
 use Rattle.strings.proofs.Utf8Laws.{utf8_size}
-use Rattle.strings.proofs.Escapes.{hex_small, four_small, four_long, low_long, low_bytes, letter_low}
+use Rattle.strings.proofs.Escapes.{hex_small, four_long, low_long, low_bytes, letter_low}
 use Rattle.strings.proofs.Stores.{drop-next}
 use Rattle.strings.proofs.Walk.{Walked, step}
 

@@ -8,7 +8,7 @@ use native.Mathlib.Omega.{arith}
 use native.Mathlib.Decide.{dec_lt}
 use lib.ListN.{length}
 use borrow.Author.Tests.{lt-ltb, le-ltb}
-use Rattle.strings.specs.Utf8.{Tail, In, Character, row_00_7_f, row_C2_DF, row_E0, row_E1_EC, row_ED, row_EE_EF, row_F0, row_F1_F3, row_F4, Utf8, Scalar, utf8, Encodes, encoded}
+use Rattle.strings.specs.Utf8.{Tail, In, Character, row_00_7F, row_C2_DF, row_E0, row_E1_EC, row_ED, row_EE_EF, row_F0, row_F1_F3, row_F4, Utf8, Scalar, utf8, Encodes, encoded}
 use Rattle.strings.specs.Decoding.{Decoding, Missing}
 use Rattle.strings.specs.declared.Decoded.{Decoded}
 use Rattle.strings.proofs.DecodingLaws.{missing_once}
@@ -113,7 +113,7 @@ tail n = omega arith
 -- A scalar value's bytes are a character.
 module _ (c : ℕ) (r : List ℕ) where
   character_1 : c < 0x80 → Character (utf8 c ++ r) r
-  character_1 h = let a : In 0x00 0x7F c = omega arith in rw (utf8_1 c h) (row_00_7_f a)
+  character_1 h = let a : In 0x00 0x7F c = omega arith in rw (utf8_1 c h) (row_00_7F a)
 
   character_2 : 0x80 ≤ c → c < 0x800 → Character (utf8 c ++ r) r
   character_2 g h = let a : In 0xC2 0xDF (0xC0 + c / 0x40) = omega arith in rw (utf8_2 c g h) (row_C2_DF a (tail c))
@@ -210,7 +210,7 @@ spell_4 a b d e r x y z w g =
 
 pub character_scalar : {s r : List ℕ} → Character s r → Spelled s r
 unfolding value
-character_scalar (row_00_7_f {a} {r} x) = record { code = a; scalar = inl (omega arith); bytes = sym (rw (utf8_1 a (omega arith))) }
+character_scalar (row_00_7F {a} {r} x) = record { code = a; scalar = inl (omega arith); bytes = sym (rw (utf8_1 a (omega arith))) }
 character_scalar (row_C2_DF {a} {b} {r} x y) = spell_2 a b r x y
 character_scalar (row_E0 {a} {b} {c} {r} x y z) = spell_3 a b c r (omega arith) (omega arith) z (omega arith) (inl (omega arith))
 character_scalar (row_E1_EC {a} {b} {c} {r} x y z) = spell_3 a b c r (omega arith) y z (omega arith) (inl (omega arith))

@@ -8,7 +8,7 @@ use native.Mathlib.Numerals.{unary_clauses}
 use native.Mathlib.Decide.{dec_lt}
 use lib.ListN.{length, get_or, drop}
 use lib.Seq.{drop-cons}
-use Rattle.strings.specs.Utf8.{In, row_00_7_f, CharacterLength, begins, ValidTo}
+use Rattle.strings.specs.Utf8.{In, row_00_7F, CharacterLength, begins, ValidTo}
 use Rattle.strings.specs.Valid.{NoneAbove, ValidSoFar, ValidUpTo, reached, stopped}
 use Rattle.strings.proofs.Reading.{past_end}
 use Rattle.strings.proofs.CharacterLaws.{CharacterAt, character_at, valid_on, valid_stop}
@@ -25,7 +25,7 @@ none_above_on {s} {from} {n} {m} {m'} a h last = record { at_most = λ k g. by k
 ascii_at : (s : List ℕ) (at : ℕ) → at < length s → get_or s at 0 < 0x80 → CharacterAt s at 1
 ascii_at s at h a =
     let low : In 0x00 0x7F (get_or s at 0) = omega arith in
-    let one : CharacterLength (drop at s) 1 = rw (drop-cons s at 0 h) (begins {r = drop (suc at) s} {n = 1} (row_00_7_f low) (omega arith)) in
+    let one : CharacterLength (drop at s) 1 = rw (drop-cons s at 0 h) (begins {r = drop (suc at) s} {n = 1} (row_00_7F low) (omega arith)) in
     character_at s at 1 one (omega arith)
 
 -- One character more is valid too.

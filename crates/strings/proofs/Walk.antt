@@ -1,12 +1,12 @@
 -- How far a decoder has come, whatever its rules: the invariant of both loops.
 -- Assumes nothing.
 use mathlib.Core.Path.{◌≡◌, refl, sym, ◌∙◌, ap, subst}
-use mathlib.Core.List.{List, [], ◌∷◌, ◌++◌, append_assoc, append-nil}
+use mathlib.Core.List.{List, [], ◌++◌, append_assoc, append-nil}
 use Prim.Native.Nat.{ℕ, ◌+◌, ◌-◌, ◌≤◌, ◌<◌}
 use native.Mathlib.Omega.{arith}
 use native.Mathlib.Nat.{zero-add}
 use lib.ListN.{length, drop, replicate, length-append, drop_of_length-le}
-use lib.Seq.{sets, length-sets, drop-cons}
+use lib.Seq.{sets, length-sets}
 use Rattle.strings.specs.Decoding.{Decoding, text, refused}
 use Rattle.strings.specs.declared.Decoded.TheVariants.{Text, Refused}
 use Rattle.strings.proofs.Stores.{sets_append}

@@ -1,6 +1,6 @@
 -- What the decoder's inner functions promise each other. Nothing here has to be believed: the public contracts do not name it.
 -- Assumes nothing.
-use Rattle.std.specs.Prelude.{◌≡◌, Bool, true, false, List, ℕ, ◌+◌, ◌≤◌, ◌<◌, length, drop}
+use Rattle.std.specs.Prelude.{Bool, true, false, List, ℕ, ◌≤◌, ◌<◌, length, drop}
 use Rattle.strings.specs.Literals.{Hex, Four, Low, Letter, Escape}
 use Rattle.strings.specs.declared.string.Escaped.{Escaped}
 use Rattle.strings.specs.declared.string.Escaped.TheVariants.{Code, Broken}

@@ -5,7 +5,7 @@ use Rattle.strings.specs.Utf8.{In}
 
 -- A character that begins with the byte has so many bytes, none where that is 0, and its second byte lies between the bounds.
 pub data Row (a : ℕ) : ℕ → ℕ → ℕ → Type 0 where
-  row_00_7_f : In 0x00 0x7F a → Row a 1 0x80 0xBF
+  row_00_7F : In 0x00 0x7F a → Row a 1 0x80 0xBF
   none_80_C1 : In 0x80 0xC1 a → Row a 0 0x80 0xBF
   row_C2_DF : In 0xC2 0xDF a → Row a 2 0x80 0xBF
   row_E0 : In 0xE0 0xE0 a → Row a 3 0xA0 0xBF

@@ -10,7 +10,7 @@ Tail = In 0x80 0xBF
 
 -- R34. The bytes begin with one character, and the second list is what follows it: table 3-7, row by row.
 pub data Character : List ℕ → List ℕ → Type 0 where
-  row_00_7_f : {a : ℕ} {r : List ℕ} → In 0x00 0x7F a → Character (a ∷ r) r
+  row_00_7F : {a : ℕ} {r : List ℕ} → In 0x00 0x7F a → Character (a ∷ r) r
   row_C2_DF : {a b : ℕ} {r : List ℕ} → In 0xC2 0xDF a → Tail b → Character (a ∷ b ∷ r) r
   row_E0 : {a b c : ℕ} {r : List ℕ} → In 0xE0 0xE0 a → In 0xA0 0xBF b → Tail c → Character (a ∷ b ∷ c ∷ r) r
   row_E1_EC : {a b c : ℕ} {r : List ℕ} → In 0xE1 0xEC a → Tail b → Tail c → Character (a ∷ b ∷ c ∷ r) r

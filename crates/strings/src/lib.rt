@@ -1,3 +1,4 @@
+#![tactic(auto)]
 // What strings mean: UTF-8, and the insides of string literals.
 ghost use Rattle.std.specs.Prelude.{◌≡◌, length, set, replicate};
 

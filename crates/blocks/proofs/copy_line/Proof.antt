@@ -10,58 +10,58 @@ use Rattle.blocks.proofs.Places.{Copied, copied_none, copied_more, copied_length
 use Rattle.blocks.proofs.copy_line.Statement.{statement}
 use Rattle.blocks.proofs.copy_line.Tie as tie
 
-abbrev invariant_loop : tie.invariant-loop
+abbrev invariant_loop : tie.invariant-loop-w
 invariant_loop source from out₀ at i₀ w₀ out i w = Passed InLine source from i × Copied source from out₀ at i out w
 
-abbrev decreases_loop : tie.decreases-loop
+abbrev decreases_loop : tie.decreases-loop-w
 decreases_loop source from out₀ at i₀ w₀ out i w = length out - w
 
-loop_holds : tie.Need-loop-init invariant_loop decreases_loop
-loop_holds c = let pre = c.before.before.requires in (passed_none pre, copied_none pre)
+loop_holds : tie.Need-loop-w-init invariant_loop decreases_loop
+loop_holds c = let pre = c.requires in (passed_none pre, copied_none pre)
 
-same_length : tie.Need-same-length invariant_loop decreases_loop
-same_length c = copied_length c.before.before.loop.invariant.1
+same_length : tie.Need-shape_of-out-then-source-i invariant_loop decreases_loop
+same_length c = copied_length c.loop-w.invariant.1
 
-returns : tie.Need-returns invariant_loop decreases_loop
-returns c = let inv = c.before.before.loop.invariant in (passed_end inv.0 c.if1.true, inv.1.stored)
+returns : tie.Need-returns-then-source-i invariant_loop decreases_loop
+returns c = let inv = c.loop-w.invariant in (passed_end inv.0 c.if-source-i.true, inv.1.stored)
 
-shared_slice_read_b : tie.Need-shared-slice-read-b invariant_loop decreases_loop
-shared_slice_read_b c = omega (arith, c.before.if1.false)
+shared_slice_read_b : tie.Need-bounds-source-i invariant_loop decreases_loop
+shared_slice_read_b c = omega (arith, c.if-source-i.false)
 
-same_length_2 : tie.Need-same-length-2 invariant_loop decreases_loop
-same_length_2 c = copied_length c.before.before.before.before.loop.invariant.1
+same_length_2 : tie.Need-shape_of-out-then-b-eq10 invariant_loop decreases_loop
+same_length_2 c = copied_length c.loop-w.invariant.1
 
-returns_2 : tie.Need-returns-2 invariant_loop decreases_loop
-returns_2 c = let inv = c.before.before.before.before.loop.invariant in (passed_stop inv.0 (λ h. h c.if2.true), inv.1.stored)
+returns_2 : tie.Need-returns-then-b-eq10 invariant_loop decreases_loop
+returns_2 c = let inv = c.loop-w.invariant in (passed_stop inv.0 (λ h. h c.if-b-eq10.true), inv.1.stored)
 
-slice_write_out : tie.Need-slice-write-out invariant_loop decreases_loop
-slice_write_out c = omega (arith, c.before.before.before.loop-test.true)
+slice_write_out : tie.Need-bounds-out-w invariant_loop decreases_loop
+slice_write_out c = omega (arith, c.loop-w-test.true)
 
-add_w : tie.Need-overflow-add-w invariant_loop decreases_loop
-add_w c = omega (arith, c.before.before.before.loop-test.true, copied_length c.before.before.before.before.loop.invariant.1, c.before.before.before.before.before.before.before.well-formed)
+add_w : tie.Need-overflow_add-w invariant_loop decreases_loop
+add_w c = omega (arith, c.loop-w-test.true, copied_length c.loop-w.invariant.1, c.before.before.before.before.before.before.before.well_formed)
 
-add_i : tie.Need-overflow-add-i invariant_loop decreases_loop
-add_i c = omega (arith, c.before.before.if1.false, c.before.before.before.before.before.before.before.well-formed)
+add_i : tie.Need-overflow_add-i invariant_loop decreases_loop
+add_i c = omega (arith, c.if-source-i.false, c.before.before.before.before.before.before.before.well_formed)
 
-loop_less : tie.Need-loop-smaller invariant_loop decreases_loop
-loop_less c = simp length-set (omega (arith, c.before.before.before.loop-test.true))
+loop_less : tie.Need-loop-w-smaller invariant_loop decreases_loop
+loop_less c = simp length-set (omega (arith, c.loop-w-test.true))
 
-loop_again : tie.Need-loop-preserved invariant_loop decreases_loop
+loop_again : tie.Need-loop-w-preserved invariant_loop decreases_loop
 loop_again c =
-    let inv = c.before.before.before.before.loop.invariant in
-    (passed_more inv.0 (omega (arith, c.before.before.if1.false)) c.if2.false, copied_more inv.1 (omega (arith, c.before.before.if1.false)) refl)
+    let inv = c.loop-w.invariant in
+    (passed_more inv.0 (omega (arith, c.if-source-i.false)) c.if-b-eq10.false, copied_more inv.1 (omega (arith, c.if-source-i.false)) refl)
 
-line_end_requires : tie.Need-line-end-requires invariant_loop decreases_loop
-line_end_requires c κs = c.before.loop.invariant.0.within
+line_end_requires : tie.Need-line_end-requires invariant_loop decreases_loop
+line_end_requires c κs = c.loop-w.invariant.0.within
 
-same_length_3 : tie.Need-same-length-3 invariant_loop decreases_loop
-same_length_3 c = copied_length c.before.before.loop.invariant.1
+same_length_3 : tie.Need-shape_of-out invariant_loop decreases_loop
+same_length_3 c = copied_length c.loop-w.invariant.1
 
-returns_3 : tie.Need-returns-3 invariant_loop decreases_loop
+returns_3 : tie.Need-returns invariant_loop decreases_loop
 returns_3 c =
-    let inv = c.before.before.loop.invariant in
+    let inv = c.loop-w.invariant in
     let rest = c.line_end.ensures in
-    (passed_then inv.0 rest, copied_full c.line_end.result inv.1 (omega (arith, c.before.loop-test.false)) rest.on rest.within)
+    (passed_then inv.0 rest, copied_full c.line_end.result inv.1 (omega (arith, c.loop-w-test.false)) rest.on rest.within)
 
 pub copy_line_spec : {M : Type 1} → statement M
 copy_line_spec =

@@ -8,36 +8,36 @@ use Rattle.blocks.proofs.Places.{are_bars, no_bars}
 use Rattle.blocks.proofs.eat_error.Statement.{statement}
 use Rattle.blocks.proofs.eat_error.Tie as tie
 
-abbrev invariant_loop : tie.invariant-loop
+abbrev invariant_loop : tie.invariant-loop-i
 invariant_loop source from i₀ i = Seeking source from i
 
-abbrev decreases_loop : tie.decreases-loop
+abbrev decreases_loop : tie.decreases-loop-i
 decreases_loop source from i₀ i = length source - i
 
-loop_holds : tie.Need-loop-init invariant_loop decreases_loop
-loop_holds c = seeking_none c.before.requires
+loop_holds : tie.Need-loop-i-init invariant_loop decreases_loop
+loop_holds c = seeking_none c.requires
 
-bars_at_requires : tie.Need-bars-at-requires invariant_loop decreases_loop
-bars_at_requires c κs = c.before.loop.invariant.within
+bars_at_requires : tie.Need-bars_at-requires invariant_loop decreases_loop
+bars_at_requires c κs = c.loop-i.invariant.within
 
-add_result : tie.Need-overflow-add-result invariant_loop decreases_loop
-add_result c = omega (arith, (are_bars c.before.bars-at.ensures c.if1.true).0)
+add_result : tie.Need-overflow_add-result invariant_loop decreases_loop
+add_result c = omega (arith, (are_bars c.bars_at.ensures c.if-bars_at.true).0)
 
-returns : tie.Need-returns invariant_loop decreases_loop
-returns c = let found = are_bars c.before.bars-at.ensures c.if1.true in seeking_bars c.before.before.before.loop.invariant found.0 found.1
+returns : tie.Need-returns-then-bars_at invariant_loop decreases_loop
+returns c = let found = are_bars c.bars_at.ensures c.if-bars_at.true in seeking_bars c.loop-i.invariant found.0 found.1
 
-add_i : tie.Need-overflow-add-i invariant_loop decreases_loop
+add_i : tie.Need-overflow_add-i invariant_loop decreases_loop
 add_i c = omega arith
 
-loop_less : tie.Need-loop-smaller invariant_loop decreases_loop
+loop_less : tie.Need-loop-i-smaller invariant_loop decreases_loop
 loop_less c = omega arith
 
-loop_again : tie.Need-loop-preserved invariant_loop decreases_loop
+loop_again : tie.Need-loop-i-preserved invariant_loop decreases_loop
 loop_again c =
-    seeking_more c.before.before.before.loop.invariant c.before.before.loop-test.true (no_bars c.before.bars-at.ensures c.if1.false)
+    seeking_more c.loop-i.invariant c.loop-i-test.true (no_bars c.bars_at.ensures c.if-bars_at.false)
 
-returns_2 : tie.Need-returns-2 invariant_loop decreases_loop
-returns_2 c = seeking_end c.before.loop.invariant c.loop-test.false
+returns_2 : tie.Need-returns invariant_loop decreases_loop
+returns_2 c = seeking_end c.loop-i.invariant c.loop-i-test.false
 
 pub eat_error_spec : {M : Type 1} → statement M
 eat_error_spec =

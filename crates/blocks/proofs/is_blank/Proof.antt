@@ -5,14 +5,14 @@ use Rattle.blocks.specs.Inside.{holds, fails}
 use Rattle.blocks.proofs.is_blank.Statement.{statement}
 use Rattle.blocks.proofs.is_blank.Tie as tie
 
-returns : tie.Need-returns
-returns c = holds (inl c.match.keys1)
+returns : tie.Need-returns-in-32
+returns c = holds (inl c.in-32.is)
 
-returns_2 : tie.Need-returns-2
-returns_2 c = holds (inr c.match.keys2)
+returns_2 : tie.Need-returns-in-9
+returns_2 c = holds (inr c.in-9.is)
 
-returns_3 : tie.Need-returns-3
-returns_3 c = fails (⊎_elim c.match.rest.0.1 c.match.rest.1)
+returns_3 : tie.Need-returns-in_default
+returns_3 c = fails (⊎_elim c.in_default.in_default-own.rest.0.1 c.in_default.in_default-own.rest.1)
 
 pub is_blank_spec : {M : Type 1} → statement M
 is_blank_spec = tie.close (tie.spec returns returns_2 returns_3)

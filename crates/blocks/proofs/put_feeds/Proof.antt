@@ -9,48 +9,48 @@ use Rattle.blocks.proofs.Places.{sets-beyond, Fed, fed_none, fed_more, fed_lengt
 use Rattle.blocks.proofs.put_feeds.Statement.{statement}
 use Rattle.blocks.proofs.put_feeds.Tie as tie
 
-abbrev invariant_loop : tie.invariant-loop
+abbrev invariant_loop : tie.invariant-loop-k
 invariant_loop out₀ at n k₀ out k = (k ≤ n) × Fed out₀ at k out
 
-abbrev decreases_loop : tie.decreases-loop
+abbrev decreases_loop : tie.decreases-loop-k
 decreases_loop out₀ at n k₀ out k = n - k
 
-add_result : tie.Need-overflow-add-result invariant_loop decreases_loop
-add_result c = omega (arith, c.before.before.requires)
+add_result : tie.Need-overflow_add-result invariant_loop decreases_loop
+add_result c = omega (arith, c.requires)
 
 -- none has room
-returns : tie.Need-returns invariant_loop decreases_loop
-returns c = let args = c.before.before.args in (sym (sets-beyond (feeds args.n) args.out.now args.at c.if1.true), refl)
+returns : tie.Need-returns-then-out-at invariant_loop decreases_loop
+returns c = let args = c.args in (sym (sets-beyond (feeds args.n) args.out.now args.at c.if-out-at.true), refl)
 
-loop_holds : tie.Need-loop-init invariant_loop decreases_loop
+loop_holds : tie.Need-loop-k-init invariant_loop decreases_loop
 loop_holds c = (omega arith, fed_none)
 
-add_put : tie.Need-overflow-add-put invariant_loop decreases_loop
-add_put c = omega (arith, c.before.before.before.before.before.requires, c.before.loop-test.true)
+add_put : tie.Need-overflow_add-at invariant_loop decreases_loop
+add_put c = omega (arith, c.requires, c.loop-k-test.true)
 
 put_requires : tie.Need-put-requires invariant_loop decreases_loop
 put_requires c κs = tt
 
-add_k : tie.Need-overflow-add-k invariant_loop decreases_loop
-add_k c = omega (arith, c.before.before.before.before.before.before.before.before.requires, c.before.before.before.before.loop-test.true)
+add_k : tie.Need-overflow_add-k invariant_loop decreases_loop
+add_k c = omega (arith, c.requires, c.loop-k-test.true)
 
-loop_less : tie.Need-loop-smaller invariant_loop decreases_loop
-loop_less c = omega (arith, c.before.before.before.before.loop-test.true)
+loop_less : tie.Need-loop-k-smaller invariant_loop decreases_loop
+loop_less c = omega (arith, c.loop-k-test.true)
 
-loop_again : tie.Need-loop-preserved invariant_loop decreases_loop
-loop_again c = (omega (arith, c.before.before.before.before.loop-test.true), fed_more c.before.before.before.before.before.loop.invariant.1 c.before.before.put.ensures)
+loop_again : tie.Need-loop-k-preserved invariant_loop decreases_loop
+loop_again c = (omega (arith, c.loop-k-test.true), fed_more c.loop-k.invariant.1 c.put.ensures)
 
-add_result_2 : tie.Need-overflow-add-result-2 invariant_loop decreases_loop
-add_result_2 c = omega (arith, c.before.before.before.before.requires)
+add_result_2 : tie.Need-overflow_add-result-2 invariant_loop decreases_loop
+add_result_2 c = omega (arith, c.requires)
 
-same_length : tie.Need-same-length invariant_loop decreases_loop
-same_length c = fed_length c.before.loop.invariant.1
+same_length : tie.Need-shape_of-out invariant_loop decreases_loop
+same_length c = fed_length c.loop-k.invariant.1
 
-returns_2 : tie.Need-returns-2 invariant_loop decreases_loop
+returns_2 : tie.Need-returns invariant_loop decreases_loop
 returns_2 c =
-    let args = c.before.before.before.before.args in
-    let loop = c.before.loop in
-    let all : loop.k ≡ args.n = omega (arith, loop.invariant.0, c.loop-test.false) in
+    let args = c.args in
+    let loop = c.loop-k in
+    let all : loop.k ≡ args.n = omega (arith, loop.invariant.0, c.loop-k-test.false) in
     (loop.invariant.1.stored ∙ ap (λ (k : ℕ). sets args.out.now args.at (feeds k)) all, refl)
 
 pub put_feeds_spec : {M : Type 1} → statement M

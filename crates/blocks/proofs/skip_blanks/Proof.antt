@@ -4,47 +4,46 @@ use Prim.Native.Nat.{◌-◌}
 use native.Mathlib.Omega.{arith}
 use lib.ListN.{length}
 use borrow.Author.Rules.{rules}
-use borrow.Author.Tests.{not-true, not-false}
 use Rattle.blocks.specs.Blocks.{Blank}
 use Rattle.blocks.proofs.Runs.{Passed, passed_none, passed_more, passed_stop, passed_end}
 use Rattle.blocks.proofs.Places.{said, denied}
 use Rattle.blocks.proofs.skip_blanks.Statement.{statement}
 use Rattle.blocks.proofs.skip_blanks.Tie as tie
 
-abbrev invariant_loop : tie.invariant-loop
+abbrev invariant_loop : tie.invariant-loop-i
 invariant_loop source from i₀ i = Passed Blank source from i
 
-abbrev decreases_loop : tie.decreases-loop
+abbrev decreases_loop : tie.decreases-loop-i
 decreases_loop source from i₀ i = length source - i
 
-loop_holds : tie.Need-loop-init invariant_loop decreases_loop
-loop_holds c = passed_none c.before.requires
+loop_holds : tie.Need-loop-i-init invariant_loop decreases_loop
+loop_holds c = passed_none c.requires
 
-shared_slice_read_is_blank : tie.Need-shared-slice-read-is-blank invariant_loop decreases_loop
+shared_slice_read_is_blank : tie.Need-bounds-source-i invariant_loop decreases_loop
 shared_slice_read_is_blank c = search rules
 
-is_blank_requires : tie.Need-is-blank-requires invariant_loop decreases_loop
+is_blank_requires : tie.Need-is_blank-requires invariant_loop decreases_loop
 is_blank_requires c κs = tt
 
-returns : tie.Need-returns invariant_loop decreases_loop
+returns : tie.Need-returns-then-not-is_blank invariant_loop decreases_loop
 returns c =
-    let test = c.before.is-blank in
-    passed_stop c.before.before.before.before.loop.invariant (denied test.ensures (not-true test.result c.if1.true))
+    let test = c.is_blank in
+    passed_stop c.loop-i.invariant (denied test.ensures (c.if-not-is_blank.true))
 
-add_i : tie.Need-overflow-add-i invariant_loop decreases_loop
+add_i : tie.Need-overflow_add-i invariant_loop decreases_loop
 add_i c = omega arith
 
-loop_less : tie.Need-loop-smaller invariant_loop decreases_loop
+loop_less : tie.Need-loop-i-smaller invariant_loop decreases_loop
 loop_less c = omega arith
 
-loop_again : tie.Need-loop-preserved invariant_loop decreases_loop
+loop_again : tie.Need-loop-i-preserved invariant_loop decreases_loop
 loop_again c =
-    let test = c.before.is-blank in
-    passed_more c.before.before.before.before.loop.invariant c.before.before.before.loop-test.true
-    (said test.ensures (not-false test.result c.if1.false))
+    let test = c.is_blank in
+    passed_more c.loop-i.invariant c.loop-i-test.true
+    (said test.ensures (c.if-not-is_blank.false))
 
-returns_2 : tie.Need-returns-2 invariant_loop decreases_loop
-returns_2 c = passed_end c.before.loop.invariant c.loop-test.false
+returns_2 : tie.Need-returns invariant_loop decreases_loop
+returns_2 c = passed_end c.loop-i.invariant c.loop-i-test.false
 
 pub skip_blanks_spec : {M : Type 1} → statement M
 skip_blanks_spec =

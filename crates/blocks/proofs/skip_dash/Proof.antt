@@ -5,20 +5,20 @@ use Rattle.blocks.proofs.Places.{dashed_there, dashed_other, dashed_end}
 use Rattle.blocks.proofs.skip_dash.Statement.{statement}
 use Rattle.blocks.proofs.skip_dash.Tie as tie
 
-shared_slice_read_if2 : tie.Need-shared-slice-read-if2
+shared_slice_read_if2 : tie.Need-bounds-source-at
 shared_slice_read_if2 c = search rules
 
-add_result : tie.Need-overflow-add-result
+add_result : tie.Need-overflow_add-result
 add_result c = search rules
 
-returns : tie.Need-returns
-returns c = dashed_there _ _ c.before.before.if1.true c.if2.true
+returns : tie.Need-returns-then-source-at-eq45
+returns c = dashed_there _ _ c.if-at-source.true c.if-source-at-eq45.true
 
-returns_2 : tie.Need-returns-2
-returns_2 c = dashed_other _ _ c.before.before.if1.true c.if2.false
+returns_2 : tie.Need-returns-else-source-at-eq45
+returns_2 c = dashed_other _ _ c.if-at-source.true c.if-source-at-eq45.false
 
-returns_3 : tie.Need-returns-3
-returns_3 c = dashed_end _ _ c.before.requires c.if1.false
+returns_3 : tie.Need-returns-else-at-source
+returns_3 c = dashed_end _ _ c.requires c.if-at-source.false
 
 pub skip_dash_spec : {M : Type 1} → statement M
 skip_dash_spec = tie.close (tie.spec shared_slice_read_if2 add_result returns returns_2 returns_3)

@@ -15,7 +15,7 @@ find_requires c κs = search rules
 
 returns : tie.Need-returns
 returns c =
-    let text = c.before.before.args.text.now in
+    let text = c.args.text.now in
     let found = c.find.ensures in
     let front = sym (ap length found.front) ∙ length-take-le c.find.result text found.within in
     sym (has-before 45 text ∙ ap (λ (n : ℕ). ltb n (length text)) front)

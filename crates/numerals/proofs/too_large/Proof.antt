@@ -14,58 +14,58 @@ use Rattle.numerals.proofs.Parts.{few_bytes, judged, judged_short}
 use Rattle.numerals.proofs.too_large.Statement.{statement}
 use Rattle.numerals.proofs.too_large.Tie as tie
 
-returns : tie.Need-returns
-returns c = judged_short c.before.before.args.text.now c.if1.true
+returns : tie.Need-returns-then-text-lt5
+returns c = judged_short c.args.text.now c.if-text-lt5.true
 
-find_requires : tie.Need-find-requires
+find_requires : tie.Need-find-e-requires
 find_requires c κs = search rules
 
-past_requires : tie.Need-past-requires
+past_requires : tie.Need-past-from-requires
 past_requires c κs = search rules
 
-sub_if3 : tie.Need-overflow-sub-if3
+sub_if3 : tie.Need-overflow_sub-text
 sub_if3 c = search rules
 
-returns_2 : tie.Need-returns-2
+returns_2 : tie.Need-returns-then-text-from-lt3
 returns_2 c =
     let parts = c.before.before in
-    let text = parts.before.before.before.before.args.text.now in
-    let found = parts.before.find.ensures in
-    let past = parts.past.ensures in
-    let front = subst (λ (m : List ℕ). length m < 210) found.front (omega (arith, length-take-le parts.before.find.result text found.within, c.before.if2.true)) in
-    let rest = subst (λ (x : List ℕ). length x < 3) (drop_past text found past) (omega (arith, length-drop parts.past.result text, c.if3.true)) in
+    let text = parts.args.text.now in
+    let found = parts.find-e.ensures in
+    let past = parts.past-from.ensures in
+    let front = subst (λ (m : List ℕ). length m < 210) found.front (omega (arith, length-take-le parts.find-e.result text found.within, c.if-e-lt210.true)) in
+    let rest = subst (λ (x : List ℕ). length x < 3) (drop_past text found past) (omega (arith, length-drop parts.past-from.result text, c.if-text-from-lt3.true)) in
     judged text (mantissa text) (exponent text) refl refl (few_bytes (mantissa text) (exponent text) front (inr rest))
 
-sub_parts_reach : tie.Need-overflow-sub-parts-reach
+sub_parts_reach : tie.Need-slice_bounds-parts_reach-count
 sub_parts_reach c = search rules
 
-part_parts_reach_start : tie.Need-slice-bounds-parts-reach-start
+part_parts_reach_start : tie.Need-slice_bounds-parts_reach-start
 part_parts_reach_start c = search rules
 
-part_parts_reach_end : tie.Need-slice-bounds-parts-reach-end
+part_parts_reach_end : tie.Need-slice_bounds-parts_reach-end
 part_parts_reach_end c = search rules
 
-sub_parts_reach_2 : tie.Need-overflow-sub-parts-reach-2
+sub_parts_reach_2 : tie.Need-slice_bounds-parts_reach-count-2
 sub_parts_reach_2 c = search rules
 
-part_parts_reach_start_2 : tie.Need-slice-bounds-parts-reach-start-2
+part_parts_reach_start_2 : tie.Need-slice_bounds-parts_reach-start-2
 part_parts_reach_start_2 c = search rules
 
-part_parts_reach_end_2 : tie.Need-slice-bounds-parts-reach-end-2
+part_parts_reach_end_2 : tie.Need-slice_bounds-parts_reach-end-2
 part_parts_reach_end_2 c = search rules
 
-parts_reach_requires : tie.Need-parts-reach-requires
+parts_reach_requires : tie.Need-parts_reach-requires
 parts_reach_requires c κs = search rules
 
-returns_3 : tie.Need-returns-3
+returns_3 : tie.Need-returns
 returns_3 c =
     let parts = c.before.before.before.before in
-    let text = parts.before.before.before.before.args.text.now in
-    let found = parts.before.find in
-    let past = parts.past in
+    let text = parts.args.text.now in
+    let found = parts.find-e in
+    let past = parts.past-from in
     let front : found.result - 0 ≡ found.result = omega arith in
     let all = take_all (length text - past.result) (drop past.result text) (omega (arith, length-drop past.result text)) in
-    judged text _ _ (ap (λ (n : ℕ). take n text) front ∙ found.ensures.front) (all ∙ drop_past text found.ensures past.ensures) c.parts-reach.ensures
+    judged text _ _ (ap (λ (n : ℕ). take n text) front ∙ found.ensures.front) (all ∙ drop_past text found.ensures past.ensures) c.parts_reach.ensures
 
 pub too_large_spec : {M : Type 1} → statement M
 too_large_spec = tie.close (tie.spec returns find_requires past_requires sub_if3 returns_2 sub_parts_reach part_parts_reach_start part_parts_reach_end sub_parts_reach_2 part_parts_reach_start_2 part_parts_reach_end_2 parts_reach_requires returns_3)

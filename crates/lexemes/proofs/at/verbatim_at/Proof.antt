@@ -2,110 +2,110 @@
 -- Assumes nothing.
 use mathlib.Core.Logic.{⊎_elim}
 use mathlib.Core.Path.{sym, ◌∙◌}
-use Prim.Native.Nat.{◌+◌, ◌-◌, ◌≤◌, ◌<◌}
+use Prim.Native.Nat.{◌+◌, ◌-◌, ◌≤◌}
 use native.Mathlib.Omega.{arith}
-use lib.ListN.{length, get_or}
+use lib.ListN.{length}
 use borrow.Author.Rules.{rules}
 use Rattle.lexemes.proofs.Letters.{up, next-within, inside}
 use Rattle.lexemes.proofs.Verbatim.{InRaw, raw_plain, raw_opened, raw_on, raw_doubled, raw_closed, raw_cut}
 use Rattle.lexemes.proofs.at.verbatim_at.Statement.{statement}
 use Rattle.lexemes.proofs.at.verbatim_at.Tie as tie
 
-abbrev invariant_loop : tie.invariant-loop
+abbrev invariant_loop : tie.invariant-loop-i
 invariant_loop src at q good i₀ i = (i ≤ length src) × InRaw src at q good i
 
-abbrev decreases_loop : tie.decreases-loop
+abbrev decreases_loop : tie.decreases-loop-i
 decreases_loop src at q good i₀ i = length src - i
 
-add_i : tie.Need-overflow-add-i invariant_loop decreases_loop
+add_i : tie.Need-overflow_add-i invariant_loop decreases_loop
 add_i c = search rules
 
-loop_holds : tie.Need-loop-init invariant_loop decreases_loop
+loop_holds : tie.Need-loop-i-init invariant_loop decreases_loop
 loop_holds c =
-    let pre = c.before.requires in
+    let pre = c.requires in
     (omega (arith, pre.0), raw_opened pre.3 pre.1 pre.2)
 
-shared_slice_read_b : tie.Need-shared-slice-read-b invariant_loop decreases_loop
+shared_slice_read_b : tie.Need-bounds-src-i invariant_loop decreases_loop
 shared_slice_read_b c = search rules
 
-add_peek : tie.Need-overflow-add-peek invariant_loop decreases_loop
+add_peek : tie.Need-overflow_add-i-then-b-q invariant_loop decreases_loop
 add_peek c = search rules
 
 peek_requires : tie.Need-peek-requires invariant_loop decreases_loop
 peek_requires c κs = search rules
 
-add_i_2 : tie.Need-overflow-add-i-2 invariant_loop decreases_loop
+add_i_2 : tie.Need-overflow_add-i-then-peek-q invariant_loop decreases_loop
 add_i_2 c =
-    let args = c.before.before.before.before.before.before.before.args in
+    let args = c.args in
     let s = args.src.now in
-    let loop = c.before.before.before.before.before.loop in
-    let peek = c.before.peek in
-    let if2 = c.if2 in
-    let pre = c.before.before.before.before.before.before.before.requires in
+    let loop = c.loop-i in
+    let peek = c.peek in
+    let if2 = c.if-peek-q in
+    let pre = c.requires in
     omega (arith, inside s (loop.i + 1) (omega (arith, peek.ensures, if2.true, raw_plain args.q args.good pre.3)))
 
-loop_less : tie.Need-loop-smaller invariant_loop decreases_loop
+loop_less : tie.Need-loop-i-smaller-then-peek-q invariant_loop decreases_loop
 loop_less c =
-    let args = c.before.before.before.before.before.before.before.args in
+    let args = c.args in
     let s = args.src.now in
-    let loop = c.before.before.before.before.before.loop in
-    let peek = c.before.peek in
-    let if2 = c.if2 in
-    let pre = c.before.before.before.before.before.before.before.requires in
+    let loop = c.loop-i in
+    let peek = c.peek in
+    let if2 = c.if-peek-q in
+    let pre = c.requires in
     omega (arith, inside s (loop.i + 1) (omega (arith, peek.ensures, if2.true, raw_plain args.q args.good pre.3)))
 
-loop_again : tie.Need-loop-preserved invariant_loop decreases_loop
+loop_again : tie.Need-loop-i-preserved-then-peek-q invariant_loop decreases_loop
 loop_again c =
-    let args = c.before.before.before.before.before.before.before.args in
+    let args = c.args in
     let s = args.src.now in
-    let loop = c.before.before.before.before.before.loop in
-    let peek = c.before.peek in
-    let if2 = c.if2 in
-    let pre = c.before.before.before.before.before.before.before.requires in
-    let if1 = c.before.before.if1 in
+    let loop = c.loop-i in
+    let peek = c.peek in
+    let if2 = c.if-peek-q in
+    let pre = c.requires in
+    let if1 = c.if-b-q in
     (omega (arith, inside s (loop.i + 1) (omega (arith, peek.ensures, if2.true, raw_plain args.q args.good pre.3))), raw_doubled loop.invariant.1 if1.true (sym peek.ensures ∙ if2.true))
 
-add_t12 : tie.Need-overflow-add-t12 invariant_loop decreases_loop
+add_t12 : tie.Need-overflow_add-result invariant_loop decreases_loop
 add_t12 c = search rules
 
-returns : tie.Need-returns invariant_loop decreases_loop
+returns : tie.Need-returns-then-b-q invariant_loop decreases_loop
 returns c =
-    let loop = c.before.before.before.before.before.loop in
-    let if1 = c.before.before.if1 in
-    let if2 = c.if2 in
-    let peek = c.before.peek in
+    let loop = c.loop-i in
+    let if1 = c.if-b-q in
+    let if2 = c.if-peek-q in
+    let peek = c.peek in
     raw_closed loop.invariant.1 if1.true (λ e. if2.false (peek.ensures ∙ e))
 
-after_requires : tie.Need-after-requires invariant_loop decreases_loop
+after_requires : tie.Need-after-i-requires invariant_loop decreases_loop
 after_requires c κs = search rules
 
-loop_less_2 : tie.Need-loop-smaller-2 invariant_loop decreases_loop
+loop_less_2 : tie.Need-loop-i-smaller invariant_loop decreases_loop
 loop_less_2 c =
-    let args = c.before.before.before.before.before.before.args in
-    let after = c.after in
+    let args = c.args in
+    let after = c.after-i in
     let s = args.src.now in
-    let loop = c.before.before.before.before.loop in
+    let loop = c.loop-i in
     omega (arith, after.ensures, up s loop.i)
 
-loop_again_2 : tie.Need-loop-preserved-2 invariant_loop decreases_loop
+loop_again_2 : tie.Need-loop-i-preserved invariant_loop decreases_loop
 loop_again_2 c =
-    let args = c.before.before.before.before.before.before.args in
-    let after = c.after in
+    let args = c.args in
+    let after = c.after-i in
     let s = args.src.now in
-    let loop = c.before.before.before.before.loop in
-    let loop-test = c.before.before.before.loop-test in
-    let if1 = c.before.if1 in
+    let loop = c.loop-i in
+    let loop-test = c.loop-i-test in
+    let if1 = c.if-b-q in
     (omega (arith, after.ensures, next-within s loop.i loop-test.true), raw_on loop.invariant.1 loop-test.true if1.false after.ensures)
 
-add_t14 : tie.Need-overflow-add-t14 invariant_loop decreases_loop
+add_t14 : tie.Need-overflow_add-result-2 invariant_loop decreases_loop
 add_t14 c =
-    let pre = c.before.before.before.requires in
+    let pre = c.requires in
     ⊎_elim (λ e. omega (arith, e.1)) (λ e. omega (arith, e.1)) pre.3
 
-returns_2 : tie.Need-returns-2 invariant_loop decreases_loop
+returns_2 : tie.Need-returns invariant_loop decreases_loop
 returns_2 c =
-    let loop = c.before.loop in
-    let loop-test = c.loop-test in
+    let loop = c.loop-i in
+    let loop-test = c.loop-i-test in
     raw_cut loop.invariant.1 loop-test.false
 
 pub verbatim_at_spec : {M : Type 1} → statement M

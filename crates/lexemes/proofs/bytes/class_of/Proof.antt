@@ -10,21 +10,21 @@ use Rattle.lexemes.proofs.Classes.{table_right}
 use Rattle.lexemes.proofs.bytes.class_of.Statement.{statement}
 use Rattle.lexemes.proofs.bytes.class_of.Tie as tie
 
-element_copy_out_result : tie.Need-element-copy-out-result
+element_copy_out_result : tie.Need-bounds-classes-b
 element_copy_out_result c = search rules
 
-sub_result : tie.Need-overflow-sub-result
+sub_result : tie.Need-overflow_sub-result
 sub_result c =
-    let args = c.before.args in
-    let pre = c.before.requires in
-    let fits = c.before.ranges in
+    let args = c.args in
+    let pre = c.requires in
+    let fits = c.ranges in
     omega (arith, ap (λ (t : List ℕ). get_or t args.b 0) pre, table_right args.b fits.b.fits)
 
 returns : tie.Need-returns
 returns c =
-    let args = c.before.args in
-    let pre = c.before.requires in
-    let fits = c.before.ranges in
+    let args = c.args in
+    let pre = c.requires in
+    let fits = c.ranges in
     omega (arith, ap (λ (t : List ℕ). get_or t args.b 0) pre, table_right args.b fits.b.fits)
 
 pub class_of_spec : {M : Type 1} → statement M

@@ -6,91 +6,91 @@ use Rattle.lexemes.specs.Letters.{code_point}
 use Rattle.lexemes.proofs.bytes.code_point.Statement.{statement}
 use Rattle.lexemes.proofs.bytes.code_point.Tie as tie
 
-returns : tie.Need-returns
+returns : tie.Need-returns-then-a-lt128
 unfolding code_point
 returns c =
-    let args = c.before.args in
-    let if1 = c.if1 in
+    let args = c.args in
+    let if1 = c.if-a-lt128 in
     simp (lt-ltb args.a 0x80 if1.true)
 
-cast_x : tie.Need-overflow-cast-x
+cast_x : tie.Need-overflow_cast-x
 cast_x c = search rules
 
-cast_result : tie.Need-overflow-cast-result
+cast_result : tie.Need-overflow_cast-result-then-a-lt224
 cast_result c = search rules
 
-mul_result : tie.Need-overflow-mul-result
+mul_result : tie.Need-overflow_mul-result
 mul_result c = search rules
 
-add_result : tie.Need-overflow-add-result
+add_result : tie.Need-overflow_add-result
 add_result c = search rules
 
-returns_2 : tie.Need-returns-2
+returns_2 : tie.Need-returns-then-a-lt224
 unfolding code_point
 returns_2 c =
-    let args = c.before.before.args in
-    let if1 = c.before.if1 in
-    let if2 = c.if2 in
+    let args = c.args in
+    let if1 = c.if-a-lt128 in
+    let if2 = c.if-a-lt224 in
     simp (le-ltb args.a 0x80 if1.false, lt-ltb args.a 0xE0 if2.true)
 
-cast_y : tie.Need-overflow-cast-y
+cast_y : tie.Need-overflow_cast-y
 cast_y c = search rules
 
-cast_result_2 : tie.Need-overflow-cast-result-2
+cast_result_2 : tie.Need-overflow_cast-result-then-a-lt240
 cast_result_2 c = search rules
 
-mul_result_2 : tie.Need-overflow-mul-result-2
+mul_result_2 : tie.Need-overflow_mul-result-then-a-lt240
 mul_result_2 c = search rules
 
-mul_result_3 : tie.Need-overflow-mul-result-3
+mul_result_3 : tie.Need-overflow_mul-result-then-a-lt240-2
 mul_result_3 c = search rules
 
-add_result_2 : tie.Need-overflow-add-result-2
+add_result_2 : tie.Need-overflow_add-result-then-a-lt240
 add_result_2 c = search rules
 
-add_result_3 : tie.Need-overflow-add-result-3
+add_result_3 : tie.Need-overflow_add-result-then-a-lt240-2
 add_result_3 c = search rules
 
-returns_3 : tie.Need-returns-3
+returns_3 : tie.Need-returns-then-a-lt240
 unfolding code_point
 returns_3 c =
-    let args = c.before.before.before.args in
-    let if1 = c.before.before.if1 in
-    let if2 = c.before.if2 in
-    let if3 = c.if3 in
+    let args = c.args in
+    let if1 = c.if-a-lt128 in
+    let if2 = c.if-a-lt224 in
+    let if3 = c.if-a-lt240 in
     simp (le-ltb args.a 0x80 if1.false, le-ltb args.a 0xE0 if2.false, lt-ltb args.a 0xF0 if3.true)
 
-cast_result_3 : tie.Need-overflow-cast-result-3
+cast_result_3 : tie.Need-overflow_cast-result-2
 cast_result_3 c = search rules
 
-mul_result_4 : tie.Need-overflow-mul-result-4
+mul_result_4 : tie.Need-overflow_mul-result-2
 mul_result_4 c = search rules
 
-mul_result_5 : tie.Need-overflow-mul-result-5
+mul_result_5 : tie.Need-overflow_mul-result-3
 mul_result_5 c = search rules
 
-add_result_4 : tie.Need-overflow-add-result-4
+add_result_4 : tie.Need-overflow_add-result-2
 add_result_4 c = search rules
 
-mul_result_6 : tie.Need-overflow-mul-result-6
+mul_result_6 : tie.Need-overflow_mul-result-4
 mul_result_6 c = search rules
 
-add_result_5 : tie.Need-overflow-add-result-5
+add_result_5 : tie.Need-overflow_add-result-3
 add_result_5 c = search rules
 
-cast_result_4 : tie.Need-overflow-cast-result-4
+cast_result_4 : tie.Need-overflow_cast-result-3
 cast_result_4 c = search rules
 
-add_result_6 : tie.Need-overflow-add-result-6
+add_result_6 : tie.Need-overflow_add-result-4
 add_result_6 c = search rules
 
-returns_4 : tie.Need-returns-4
+returns_4 : tie.Need-returns
 unfolding code_point
 returns_4 c =
-    let args = c.before.before.before.args in
-    let if1 = c.before.before.if1 in
-    let if2 = c.before.if2 in
-    let if3 = c.if3 in
+    let args = c.args in
+    let if1 = c.if-a-lt128 in
+    let if2 = c.if-a-lt224 in
+    let if3 = c.if-a-lt240 in
     simp (le-ltb args.a 0x80 if1.false, le-ltb args.a 0xE0 if2.false, le-ltb args.a 0xF0 if3.false)
 
 pub code_point_spec : {M : Type 1} → statement M

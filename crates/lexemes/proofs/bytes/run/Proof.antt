@@ -8,40 +8,40 @@ use Rattle.lexemes.proofs.Classes.{Passed, passed_none, passed_on, passed_over, 
 use Rattle.lexemes.proofs.bytes.run.Statement.{statement}
 use Rattle.lexemes.proofs.bytes.run.Tie as tie
 
-abbrev invariant_loop : tie.invariant-loop
+abbrev invariant_loop : tie.invariant-loop-i
 invariant_loop src from lo hi classes i₀ i = Passed src from lo hi i
 
-abbrev decreases_loop : tie.decreases-loop
+abbrev decreases_loop : tie.decreases-loop-i
 decreases_loop src from lo hi classes i₀ i = length src - i
 
-loop_holds : tie.Need-loop-init invariant_loop decreases_loop
-loop_holds c = passed_none c.before.requires.0
+loop_holds : tie.Need-loop-i-init invariant_loop decreases_loop
+loop_holds c = passed_none c.requires.0
 
-shared_slice_read_class_of : tie.Need-shared-slice-read-class-of invariant_loop decreases_loop
+shared_slice_read_class_of : tie.Need-bounds-src-i invariant_loop decreases_loop
 shared_slice_read_class_of c = search rules
 
-class_of_requires : tie.Need-class-of-requires invariant_loop decreases_loop
+class_of_requires : tie.Need-class_of-c-requires invariant_loop decreases_loop
 class_of_requires c κs = search rules
 
-returns : tie.Need-returns invariant_loop decreases_loop
-returns c = passed_over c.before.before.before.before.loop.invariant (λ b. omega (arith, c.before.class_of.ensures, c.if1.true))
+returns : tie.Need-returns-then-c-lo invariant_loop decreases_loop
+returns c = passed_over c.loop-i.invariant (λ b. omega (arith, c.class_of-c.ensures, c.if-c-lo.true))
 
-returns_2 : tie.Need-returns-2 invariant_loop decreases_loop
-returns_2 c = passed_over c.before.before.before.before.before.loop.invariant (λ b. omega (arith, c.before.before.class_of.ensures, c.if2.true))
+returns_2 : tie.Need-returns-then-hi-c invariant_loop decreases_loop
+returns_2 c = passed_over c.loop-i.invariant (λ b. omega (arith, c.class_of-c.ensures, c.if-hi-c.true))
 
-add_i : tie.Need-overflow-add-i invariant_loop decreases_loop
+add_i : tie.Need-overflow_add-i invariant_loop decreases_loop
 add_i c = search rules
 
-loop_less : tie.Need-loop-smaller invariant_loop decreases_loop
+loop_less : tie.Need-loop-i-smaller invariant_loop decreases_loop
 loop_less c = search rules
 
-loop_again : tie.Need-loop-preserved invariant_loop decreases_loop
+loop_again : tie.Need-loop-i-preserved invariant_loop decreases_loop
 loop_again c =
-    let class_of = c.before.before.class_of in
-    passed_on c.before.before.before.before.before.loop.invariant (omega arith) (omega (arith, class_of.ensures, c.before.if1.false), omega (arith, class_of.ensures, c.if2.false))
+    let class_of = c.class_of-c in
+    passed_on c.loop-i.invariant (omega arith) (omega (arith, class_of.ensures, c.if-c-lo.false), omega (arith, class_of.ensures, c.if-hi-c.false))
 
-returns_3 : tie.Need-returns-3 invariant_loop decreases_loop
-returns_3 c = passed_end c.before.loop.invariant c.before.before.before.requires.1 c.loop-test.false
+returns_3 : tie.Need-returns invariant_loop decreases_loop
+returns_3 c = passed_end c.loop-i.invariant c.requires.1 c.loop-i-test.false
 
 pub run_spec : {M : Type 1} → statement M
 run_spec =

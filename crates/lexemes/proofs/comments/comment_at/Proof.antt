@@ -6,77 +6,77 @@ use Rattle.lexemes.proofs.Slashes.{closed_scanned, never_closed, open_scanned, s
 use Rattle.lexemes.proofs.comments.comment_at.Statement.{statement}
 use Rattle.lexemes.proofs.comments.comment_at.Tie as tie
 
-add_close_from : tie.Need-overflow-add-close-from
+add_close_from : tie.Need-overflow_add-at
 add_close_from c = search rules
 
-close_from_requires : tie.Need-close-from-requires
+close_from_requires : tie.Need-close_from-close-requires
 close_from_requires c κs = search rules
 
-returns : tie.Need-returns
+returns : tie.Need-returns-then-close-ne0
 returns c =
-    let args = c.before.before.before.args in
+    let args = c.args in
     let s = args.src.now in
-    let pre = c.before.before.before.requires in
-    let if1 = c.if1 in
-    let close-from = c.before.close-from in
+    let pre = c.requires in
+    let if1 = c.if-close-ne0 in
+    let close-from = c.close_from-close in
     closed_scanned s args.at pre.1 pre.2 if1.true close-from.ensures
 
-add_open_from : tie.Need-overflow-add-open-from
+add_open_from : tie.Need-overflow_add-at-2
 add_open_from c = search rules
 
-open_from_requires : tie.Need-open-from-requires
+open_from_requires : tie.Need-open_from-open-requires
 open_from_requires c κs = search rules
 
-add_if2 : tie.Need-overflow-add-if2
+add_if2 : tie.Need-overflow_add-at-3
 add_if2 c = search rules
 
-returns_2 : tie.Need-returns-2
+returns_2 : tie.Need-returns-then-at-open
 returns_2 c =
-    let args = c.before.before.before.before.before.args in
+    let args = c.args in
     let s = args.src.now in
-    let pre = c.before.before.before.before.before.requires in
-    let if1 = c.before.before.if1 in
-    let close-from = c.before.before.before.close-from in
-    let if2 = c.if2 in
-    let open-from = c.before.open-from in
+    let pre = c.requires in
+    let if1 = c.if-close-ne0 in
+    let close-from = c.close_from-close in
+    let if2 = c.if-at-open in
+    let open-from = c.open_from-open in
     let unclosed = never_closed s args.at pre.1 pre.2 if1.false close-from.ensures in
     open_scanned s args.at pre.1 pre.2 unclosed if2.true open-from.ensures
 
-add_peek : tie.Need-overflow-add-peek
+add_peek : tie.Need-overflow_add-at-4
 add_peek c = search rules
 
 peek_requires : tie.Need-peek-requires
 peek_requires c κs = search rules
 
-add_t8 : tie.Need-overflow-add-t8
+add_t8 : tie.Need-overflow_add-result
 add_t8 c = search rules
 
-returns_3 : tie.Need-returns-3
+returns_3 : tie.Need-returns-then-peek-eq47
 returns_3 c =
-    let args = c.before.before.before.before.before.before.before.args in
+    let args = c.args in
     let s = args.src.now in
-    let pre = c.before.before.before.before.before.before.before.requires in
-    let if1 = c.before.before.before.before.if1 in
-    let close-from = c.before.before.before.before.before.close-from in
-    let peek = c.before.peek in
-    let if3 = c.if3 in
+    let pre = c.requires in
+    let if1 = c.if-close-ne0 in
+    let close-from = c.close_from-close in
+    let peek = c.peek in
+    let if3 = c.if-peek-eq47 in
     let unclosed = never_closed s args.at pre.1 pre.2 if1.false close-from.ensures in
     short_scanned s args.at pre.1 pre.2 unclosed (sym peek.ensures ∙ if3.true)
 
-add_t5 : tie.Need-overflow-add-t5
+add_t5 : tie.Need-overflow_add-result-2
 add_t5 c = search rules
 
-returns_4 : tie.Need-returns-4
+returns_4 : tie.Need-returns
 returns_4 c =
-    let args = c.before.before.before.before.before.before.before.args in
+    let args = c.args in
     let s = args.src.now in
-    let pre = c.before.before.before.before.before.before.before.requires in
-    let if1 = c.before.before.before.before.if1 in
-    let close-from = c.before.before.before.before.before.close-from in
-    let if2 = c.before.before.if2 in
-    let open-from = c.before.before.before.open-from in
-    let if3 = c.if3 in
-    let peek = c.before.peek in
+    let pre = c.requires in
+    let if1 = c.if-close-ne0 in
+    let close-from = c.close_from-close in
+    let if2 = c.if-at-open in
+    let open-from = c.open_from-open in
+    let if3 = c.if-peek-eq47 in
+    let peek = c.peek in
     let unclosed = never_closed s args.at pre.1 pre.2 if1.false close-from.ensures in
     div_star s args.at pre.1 pre.2 unclosed if2.false open-from.ensures (λ e. if3.false (peek.ensures ∙ e))
 

@@ -5,25 +5,25 @@ use Rattle.lexemes.proofs.Fates.{all_dropped, none_dropped, drops, keeps}
 use Rattle.lexemes.proofs.kept.is_dropped.Statement.{statement}
 use Rattle.lexemes.proofs.kept.is_dropped.Tie as tie
 
-returns : tie.Need-returns
+returns : tie.Need-returns-then-kind-lt-WHITESPACE
 unfolding none_dropped
 returns c =
-    let args = c.before.args in
-    let fits = c.before.ranges in
+    let args = c.args in
+    let fits = c.ranges in
     keeps 0 55 args.kind fits.kind.fits (omega arith) (omega arith) tt
 
-returns_2 : tie.Need-returns-2
+returns_2 : tie.Need-returns-then-kind-gt-MULTI_LINE_COMMENT
 unfolding none_dropped
 returns_2 c =
-    let args = c.before.before.args in
-    let fits = c.before.before.ranges in
+    let args = c.args in
+    let fits = c.ranges in
     keeps 60 255 args.kind fits.kind.fits (omega arith) (omega arith) tt
 
-returns_3 : tie.Need-returns-3
+returns_3 : tie.Need-returns
 unfolding all_dropped
 returns_3 c =
-    let args = c.before.before.args in
-    let fits = c.before.before.ranges in
+    let args = c.args in
+    let fits = c.ranges in
     drops 56 59 args.kind fits.kind.fits (omega arith) (omega arith) tt
 
 pub is_dropped_spec : {M : Type 1} → statement M

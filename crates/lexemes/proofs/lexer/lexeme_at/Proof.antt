@@ -6,7 +6,7 @@ use Rattle.lexemes.specs.Scan.{class_table}
 use Rattle.lexemes.proofs.lexer.lexeme_at.Statement.{statement}
 use Rattle.lexemes.proofs.lexer.lexeme_at.Tie as tie
 
-lexeme_by_requires : tie.Need-lexeme-by-requires
+lexeme_by_requires : tie.Need-lexeme_by-requires
 unfolding class_table
 lexeme_by_requires c κs = refl
 

@@ -5,7 +5,7 @@ use Rattle.lexemes.proofs.Firsts.{blank_scanned}
 use Rattle.lexemes.proofs.scan.blank_at.Statement.{statement}
 use Rattle.lexemes.proofs.scan.blank_at.Tie as tie
 
-add_blanks : tie.Need-overflow-add-blanks
+add_blanks : tie.Need-overflow_add-at
 add_blanks c = search rules
 
 blanks_requires : tie.Need-blanks-requires
@@ -13,9 +13,9 @@ blanks_requires c κs = search rules
 
 returns : tie.Need-returns
 returns c =
-    let args = c.before.before.args in
+    let args = c.args in
     let s = args.src.now in
-    let pre = c.before.before.requires in
+    let pre = c.requires in
     let blanks = c.blanks in
     blank_scanned s args.at pre.1 blanks.ensures
 

@@ -10,9 +10,9 @@ after_requires c κs = search rules
 
 returns : tie.Need-returns
 returns c =
-    let args = c.before.before.args in
+    let args = c.args in
     let s = args.src.now in
-    let pre = c.before.before.requires in
+    let pre = c.requires in
     let after = c.after in
     error_scanned s args.at pre.1 after.ensures
 

@@ -1,7 +1,7 @@
 -- `lexemes::words::eight` meets its contract.
 -- Assumes nothing.
 use mathlib.Core.Path.{refl, subst}
-use Prim.Native.Nat.{ℕ, ◌+◌, ◌*◌}
+use Prim.Native.Nat.{ℕ, ◌+◌}
 use native.Mathlib.Omega.{arith}
 use borrow.Author.Rules.{rules}
 use Rattle.lexemes.specs.Words.{Makes}
@@ -12,33 +12,33 @@ use Rattle.lexemes.proofs.words.eight.Tie as tie
 four_requires : tie.Need-four-requires
 four_requires c κs = search rules
 
-add_four : tie.Need-overflow-add-four
+add_four : tie.Need-overflow_add-at
 add_four c = search rules
 
 four_requires_2 : tie.Need-four-requires-2
 four_requires_2 c κs = search rules
 
-mul_result : tie.Need-overflow-mul-result
+mul_result : tie.Need-overflow_mul-result
 unfolding shift
 mul_result c =
-    let args = c.before.before.before.args in
-    let second = c.four2 in
+    let args = c.args in
+    let second = c.four-2 in
     omega (arith, below args.src.now 4 (args.at + 4) second.result second.ensures)
 
-add_result : tie.Need-overflow-add-result
+add_result : tie.Need-overflow_add-result
 unfolding shift
 add_result c =
-    let args = c.before.before.before.args in
-    let first = c.before.four in
-    let second = c.four2 in
+    let args = c.args in
+    let first = c.four in
+    let second = c.four-2 in
     omega (arith, below args.src.now 4 args.at first.result first.ensures, below args.src.now 4 (args.at + 4) second.result second.ensures)
 
 returns : tie.Need-returns
 unfolding shift
 returns c =
-    let args = c.before.before.before.args in
-    let first = c.before.four in
-    let second = c.four2 in
+    let args = c.args in
+    let first = c.four in
+    let second = c.four-2 in
     subst (λ (r : ℕ). Makes args.src.now args.at 8 r) (omega arith)
     (join args.src.now 4 4 8 args.at first.result second.result refl first.ensures second.ensures)
 

@@ -12,85 +12,85 @@ use Rattle.lexemes.proofs.words.keyword.Tie as tie
 up_again : {a e : ℕ} → a < e → a + (e - a) ≡ e
 up_again h = omega arith
 
-sub_n : tie.Need-overflow-sub-n
+sub_n : tie.Need-overflow_sub-n
 sub_n c = search rules
 
-of_two_requires : tie.Need-of-two-requires
-of_two_requires c κs = omega (arith, c.match.keys1)
+of_two_requires : tie.Need-of_two-requires
+of_two_requires c κs = omega (arith, c.in-2.is)
 
-returns : tie.Need-returns
+returns : tie.Need-returns-in-2
 returns c =
-    let args = c.before.before.before.args in
+    let args = c.args in
     let told = c.of_two in
-    subst (λ (e : ℕ). KeywordAt args.src.now args.at e told.result) (omega (arith, c.before.match.keys1)) told.ensures
+    subst (λ (e : ℕ). KeywordAt args.src.now args.at e told.result) (omega (arith, c.in-2.is)) told.ensures
 
-of_three_requires : tie.Need-of-three-requires
-of_three_requires c κs = omega (arith, c.match.keys2)
+of_three_requires : tie.Need-of_three-requires
+of_three_requires c κs = omega (arith, c.in-3.is)
 
-returns_2 : tie.Need-returns-2
+returns_2 : tie.Need-returns-in-3
 returns_2 c =
-    let args = c.before.before.before.args in
+    let args = c.args in
     let told = c.of_three in
-    subst (λ (e : ℕ). KeywordAt args.src.now args.at e told.result) (omega (arith, c.before.match.keys2)) told.ensures
+    subst (λ (e : ℕ). KeywordAt args.src.now args.at e told.result) (omega (arith, c.in-3.is)) told.ensures
 
-of_four_requires : tie.Need-of-four-requires
-of_four_requires c κs = omega (arith, c.match.keys3)
+of_four_requires : tie.Need-of_four-requires
+of_four_requires c κs = omega (arith, c.in-4.is)
 
-returns_3 : tie.Need-returns-3
+returns_3 : tie.Need-returns-in-4
 returns_3 c =
-    let args = c.before.before.before.args in
+    let args = c.args in
     let told = c.of_four in
-    subst (λ (e : ℕ). KeywordAt args.src.now args.at e told.result) (omega (arith, c.before.match.keys3)) told.ensures
+    subst (λ (e : ℕ). KeywordAt args.src.now args.at e told.result) (omega (arith, c.in-4.is)) told.ensures
 
-of_five_requires : tie.Need-of-five-requires
-of_five_requires c κs = omega (arith, c.match.keys4)
+of_five_requires : tie.Need-of_five-requires
+of_five_requires c κs = omega (arith, c.in-5.is)
 
-returns_4 : tie.Need-returns-4
+returns_4 : tie.Need-returns-in-5
 returns_4 c =
-    let args = c.before.before.before.args in
-    let told = c.of-five in
-    subst (λ (e : ℕ). KeywordAt args.src.now args.at e told.result) (omega (arith, c.before.match.keys4)) told.ensures
+    let args = c.args in
+    let told = c.of_five in
+    subst (λ (e : ℕ). KeywordAt args.src.now args.at e told.result) (omega (arith, c.in-5.is)) told.ensures
 
-of_six_requires : tie.Need-of-six-requires
-of_six_requires c κs = omega (arith, c.match.keys5)
+of_six_requires : tie.Need-of_six-requires
+of_six_requires c κs = omega (arith, c.in-6.is)
 
-returns_5 : tie.Need-returns-5
+returns_5 : tie.Need-returns-in-6
 returns_5 c =
-    let args = c.before.before.before.args in
-    let told = c.of-six in
-    subst (λ (e : ℕ). KeywordAt args.src.now args.at e told.result) (omega (arith, c.before.match.keys5)) told.ensures
+    let args = c.args in
+    let told = c.of_six in
+    subst (λ (e : ℕ). KeywordAt args.src.now args.at e told.result) (omega (arith, c.in-6.is)) told.ensures
 
-of_eight_requires : tie.Need-of-eight-requires
-of_eight_requires c κs = omega (arith, c.match.keys6)
+of_eight_requires : tie.Need-of_eight-requires
+of_eight_requires c κs = omega (arith, c.in-8.is)
 
-returns_6 : tie.Need-returns-6
+returns_6 : tie.Need-returns-in-8
 returns_6 c =
-    let args = c.before.before.before.args in
-    let told = c.of-eight in
-    subst (λ (e : ℕ). KeywordAt args.src.now args.at e told.result) (omega (arith, c.before.match.keys6)) told.ensures
+    let args = c.args in
+    let told = c.of_eight in
+    subst (λ (e : ℕ). KeywordAt args.src.now args.at e told.result) (omega (arith, c.in-8.is)) told.ensures
 
-of_nine_requires : tie.Need-of-nine-requires
-of_nine_requires c κs = omega (arith, c.match.keys7)
+of_nine_requires : tie.Need-of_nine-requires
+of_nine_requires c κs = omega (arith, c.in-9.is)
 
-returns_7 : tie.Need-returns-7
+returns_7 : tie.Need-returns-in-9
 returns_7 c =
-    let args = c.before.before.before.args in
-    let told = c.of-nine in
-    subst (λ (e : ℕ). KeywordAt args.src.now args.at e told.result) (omega (arith, c.before.match.keys7)) told.ensures
+    let args = c.args in
+    let told = c.of_nine in
+    subst (λ (e : ℕ). KeywordAt args.src.now args.at e told.result) (omega (arith, c.in-9.is)) told.ensures
 
-of_ten_requires : tie.Need-of-ten-requires
-of_ten_requires c κs = omega (arith, c.match.keys8)
+of_ten_requires : tie.Need-of_ten-requires
+of_ten_requires c κs = omega (arith, c.in-10.is)
 
-returns_8 : tie.Need-returns-8
+returns_8 : tie.Need-returns-in-10
 returns_8 c =
-    let args = c.before.before.before.args in
-    let told = c.of-ten in
-    subst (λ (e : ℕ). KeywordAt args.src.now args.at e told.result) (omega (arith, c.before.match.keys8)) told.ensures
+    let args = c.args in
+    let told = c.of_ten in
+    subst (λ (e : ℕ). KeywordAt args.src.now args.at e told.result) (omega (arith, c.in-10.is)) told.ensures
 
-returns_9 : tie.Need-returns-9
+returns_9 : tie.Need-returns-in_default
 returns_9 c =
-    let args = c.before.before.args in
-    subst (λ (e : ℕ). KeywordAt args.src.now args.at e 55) (up_again c.before.before.requires.0) (no_length args.src.now args.at (args.end - args.at) c.match.rest)
+    let args = c.args in
+    subst (λ (e : ℕ). KeywordAt args.src.now args.at e 55) (up_again c.requires.0) (no_length args.src.now args.at (args.end - args.at) c.in_default.in_default-own.rest)
 
 pub keyword_spec : {M : Type 1} → statement M
 keyword_spec =

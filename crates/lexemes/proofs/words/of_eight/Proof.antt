@@ -6,22 +6,22 @@ use Rattle.lexemes.proofs.Keywords.{has, numbered, is_keyword, no_keyword}
 use Rattle.lexemes.proofs.words.of_eight.Statement.{statement}
 use Rattle.lexemes.proofs.words.of_eight.Tie as tie
 
-eight_requires : tie.Need-eight-requires
+eight_requires : tie.Need-eight-v-requires
 eight_requires c κs = search rules
 
-returns : tie.Need-returns
+returns : tie.Need-returns-in-7957695015192261990
 unfolding has
 returns c =
-    let args = c.before.before.before.args in
-    let eight = c.before.eight in
-    is_keyword args.src.now args.at 8 8 7957695015192261990 74 tt eight.result eight.ensures c.match.keys1
+    let args = c.args in
+    let eight = c.eight-v in
+    is_keyword args.src.now args.at 8 8 7957695015192261990 74 tt eight.result eight.ensures c.in-7957695015192261990.is
 
-returns_2 : tie.Need-returns-2
+returns_2 : tie.Need-returns-in_default
 unfolding numbered
 returns_2 c =
-    let args = c.before.before.before.args in
-    let eight = c.before.eight in
-    no_keyword args.src.now args.at 8 (7957695015192261990 ∷ []) tt eight.result eight.ensures c.match.rest
+    let args = c.args in
+    let eight = c.eight-v in
+    no_keyword args.src.now args.at 8 (7957695015192261990 ∷ []) tt eight.result eight.ensures c.in_default.in_default-own.rest
 
 pub of_eight_spec : {M : Type 1} → statement M
 of_eight_spec = tie.close (tie.spec eight_requires returns returns_2)

@@ -10,13 +10,13 @@ use Rattle.lexemes.proofs.Keywords.{has, numbered, shift, join, below, is_keywor
 use Rattle.lexemes.proofs.words.of_nine.Statement.{statement}
 use Rattle.lexemes.proofs.words.of_nine.Tie as tie
 
-eight_requires : tie.Need-eight-requires
+eight_requires : tie.Need-eight-v-requires
 eight_requires c κs = search rules
 
-add_one : tie.Need-overflow-add-one
+add_one : tie.Need-overflow_add-at
 add_one c = search rules
 
-one_requires : tie.Need-one-requires
+one_requires : tie.Need-one-last-requires
 one_requires c κs = search rules
 
 module _ (s : List ℕ) (at v x : ℕ) (f : Makes s at 8 v) (g : Makes s (at + 8) 1 x) where
@@ -38,40 +38,40 @@ module _ (s : List ℕ) (at v x : ℕ) (f : Makes s at 8 v) (g : Makes s (at + 8
       let low : v < 18446744073709551616 = below s 8 at v f in
       no_keyword s at 9 (2111320002968454983017 ∷ 2036735608064595488105 ∷ []) tt (v + x * 18446744073709551616) whole ((tt, λ e. n1 (omega (arith, e, low)) (omega (arith, e, low))), λ e. n0 (omega (arith, e, low)) (omega (arith, e, low)))
 
-returns : tie.Need-returns
+returns : tie.Need-returns-then-last-eq114
 returns c =
-    let args = c.before.before.before.before.before.args in
-    let eight = c.before.before.before.eight in
-    let rest = c.before.before.one in
-    is_importstr args.src.now args.at eight.result rest.result eight.ensures rest.ensures c.before.if1.true c.if2.true
+    let args = c.args in
+    let eight = c.eight-v in
+    let rest = c.one-last in
+    is_importstr args.src.now args.at eight.result rest.result eight.ensures rest.ensures c.if-v-eq8391178565566098793.true c.if-last-eq114.true
 
-returns_2 : tie.Need-returns-2
+returns_2 : tie.Need-returns-then-v-eq8391178565566098793
 returns_2 c =
-    let args = c.before.before.before.before.before.args in
-    let eight = c.before.before.before.eight in
-    let rest = c.before.before.one in
-    is_none args.src.now args.at eight.result rest.result eight.ensures rest.ensures (λ a b. c.if2.false b) (λ a b. absurd (omega (arith, a, c.before.if1.true)))
+    let args = c.args in
+    let eight = c.eight-v in
+    let rest = c.one-last in
+    is_none args.src.now args.at eight.result rest.result eight.ensures rest.ensures (λ a b. c.if-last-eq114.false b) (λ a b. absurd (omega (arith, a, c.if-v-eq8391178565566098793.true)))
 
-returns_3 : tie.Need-returns-3
+returns_3 : tie.Need-returns-then-last-eq110
 returns_3 c =
-    let args = c.before.before.before.before.before.before.args in
-    let eight = c.before.before.before.before.eight in
-    let rest = c.before.before.before.one in
-    is_importbin args.src.now args.at eight.result rest.result eight.ensures rest.ensures c.before.if3.true c.if4.true
+    let args = c.args in
+    let eight = c.eight-v in
+    let rest = c.one-last in
+    is_importbin args.src.now args.at eight.result rest.result eight.ensures rest.ensures c.if-v-eq7593759956544810345.true c.if-last-eq110.true
 
-returns_4 : tie.Need-returns-4
+returns_4 : tie.Need-returns-then-v-eq7593759956544810345
 returns_4 c =
-    let args = c.before.before.before.before.before.before.args in
-    let eight = c.before.before.before.before.eight in
-    let rest = c.before.before.before.one in
-    is_none args.src.now args.at eight.result rest.result eight.ensures rest.ensures (λ a b. c.before.before.if1.false a) (λ a b. c.if4.false b)
+    let args = c.args in
+    let eight = c.eight-v in
+    let rest = c.one-last in
+    is_none args.src.now args.at eight.result rest.result eight.ensures rest.ensures (λ a b. c.if-v-eq8391178565566098793.false a) (λ a b. c.if-last-eq110.false b)
 
-returns_5 : tie.Need-returns-5
+returns_5 : tie.Need-returns
 returns_5 c =
-    let args = c.before.before.before.before.before.args in
-    let eight = c.before.before.before.eight in
-    let rest = c.before.before.one in
-    is_none args.src.now args.at eight.result rest.result eight.ensures rest.ensures (λ a b. c.before.if1.false a) (λ a b. c.if3.false a)
+    let args = c.args in
+    let eight = c.eight-v in
+    let rest = c.one-last in
+    is_none args.src.now args.at eight.result rest.result eight.ensures rest.ensures (λ a b. c.if-v-eq8391178565566098793.false a) (λ a b. c.if-v-eq7593759956544810345.false a)
 
 pub of_nine_spec : {M : Type 1} → statement M
 of_nine_spec = tie.close (tie.spec eight_requires add_one one_requires returns returns_2 returns_3 returns_4 returns_5)

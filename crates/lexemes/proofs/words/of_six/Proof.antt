@@ -6,29 +6,29 @@ use Rattle.lexemes.proofs.Keywords.{has, numbered, is_keyword, no_keyword}
 use Rattle.lexemes.proofs.words.of_six.Statement.{statement}
 use Rattle.lexemes.proofs.words.of_six.Tie as tie
 
-six_requires : tie.Need-six-requires
+six_requires : tie.Need-six-v-requires
 six_requires c κs = search rules
 
-returns : tie.Need-returns
+returns : tie.Need-returns-in-128034844732777
 unfolding has
 returns c =
-    let args = c.before.before.before.args in
-    let six = c.before.six in
-    is_keyword args.src.now args.at 4 6 128034844732777 70 tt six.result six.ensures c.match.keys1
+    let args = c.args in
+    let six = c.six-v in
+    is_keyword args.src.now args.at 4 6 128034844732777 70 tt six.result six.ensures c.in-128034844732777.is
 
-returns_2 : tie.Need-returns-2
+returns_2 : tie.Need-returns-in-128034677158753
 unfolding has
 returns_2 c =
-    let args = c.before.before.before.args in
-    let six = c.before.six in
-    is_keyword args.src.now args.at 17 6 128034677158753 84 tt six.result six.ensures c.match.keys2
+    let args = c.args in
+    let six = c.six-v in
+    is_keyword args.src.now args.at 17 6 128034677158753 84 tt six.result six.ensures c.in-128034677158753.is
 
-returns_3 : tie.Need-returns-3
+returns_3 : tie.Need-returns-in_default
 unfolding numbered
 returns_3 c =
-    let args = c.before.before.before.args in
-    let six = c.before.six in
-    no_keyword args.src.now args.at 6 (128034677158753 ∷ 128034844732777 ∷ []) tt six.result six.ensures c.match.rest
+    let args = c.args in
+    let six = c.six-v in
+    no_keyword args.src.now args.at 6 (128034677158753 ∷ 128034844732777 ∷ []) tt six.result six.ensures c.in_default.in_default-own.rest
 
 pub of_six_spec : {M : Type 1} → statement M
 of_six_spec = tie.close (tie.spec six_requires returns returns_2 returns_3)

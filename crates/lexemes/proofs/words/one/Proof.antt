@@ -7,7 +7,7 @@ use Rattle.lexemes.specs.Words.{Makes}
 use Rattle.lexemes.proofs.words.one.Statement.{statement}
 use Rattle.lexemes.proofs.words.one.Tie as tie
 
-shared_slice_read_wide : tie.Need-shared-slice-read-wide
+shared_slice_read_wide : tie.Need-bounds-src-at
 shared_slice_read_wide c = search rules
 
 wide_requires : tie.Need-wide-requires

@@ -1,7 +1,7 @@
 -- `lexemes::words::three` meets its contract.
 -- Assumes nothing.
 use mathlib.Core.Path.{refl, subst}
-use Prim.Native.Nat.{ℕ, ◌+◌, ◌*◌}
+use Prim.Native.Nat.{ℕ, ◌+◌}
 use native.Mathlib.Omega.{arith}
 use borrow.Author.Rules.{rules}
 use Rattle.lexemes.specs.Words.{Makes}
@@ -12,32 +12,32 @@ use Rattle.lexemes.proofs.words.three.Tie as tie
 two_requires : tie.Need-two-requires
 two_requires c κs = search rules
 
-add_one : tie.Need-overflow-add-one
+add_one : tie.Need-overflow_add-at
 add_one c = search rules
 
 one_requires : tie.Need-one-requires
 one_requires c κs = search rules
 
-mul_result : tie.Need-overflow-mul-result
+mul_result : tie.Need-overflow_mul-result
 unfolding shift
 mul_result c =
-    let args = c.before.before.before.args in
+    let args = c.args in
     let second = c.one in
     omega (arith, below args.src.now 1 (args.at + 2) second.result second.ensures)
 
-add_result : tie.Need-overflow-add-result
+add_result : tie.Need-overflow_add-result
 unfolding shift
 add_result c =
-    let args = c.before.before.before.args in
-    let first = c.before.two in
+    let args = c.args in
+    let first = c.two in
     let second = c.one in
     omega (arith, below args.src.now 2 args.at first.result first.ensures, below args.src.now 1 (args.at + 2) second.result second.ensures)
 
 returns : tie.Need-returns
 unfolding shift
 returns c =
-    let args = c.before.before.before.args in
-    let first = c.before.two in
+    let args = c.args in
+    let first = c.two in
     let second = c.one in
     subst (λ (r : ℕ). Makes args.src.now args.at 3 r) (omega arith)
     (join args.src.now 2 1 3 args.at first.result second.result refl first.ensures second.ensures)

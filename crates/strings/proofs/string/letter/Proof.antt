@@ -6,33 +6,33 @@ use Rattle.strings.proofs.Escapes.{no_letter}
 use Rattle.strings.proofs.string.letter.Statement.{statement}
 use Rattle.strings.proofs.string.letter.Tie as tie
 
-returns : tie.Need-returns
-returns c = rw c.match.keys1 (is backslash)
+returns : tie.Need-returns-in-92
+returns c = rw c.in-92.is (is backslash)
 
-returns_2 : tie.Need-returns-2
-returns_2 c = rw c.match.keys2 (is double)
+returns_2 : tie.Need-returns-in-34
+returns_2 c = rw c.in-34.is (is double)
 
-returns_3 : tie.Need-returns-3
-returns_3 c = rw c.match.keys3 (is single)
+returns_3 : tie.Need-returns-in-39
+returns_3 c = rw c.in-39.is (is single)
 
-returns_4 : tie.Need-returns-4
-returns_4 c = rw c.match.keys4 (is backspace)
+returns_4 : tie.Need-returns-in-98
+returns_4 c = rw c.in-98.is (is backspace)
 
-returns_5 : tie.Need-returns-5
-returns_5 c = rw c.match.keys5 (is form_feed)
+returns_5 : tie.Need-returns-in-102
+returns_5 c = rw c.in-102.is (is form_feed)
 
-returns_6 : tie.Need-returns-6
-returns_6 c = rw c.match.keys6 (is line_feed)
+returns_6 : tie.Need-returns-in-110
+returns_6 c = rw c.in-110.is (is line_feed)
 
-returns_7 : tie.Need-returns-7
-returns_7 c = rw c.match.keys7 (is return)
+returns_7 : tie.Need-returns-in-114
+returns_7 c = rw c.in-114.is (is return)
 
-returns_8 : tie.Need-returns-8
-returns_8 c = rw c.match.keys8 (is tab)
+returns_8 : tie.Need-returns-in-116
+returns_8 c = rw c.in-116.is (is tab)
 
-returns_9 : tie.Need-returns-9
+returns_9 : tie.Need-returns-in_default
 returns_9 c =
-    let r = c.match.rest in
+    let r = c.in_default.in_default-own.rest in
     none (no_letter _ r.0.0.0.0.0.0.0.1 r.0.0.0.0.0.0.1 r.0.0.0.0.0.1 r.0.0.0.0.1 r.0.0.0.1 r.0.0.1 r.0.1 r.1)
 
 pub letter_spec : {M : Type 1} → statement M

@@ -10,37 +10,37 @@ use Rattle.strings.proofs.string.low_at.Tie as tie
 peek_requires : tie.Need-peek-requires
 peek_requires c κs = search rules
 
-returns : tie.Need-returns
-returns c = let at = c.before.before.before.args in no_backslash at.s.now at.i (λ e. c.if1.true (c.before.peek.ensures ∙ e))
+returns : tie.Need-returns-then-peek-ne92
+returns c = let at = c.args in no_backslash at.s.now at.i (λ e. c.if-peek-ne92.true (c.peek.ensures ∙ e))
 
 peek_requires_2 : tie.Need-peek-requires-2
 peek_requires_2 c κs = search rules
 
-returns_2 : tie.Need-returns-2
-returns_2 c = let at = c.before.before.before.before.before.args in no_u at.s.now at.i (λ e. c.if2.true (c.before.peek2.ensures ∙ e))
+returns_2 : tie.Need-returns-then-peek-ne117
+returns_2 c = let at = c.args in no_u at.s.now at.i (λ e. c.if-peek-ne117.true (c.peek-2.ensures ∙ e))
 
-add_decode_unicode : tie.Need-overflow-add-decode-unicode
+add_decode_unicode : tie.Need-overflow_add-i
 add_decode_unicode c = search rules
 
-decode_unicode_requires : tie.Need-decode-unicode-requires
+decode_unicode_requires : tie.Need-decode_unicode-lo-requires
 decode_unicode_requires c κs =
-    let at = c.before.before.before.before.before.args in
-    omega (arith, byte_in at.s.now at.i 1 0x75 (sym c.before.peek2.ensures ∙ c.if2.false) (omega arith))
+    let at = c.args in
+    omega (arith, byte_in at.s.now at.i 1 0x75 (sym c.peek-2.ensures ∙ c.if-peek-ne117.false) (omega arith))
 
-returns_3 : tie.Need-returns-3
-returns_3 c = let at = c.before.before.before.before.before.before.before.args in not_low at.s.now at.i c.before.decode-unicode.ensures (λ h. omega arith)
+returns_3 : tie.Need-returns-then-lo-lt56320
+returns_3 c = let at = c.args in not_low at.s.now at.i c.decode_unicode-lo.ensures (λ h. omega arith)
 
-returns_4 : tie.Need-returns-4
-returns_4 c = let at = c.before.before.before.before.before.before.before.before.args in not_low at.s.now at.i c.before.before.decode-unicode.ensures (λ h. omega arith)
+returns_4 : tie.Need-returns-then-lo-gt57343
+returns_4 c = let at = c.args in not_low at.s.now at.i c.decode_unicode-lo.ensures (λ h. omega arith)
 
-returns_5 : tie.Need-returns-5
+returns_5 : tie.Need-returns
 returns_5 c =
     let seen = c.before.before.before in
-    let at = seen.before.before.before.before.before.args in
+    let at = seen.args in
     low_at at.s.now at.i
-    (sym seen.before.before.before.peek.ensures ∙ seen.before.before.if1.false)
-    (sym seen.before.peek2.ensures ∙ seen.if2.false)
-    c.before.before.decode-unicode.ensures
+    (sym seen.peek.ensures ∙ seen.if-peek-ne92.false)
+    (sym seen.peek-2.ensures ∙ seen.if-peek-ne117.false)
+    c.decode_unicode-lo.ensures
     (omega arith)
 
 pub low_at_spec : {M : Type 1} → statement M

@@ -10,51 +10,51 @@ use borrow.Author.Rules.{rules}
 use Rattle.strings.proofs.utf8.encode.Statement.{statement}
 use Rattle.strings.proofs.utf8.encode.Tie as tie
 
-put_code_requires : tie.Need-put-code-requires
+put_code_requires : tie.Need-put_code-requires
 put_code_requires c κs = search rules
 
-same_length : tie.Need-same-length
+same_length : tie.Need-shape_of-out-then-code-lt55296
 same_length c = search rules
 
-returns : tie.Need-returns
+returns : tie.Need-returns-then-code-lt55296
 returns c =
-    let stored = c.before.before.put-code.ensures in
-    let code = c.before.before.before.before.before.before.args.code in
+    let stored = c.put_code.ensures in
+    let code = c.args.code in
     decoded _ _ (utf8 code) _ (encoded (inl (omega arith))) (omega arith) stored.0
 
 clear_requires : tie.Need-clear-requires
 clear_requires c κs = search rules
 
-same_length_2 : tie.Need-same-length-2
+same_length_2 : tie.Need-shape_of-out-then-code-lt57344
 same_length_2 c = search rules
 
-returns_2 : tie.Need-returns-2
+returns_2 : tie.Need-returns-then-code-lt57344
 returns_2 c =
-    let code = c.before.before.before.before.before.before.before.args.code in
-    cleared _ _ 0 (missing (λ t e. no_surrogate code (omega arith) (omega arith) (encodes_scalar e))) c.before.before.clear.ensures
+    let code = c.args.code in
+    cleared _ _ 0 (missing (λ t e. no_surrogate code (omega arith) (omega arith) (encodes_scalar e))) c.clear.ensures
 
-put_code_requires_2 : tie.Need-put-code-requires-2
+put_code_requires_2 : tie.Need-put_code-requires-then-code-lt1114112
 put_code_requires_2 c κs = search rules
 
-same_length_3 : tie.Need-same-length-3
+same_length_3 : tie.Need-shape_of-out-then-code-lt1114112
 same_length_3 c = search rules
 
-returns_3 : tie.Need-returns-3
+returns_3 : tie.Need-returns-then-code-lt1114112
 returns_3 c =
-    let stored = c.before.before.put-code2.ensures in
-    let code = c.before.before.before.before.before.before.before.before.args.code in
+    let stored = c.put_code-then-code-lt1114112.ensures in
+    let code = c.args.code in
     decoded _ _ (utf8 code) _ (encoded (inr (omega arith))) (omega arith) stored.0
 
 clear_requires_2 : tie.Need-clear-requires-2
 clear_requires_2 c κs = search rules
 
-same_length_4 : tie.Need-same-length-4
+same_length_4 : tie.Need-shape_of-out
 same_length_4 c = search rules
 
-returns_4 : tie.Need-returns-4
+returns_4 : tie.Need-returns
 returns_4 c =
-    let code = c.before.before.before.before.before.before.before.before.args.code in
-    cleared _ _ 0 (missing (λ t e. none_above code (omega arith) (encodes_scalar e))) c.before.before.clear2.ensures
+    let code = c.args.code in
+    cleared _ _ 0 (missing (λ t e. none_above code (omega arith) (encodes_scalar e))) c.clear-2.ensures
 
 pub encode_spec : {M : Type 1} → statement M
 encode_spec =

@@ -12,21 +12,21 @@ use Rattle.strings.proofs.utf8.put2.Tie as tie
 put_requires : tie.Need-put-requires
 put_requires c κs = search rules
 
-add_put : tie.Need-overflow-add-put
+add_put : tie.Need-overflow_add-at
 add_put c = search rules
 
 put_requires_2 : tie.Need-put-requires-2
 put_requires_2 c κs = search rules
 
-same_length : tie.Need-same-length
+same_length : tie.Need-shape_of-out
 same_length c = search rules
 
 returns : tie.Need-returns
 returns c =
     let last = c.before.before in
     let first = last.before.before.before.before in
-    let args = first.before.before.before.args in
-    last.put2.ensures
+    let args = first.args in
+    last.put-2.ensures
     ∙ rw first.put.ensures (sets_append args.out.now args.at (args.at + 1) (args.a ∷ []) (args.b ∷ []) (omega arith))
 
 pub put2_spec : {M : Type 1} → statement M

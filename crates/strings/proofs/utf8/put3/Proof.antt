@@ -12,20 +12,20 @@ use Rattle.strings.proofs.utf8.put3.Tie as tie
 put2_requires : tie.Need-put2-requires
 put2_requires c κs = search rules
 
-add_put : tie.Need-overflow-add-put
+add_put : tie.Need-overflow_add-at
 add_put c = search rules
 
 put_requires : tie.Need-put-requires
 put_requires c κs = search rules
 
-same_length : tie.Need-same-length
+same_length : tie.Need-shape_of-out
 same_length c = search rules
 
 returns : tie.Need-returns
 returns c =
     let last = c.before.before in
     let first = last.before.before.before.before in
-    let args = first.before.before.before.args in
+    let args = first.args in
     last.put.ensures
     ∙ rw first.put2.ensures (sets_append args.out.now args.at (args.at + 2) (args.a ∷ args.b ∷ []) (args.c ∷ []) (omega arith))
 

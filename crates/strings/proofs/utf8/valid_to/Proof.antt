@@ -2,7 +2,6 @@
 -- Assumes nothing.
 use Prim.Native.Nat.{◌-◌}
 use native.Mathlib.Omega.{arith}
-use borrow.Author.Rules.{rules}
 use lib.ListN.{length}
 use Rattle.strings.specs.Utf8.{none}
 use Rattle.strings.specs.Valid.{ValidSoFar}
@@ -10,47 +9,47 @@ use Rattle.strings.proofs.ValidLaws.{ascii_more, valid_end, stopped_short, valid
 use Rattle.strings.proofs.utf8.valid_to.Statement.{statement}
 use Rattle.strings.proofs.utf8.valid_to.Tie as tie
 
-abbrev invariant_loop : tie.invariant-loop
+abbrev invariant_loop : tie.invariant-loop-i
 invariant_loop s i₀ i = ValidSoFar s i
 
-abbrev decreases_loop : tie.decreases-loop
+abbrev decreases_loop : tie.decreases-loop-i
 decreases_loop s i₀ i = length s - i
 
-loop_holds : tie.Need-loop-init invariant_loop decreases_loop
+loop_holds : tie.Need-loop-i-init invariant_loop decreases_loop
 loop_holds c = record { within = omega arith; valid = none }
 
-sub_loop : tie.Need-overflow-sub-loop invariant_loop decreases_loop
+sub_loop : tie.Need-overflow_sub-s invariant_loop decreases_loop
 sub_loop c = omega arith
 
-add_next : tie.Need-overflow-add-next invariant_loop decreases_loop
+add_next : tie.Need-overflow_add-next invariant_loop decreases_loop
 add_next c = omega arith
 
 largest_requires : tie.Need-largest-requires invariant_loop decreases_loop
 largest_requires c κs = omega arith
 
-loop_less : tie.Need-loop-smaller invariant_loop decreases_loop
+loop_less : tie.Need-loop-i-smaller-then-largest-lt128 invariant_loop decreases_loop
 loop_less c = omega arith
 
-loop_again : tie.Need-loop-preserved invariant_loop decreases_loop
-loop_again c = ascii_more 64 (omega arith) c.before.largest.ensures c.if1.true c.before.before.before.loop.invariant
+loop_again : tie.Need-loop-i-preserved-then-largest-lt128 invariant_loop decreases_loop
+loop_again c = ascii_more 64 (omega arith) c.largest.ensures c.if-largest-lt128.true c.loop-i.invariant
 
-valid_from_requires : tie.Need-valid-from-requires invariant_loop decreases_loop
-valid_from_requires c κs = (c.before.before.before.loop.invariant, omega arith)
+valid_from_requires : tie.Need-valid_from-i-requires invariant_loop decreases_loop
+valid_from_requires c κs = (c.loop-i.invariant, omega arith)
 
-returns : tie.Need-returns invariant_loop decreases_loop
-returns c = stopped_short c.before.valid-from.ensures c.if2.true
+returns : tie.Need-returns-then-i-next invariant_loop decreases_loop
+returns c = stopped_short c.valid_from-i.ensures c.if-i-next.true
 
-loop_less_2 : tie.Need-loop-smaller-2 invariant_loop decreases_loop
+loop_less_2 : tie.Need-loop-i-smaller invariant_loop decreases_loop
 loop_less_2 c = omega arith
 
-loop_again_2 : tie.Need-loop-preserved-2 invariant_loop decreases_loop
-loop_again_2 c = valid_there c.before.valid-from.ensures c.if2.false
+loop_again_2 : tie.Need-loop-i-preserved invariant_loop decreases_loop
+loop_again_2 c = valid_there c.valid_from-i.ensures c.if-i-next.false
 
-valid_from_requires_2 : tie.Need-valid-from-requires-2 invariant_loop decreases_loop
-valid_from_requires_2 c κs = (c.before.loop.invariant, omega arith)
+valid_from_requires_2 : tie.Need-valid_from-requires invariant_loop decreases_loop
+valid_from_requires_2 c κs = (c.loop-i.invariant, omega arith)
 
-returns_2 : tie.Need-returns-2 invariant_loop decreases_loop
-returns_2 c = valid_end c.valid-from2.ensures
+returns_2 : tie.Need-returns invariant_loop decreases_loop
+returns_2 c = valid_end c.valid_from.ensures
 
 pub valid_to_spec : {M : Type 1} → statement M
 valid_to_spec =

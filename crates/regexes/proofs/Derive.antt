@@ -4,12 +4,10 @@
 use mathlib.Core.Path.{◌≡◌, refl, sym, ◌∙◌, subst}
 use mathlib.Core.Bool.{Bool, true, false, ◌&&◌, ◌||◌}
 use mathlib.Core.Logic.{◌⊎◌, inl, inr, ⊎_elim}
-use Prim.Native.Nat.{ℕ, ◌≤◌, ◌<◌}
-use native.Mathlib.Omega.{arith}
-use native.Mathlib.Nat.{le_refl}
+use Prim.Native.Nat.{ℕ}
 use lib.Dec.{T}
-use Rattle.regex.specs.Regex.{Text, Re, none, eps, one, ◌·◌, ◌∣◌, star, in_class, Star, stop, more, Match}
-use Rattle.regex.proofs.Bools.{and, and_left, and_right, or_left, or_right_lem, or_cases}
+use Rattle.regexes.specs.Regex.{Text, Re, none, eps, one, ◌·◌, ◌∣◌, star, in_class, Star, stop, more, Match}
+use Rattle.regexes.proofs.Bools.{and, and_left, and_right, or_left, or_right_lem, or_cases}
 
 unfoldable pub seq : Re → Re → Re
 seq none b = none

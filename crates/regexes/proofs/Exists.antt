@@ -1,17 +1,17 @@
 -- Every table has a longest match at every place, or takes nothing there, if no two kinds ever end a match at one place. That is shown over
 -- the tables that are left of the first after any letters, given as the states of an automaton: a test that antt computes for each state.
 -- Assumes nothing.
-use mathlib.Core.Path.{◌≡◌, refl, sym, ◌∙◌, subst}
+use mathlib.Core.Path.{◌≡◌, refl, sym, subst}
 use mathlib.Core.Bool.{Bool, true, false}
 use mathlib.Core.List.{List, [], ◌∷◌, map}
 use mathlib.Core.Logic.{◌⊎◌, inl, inr, ⊎_elim}
-use Prim.Native.Nat.{ℕ, zero, suc, ◌+◌, ◌≤◌, ◌<◌}
+use Prim.Native.Nat.{ℕ, zero, suc, ◌+◌, ◌≤◌}
 use native.Mathlib.Omega.{arith}
 use lib.Dec.{T}
-use Rattle.regex.specs.Regex.{Text, END, Rule, Takes, Longest, Nothing}
-use Rattle.regex.proofs.Bools.{every, Each, each, all, all_at}
-use Rattle.regex.proofs.Tables.{left, accepts, Among, same, same_eq}
-use Rattle.regex.proofs.Longest.{Sound, empty, fail, on, halt}
+use Rattle.regexes.specs.Regex.{Text, END, Rule, Longest, Nothing}
+use Rattle.regexes.proofs.Bools.{every, Each, each, all, all_at}
+use Rattle.regexes.proofs.Tables.{left, accepts, Among, same, same_eq}
+use Rattle.regexes.proofs.Longest.{Sound, empty, fail, on, halt}
 
 -- Whether a table is in a list.
 among : List Rule → List (List Rule) → Bool

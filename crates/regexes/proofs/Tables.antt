@@ -1,16 +1,16 @@
 -- Tables of rules: what is left of one after a letter, which kinds it gives of the empty text, and tests on these that antt computes.
 -- Assumes nothing.
-use mathlib.Core.Path.{◌≡◌, refl, sym, ◌∙◌, subst}
-use mathlib.Core.Bool.{Bool, true, false, not, ◌&&◌, ◌||◌}
+use mathlib.Core.Path.{◌≡◌, refl, sym, subst}
+use mathlib.Core.Bool.{Bool, true, false, ◌&&◌}
 use mathlib.Core.List.{List, [], ◌∷◌, ◌++◌}
 use mathlib.Core.Logic.{◌⊎◌, inl, inr, ⊎_elim}
-use Prim.Native.Nat.{ℕ, suc, ◌≤◌, ◌<◌}
+use Prim.Native.Nat.{ℕ, suc, ◌≤◌}
 use native.Mathlib.Omega.{arith}
 use native.Mathlib.Decide.{ℕ_discrete}
 use lib.Dec.{T, eqb, eqb→eq}
-use Rattle.regex.specs.Regex.{Text, END, Class, Re, none, eps, one, ◌·◌, ◌∣◌, star, in_class, Match, Rule, ◌⇒◌, Takes, Range-discrete, Class-discrete, Re-discrete, Rule-discrete}
-use Rattle.regex.proofs.Bools.{and_left, and_right, all, implies, implied}
-use Rattle.regex.proofs.Derive.{nullable, der, forth, back, null, along}
+use Rattle.regexes.specs.Regex.{Text, END, Class, Re, none, eps, one, ◌·◌, ◌∣◌, star, in_class, Match, Rule, ◌⇒◌, Takes, Range-discrete, Class-discrete, Re-discrete, Rule-discrete}
+use Rattle.regexes.proofs.Bools.{and_left, and_right, implies, implied}
+use Rattle.regexes.proofs.Derive.{nullable, der, forth, back, null, along}
 
 -- A rule of which nothing is left is dropped.
 unfoldable pub keep : ℕ → Re → List Rule → List Rule

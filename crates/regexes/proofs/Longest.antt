@@ -1,15 +1,13 @@
 -- How the longest match of a table goes on, stops and fails, by what is left of the table after a letter.
 -- Assumes nothing.
-use mathlib.Core.Path.{◌≡◌, refl, sym, ◌∙◌, subst}
-use mathlib.Core.Bool.{Bool, true, false}
-use mathlib.Core.List.{List, [], ◌∷◌, ◌++◌}
+use mathlib.Core.Path.{◌≡◌, sym, subst}
+use mathlib.Core.List.{List, [], ◌++◌}
 use mathlib.Core.Logic.{◌⊎◌, inl, inr, ⊎_elim}
 use Prim.Native.Nat.{ℕ, ◌≤◌, ◌<◌}
 use native.Mathlib.Omega.{arith}
 use native.Mathlib.Nat.{le_refl, le_trans, le_of_lt, le_antisymm}
-use lib.Dec.{T}
-use Rattle.regex.specs.Regex.{Text, END, Rule, Takes, Longest, Nothing}
-use Rattle.regex.proofs.Tables.{left, accepts, Among, steps, steps_eq, gives, gives_eq, silent, silent_eq, TakesLeft, takes_back, takes_forth, takes_null, takes_along, append_to, append_from}
+use Rattle.regexes.specs.Regex.{Text, END, Rule, Takes, Longest, Nothing}
+use Rattle.regexes.proofs.Tables.{left, accepts, Among, takes_back, takes_forth, takes_null, takes_along, append_to, append_from}
 
 -- A text whose places go on, and whose letters are at most END.
 pub record Sound (t : Text) : Type 0 where

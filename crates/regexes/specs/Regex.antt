@@ -1,6 +1,6 @@
 -- Regular expressions as values, what it is for one to match from a place to a place of a text, and the longest match of a table of rules.
 -- Assumes nothing.
-use Rattle.std.specs.Prelude.{◌≡◌, Bool, true, false, not, ◌&&◌, ◌||◌, List, [], ◌∷◌, ◌⊎◌, ℕ, ◌≤◌, T, leb, ltb}
+use Rattle.std.specs.Prelude.{◌≡◌, Bool, false, not, ◌&&◌, ◌||◌, List, [], ◌∷◌, ◌⊎◌, ℕ, ◌≤◌, T, leb, ltb}
 
 infix 90 ◌to◌
 infixr 30 ◌·◌
