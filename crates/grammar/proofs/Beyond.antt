@@ -1,7 +1,7 @@
 -- 02, Item 2, computed from the bytes of a source to the answer: a literal that no double holds is refused at itself, and zero is not, whatever its exponent.
 -- Assumes nothing.
 use mathlib.Core.Path.{refl}
-use mathlib.Core.List.{List, [], ◌∷◌}
+use mathlib.Core.List.{[], ◌∷◌}
 use Rattle.lexemes.specs.Letters.{ascii}
 use Rattle.lexemes.specs.Kept.{keep, first_bad}
 use Rattle.lexemes.specs.Kept as lexemes

@@ -1,16 +1,14 @@
 -- What a checked table says of the production that is chosen.
 -- Assumes nothing.
-use mathlib.Core.Path.{◌≡◌, refl, sym, ap, subst, ◌∙◌}
+use mathlib.Core.Path.{◌≡◌, refl, sym, subst}
 use mathlib.Core.Bool.{Bool, true, false, ◌&&◌, ◌||◌, not}
-use mathlib.Core.List.{List}
 use mathlib.Core.Logic.{◌⊎◌, inl, inr}
 use Prim.Native.Nat.{ℕ}
 use native.Mathlib.Omega.{arith}
-use lib.Dec.{T, T_not, ltb}
+use lib.Dec.{T, ltb}
 use Rattle.lexemes.specs.Kinds.{QUESTION_MARK, NULL_COAELSE}
-use Rattle.grammar.specs.Lexemes.{Lexeme}
-use Rattle.grammar.specs.Productions.{Phrase, Body, Switch, always, exp_destruct, exp_object_iteration, exp_null_coaelse, Row, row, Table, otherwise, ◌∣◌, View, rule}
-use Rattle.grammar.specs.Reading.{has, choose, view, production}
+use Rattle.grammar.specs.Productions.{Phrase, Body, always, exp_destruct, exp_object_iteration, exp_null_coaelse, row, Table, otherwise, ◌∣◌, View, rule}
+use Rattle.grammar.specs.Reading.{has, choose}
 use Rattle.grammar.proofs.Tables.{order, rank, moves, low, halts, fine, moved, numbered, sound_body, sound_table, halts_table, stops-table, unguarded, with_kind, Facts, plain, switched, an_expr, facts, careful, checked}
 
 pub true_false : true ≡ false → ⊥

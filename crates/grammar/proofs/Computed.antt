@@ -10,13 +10,12 @@ use lib.Dec.{T, eqb, leb, ltb, leb→le, ltb→lt}
 use lib.ListN.{length}
 use lib.Seq.{slice}
 use borrow.Author.Tests.{eqb-true, eqb-false}
-use Rattle.strings.specs.Utf8.{In, Utf8, row_00_7_f}
+use Rattle.strings.specs.Utf8.{In, Utf8, row_00_7F}
 use Rattle.strings.specs.Utf8 as unicode
 use Rattle.lexemes.specs.declared.Lexeme.{Lexeme as Range}
 use Rattle.lexemes.specs.Kinds.{EOF, FLOAT, IDENT, STRING_DOUBLE, STRING_SINGLE, STRING_DOUBLE_VERBATIM, STRING_SINGLE_VERBATIM, STRING_BLOCK}
 use Rattle.lexemes.specs.Lexeme.{lexeme}
 use Rattle.lexemes.specs.Kept.{Lexemes, keep, first_bad}
-use Rattle.lexemes.specs.Kept as lexemes
 use Rattle.lexemes.proofs.Munch.{all, lex, lexed}
 use Rattle.numerals.specs.Value.{TooLarge}
 use Rattle.numerals.specs.Inner.{Says as Judges}
@@ -45,7 +44,7 @@ unfolding low
 low_utf8 [] h = unicode.Utf8.none
 low_utf8 (b ∷ s) h =
     let x : In 0x00 0x7F b = omega (arith, ltb→lt b 0x80 (and_left (ltb b 0x80) (low s) h)) in
-    unicode.Utf8.more (row_00_7_f x) (low_utf8 s (and_right (ltb b 0x80) (low s) h))
+    unicode.Utf8.more (row_00_7F x) (low_utf8 s (and_right (ltb b 0x80) (low s) h))
 
 -- what a number says
 unfoldable pub number_at : List ℕ → Said

@@ -1,9 +1,9 @@
 -- Two settings, one within the other: the larger never changes a tree, and where only the larger gives a tree the smaller is refused with
 -- number 5 at the place that 01 names.
 -- Assumes nothing.
-use mathlib.Core.Path.{◌≡◌, refl, sym, ap, subst, ◌∙◌}
-use mathlib.Core.Bool.{Bool, true, false, ◌&&◌, ◌||◌, not}
-use mathlib.Core.List.{List, [], ◌∷◌}
+use mathlib.Core.Path.{◌≡◌, refl, sym, subst, ◌∙◌}
+use mathlib.Core.Bool.{Bool, true, false, ◌||◌, not}
+use mathlib.Core.List.{List, []}
 use mathlib.Core.Logic.{◌⊎◌, inl, inr}
 use mathlib.Core.Option.{Option, some, none as nowhere}
 use Prim.Native.Nat.{ℕ, zero, suc, ◌<◌}
@@ -12,13 +12,13 @@ use lib.Dec.{T, eqb, ltb, ltb→lt}
 use Rattle.lexemes.specs.Kinds.{QUESTION_MARK, NULL_COAELSE, IDENT, L_BRACK, R_BRACK, COLON, IN_KW, EOF}
 use Rattle.grammar.specs.Trees.{Trees, none, tree, ◌⊕◌, count}
 use Rattle.grammar.specs.Lexemes.{Lexeme, rest, kind_of, stop_of, said}
-use Rattle.grammar.specs.Productions.{Phrase, Body, end, goto, fail, ◌▸◌, Step, eat, leaf, sub, deep, close, Switch, always, exp_destruct, exp_object_iteration, exp_null_coaelse}
-use Rattle.grammar.specs.Productions.{View, rule, pattern, array_pattern, pattern_starts, pattern_starts_end, header, iteration, expression, expr, source}
+use Rattle.grammar.specs.Productions.{Phrase, Body, end, goto, fail, ◌▸◌, eat, leaf, sub, deep, close, Switch, exp_destruct, exp_null_coaelse}
+use Rattle.grammar.specs.Productions.{View, rule, pattern, array_pattern, pattern_starts, pattern_starts_end, header, iteration, expression, expr}
 use Rattle.grammar.specs.Reading.{has, choose, view, production, Outcome, done, broken, Reading, ended, failed, gone, eaten, uneaten, leafed, closed, subbed, unsubbed, deepened, undeepened, too_deep, Reads}
 use Rattle.grammar.specs.Settings.{◌⊑◌, switch_of, Place, at, place, or_else, first_in, first}
-use Rattle.grammar.proofs.Once.{once, done_broken, same_trees, same_place, same_left}
-use Rattle.grammar.proofs.Tables.{rank, halts, fails, fine, with_kind}
-use Rattle.grammar.proofs.Chosen.{true_false, and_left, and_right, or_cases, pick_yes, pick_no, Stopper, at_kind, halting, fine_chosen}
+use Rattle.grammar.proofs.Once.{once, done_broken, same_left}
+use Rattle.grammar.proofs.Tables.{rank, halts, fails, fine}
+use Rattle.grammar.proofs.Chosen.{and_left, and_right, or_cases, pick_yes, pick_no, Stopper, at_kind, halting, fine_chosen}
 use Rattle.grammar.proofs.Lacks.{chosen_same, Lacking, stops, wants, iterates, lacking}
 
 -- ── A phrase that stands before `?` or `??` ───────────────────────────────────────────────────────
@@ -233,11 +233,14 @@ module _ (prefix s s' : ℕ) (le : s ⊑ s') where
   -- THE FIRST HALF. What has a tree under s has the same tree under s'.
   pub same_tree : {depth : ℕ} {xs : List Lexeme} {us : Trees} {r : ℕ} {ys : List Lexeme} → Reads prefix s depth xs (done us r ys) → Reads prefix s' depth xs (done us r ys)
   unfolding count
-  same_tree {xs = xs} (deepened {us = vs} {d} {r = k} {ys = zs} x (eaten e ended)) = by (grow_phrase (expr 0) none d 0 xs vs k zs x (grow (fine_smaller (expr 0) 0 xs 0) x))
+  same_tree {xs = xs} (deepened {us = vs} {d} {r = k} {ys = zs} x y) = whole y
     where
-      by : Grown (production prefix s' (expr 0) 0 xs 0) none d 0 xs vs k zs → Reads prefix s' (suc d) xs (done (none ⊕ vs) (stop_of k zs) (rest zs))
-      by (inl x') = deepened x' (eaten e ended)
-      by (inr y) = absurd (uneat EOF (kind_of zs) tt y.1 e)
+      by : kind_of zs ≡ EOF → Grown (production prefix s' (expr 0) 0 xs 0) none d 0 xs vs k zs → Reads prefix s' (suc d) xs (done (none ⊕ vs) (stop_of k zs) (rest zs))
+      by e (inl x') = deepened x' (eaten e ended)
+      by e (inr y) = absurd (uneat EOF (kind_of zs) tt y.1 e)
+
+      whole : {us : Trees} {r : ℕ} {ys : List Lexeme} → Reading prefix s (eat EOF ▸ end) (none ⊕ vs) (suc d) k zs (done us r ys) → Reads prefix s' (suc d) xs (done us r ys)
+      whole (eaten e ended) = by e (grow_phrase (expr 0) none d 0 xs vs k zs x (grow (fine_smaller (expr 0) 0 xs 0) x))
 
   -- ── The place where the smaller setting breaks ──────────────────────────────────────────────────
 
@@ -348,13 +351,17 @@ module _ (prefix s s' : ℕ) (le : s ⊑ s') where
 
   pub smaller : {depth : ℕ} {xs : List Lexeme} {us : Trees} {r : ℕ} {ys : List Lexeme} (x : Reads prefix s' depth xs (done us r ys)) → Smaller depth xs us r ys (first prefix s s' x)
   unfolding first or_else count
-  smaller {xs = xs} (deepened {us = vs} {d} {r = k} {ys = zs} x (eaten e ended)) =
-      by (phrase_course (expr 0) none d 0 xs vs k zs (first prefix s s' x) x (course (fine_larger (expr 0) 0 xs 0) x))
+  smaller {xs = xs} (deepened {us = vs} {d} {r = k} {ys = zs} x y) = whole y
     where
-      by : {o : Option Place} → Course (production prefix s (expr 0) 0 xs 0) none d 0 xs vs k zs o → Smaller (suc d) xs (none ⊕ vs) (stop_of k zs) (rest zs) (or_else o nowhere)
-      by (agrees x') = same (deepened x' (eaten e ended))
-      by (parts (breaks_at x')) = five (undeepened x')
-      by (parts (stops_at st x')) = five (deepened x' (uneaten (uneat EOF _ tt st.1)))
+      by : {o : Option Place} → kind_of zs ≡ EOF → Course (production prefix s (expr 0) 0 xs 0) none d 0 xs vs k zs o
+          → Smaller (suc d) xs (none ⊕ vs) (stop_of k zs) (rest zs) (or_else o nowhere)
+      by e (agrees x') = same (deepened x' (eaten e ended))
+      by e (parts (breaks_at x')) = five (undeepened x')
+      by e (parts (stops_at st x')) = five (deepened x' (uneaten (uneat EOF _ tt st.1)))
+
+      whole : {us : Trees} {r : ℕ} {ys : List Lexeme} (z : Reading prefix s' (eat EOF ▸ end) (none ⊕ vs) (suc d) k zs (done us r ys))
+          → Smaller (suc d) xs us r ys (first prefix s s' (deepened {q = expr 0} {b = eat EOF ▸ end} {ts = none} {us = vs} {d = d} {p = 0} {r = k} {xs = xs} {ys = zs} x z))
+      whole (eaten e ended) = by e (phrase_course (expr 0) none d 0 xs vs k zs (first prefix s s' x) x (course (fine_larger (expr 0) 0 xs 0) x))
 
   -- DEMAND 3 of a source past numbers 1 to 4: under s the same tree, or number 5 at the first place.
   pub demand_3 : {depth : ℕ} {xs : List Lexeme} {us : Trees} {r : ℕ} {ys : List Lexeme} {o : Outcome} (x : Reads prefix s' depth xs (done us r ys)) → Reads prefix s depth xs o

@@ -33,6 +33,7 @@ module _ {prefix s : ℕ} where
   -- WHERE ONE IS DONE THE OTHER IS BROKEN BY ITS DEPTH ONLY: number 11.
   pub broken_by_depth : {b : Body} {ts us : Trees} {d e p r n q x : ℕ} {xs ys zs : List Lexeme}
       → Reading prefix s b ts d p xs (done us r ys) → Reading prefix s b ts e p xs (broken n q zs x) → n ≡ 11
+  broken_by_depth {e = e} {n = n} {q = q} {zs = zs} (ended {ts = ts} {d = d} {p = p} {xs = xs}) x19 = elim x19 [ ]
   broken_by_depth (gone x) (gone y) = broken_by_depth x y
   broken_by_depth (eaten q x) (eaten q' y) = broken_by_depth x y
   broken_by_depth (eaten q x) (uneaten n) = absurd (n q)

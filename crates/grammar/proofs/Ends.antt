@@ -1,7 +1,7 @@
 -- Every reading ends: before it takes a lexeme a phrase goes over only to phrases of lower order, and deeper only while depth is left.
 -- Assumes nothing.
-use mathlib.Core.Path.{◌≡◌, refl, sym, ap, subst, ◌∙◌}
-use mathlib.Core.Bool.{Bool, true, false, ◌&&◌, not}
+use mathlib.Core.Path.{◌≡◌, refl, sym, subst}
+use mathlib.Core.Bool.{Bool, true, false, not}
 use mathlib.Core.List.{List, [], ◌∷◌}
 use Prim.Native.Nat.{ℕ, zero, suc, ◌-◌, ◌≤◌, ◌<◌}
 use native.Mathlib.Omega.{arith}
@@ -11,7 +11,7 @@ use borrow.Author.Tests.{eqb-true, eqb-false, eq-eqb}
 use Rattle.lexemes.specs.Kinds.{EOF}
 use Rattle.grammar.specs.Trees.{Trees, none, tree, ◌⊕◌, count}
 use Rattle.grammar.specs.Lexemes.{Lexeme, rest, kind_of, stop_of}
-use Rattle.grammar.specs.Productions.{Phrase, Body, end, goto, fail, ◌▸◌, Step, eat, leaf, sub, deep, close, View, rule, expr, source}
+use Rattle.grammar.specs.Productions.{Phrase, Body, end, goto, fail, ◌▸◌, eat, leaf, sub, deep, close, expr}
 use Rattle.grammar.specs.Reading.{view, production, Outcome, done, broken, Reading, ended, failed, gone, eaten, uneaten, leafed, closed, subbed, unsubbed, deepened, undeepened, too_deep, Reads}
 use Rattle.grammar.proofs.Tables.{order, low, top}
 use Rattle.grammar.proofs.Chosen.{and_left, and_right, low_chosen}

@@ -59,7 +59,7 @@ module _ (prefix s : ℕ) where
 
   read : {d : ℕ} {c : C} {xs ys : Lexemes} {t : Trees} → Spells prefix s (greedily s) d c xs t ys → Claim d c xs t ys
   unfolding Claim count
-  read Spells.Each-none = e_none
+  read Spells.each_none = e_none
   read (Spells.each_more e x k) = e_more (read e) (read x) k
   read (Spells.row_shut e) = r_shut (read e)
   read (Spells.row_last e x) = r_last (read e) (read x)

@@ -2,14 +2,14 @@
 -- Assumes nothing.
 use mathlib.Core.Path.{◌≡◌, refl, sym, ap, subst, ◌∙◌}
 use mathlib.Core.Bool.{Bool, true, false, ◌&&◌}
-use mathlib.Core.List.{List, [], ◌∷◌}
-use mathlib.Core.Logic.{◌⊎◌, inl, inr}
+use mathlib.Core.List.{[]}
+use mathlib.Core.Logic.{inl, inr}
 use Prim.Native.Nat.{ℕ}
 use lib.Dec.{T, eqb, leb}
 use borrow.Author.Tests.{eqb-true}
 use Rattle.lexemes.specs.Kinds.{QUESTION_MARK, NULL_COAELSE, IDENT, L_BRACK, R_BRACK, COLON, IN_KW}
 use Rattle.grammar.specs.Lexemes.{said}
-use Rattle.grammar.specs.Productions.{Phrase, Body, end, goto, fail, ◌▸◌, Step, eat, sub, deep, close, Switch, always, exp_destruct, exp_object_iteration, exp_null_coaelse, Row, row, Table, otherwise, ◌∣◌, View, rule, expression, suffix, infix_tail, pattern, for_clause, header, iteration}
+use Rattle.grammar.specs.Productions.{Phrase, Body, end, goto, fail, ◌▸◌, eat, sub, deep, close, Switch, always, exp_destruct, exp_object_iteration, exp_null_coaelse, row, Table, otherwise, ◌∣◌, View, rule, expression, suffix, infix_tail, pattern, for_clause, header, iteration}
 use Rattle.grammar.specs.Reading.{has, choose}
 use Rattle.grammar.specs.Settings.{◌⊑◌, switch_of}
 use Rattle.grammar.proofs.Tables.{unguarded, with_kind, Switched, at_infix_tail, at_suffix, at_pattern, at_for_clause, Facts, plain, switched, an_expr, facts, checked}

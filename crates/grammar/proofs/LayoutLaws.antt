@@ -13,7 +13,7 @@ use Rattle.grammar.specs.Records.{Sort, times, Spans, Has, no, yes, Part, absent
 use Rattle.grammar.specs.Records.{expression, named, param, bind, clause, pattern, pattern_field, member}
 use Rattle.grammar.specs.Records.{r1, r2, r3, r4, r5, r6, r7, r8, r9, r10, r11, r12, r13, r14, r15, r16, r17, r18, r19, r20, r21, r22, r23, r24_value, r24_function, r25, r26, r27, r28, r29_bare, r29_default, r30, r31, r32, r33, r34, r35}
 use Rattle.grammar.specs.Records as records
-use Rattle.grammar.specs.Layout.{Row, row, rows, Layout, layout, unknown, layout_in, layout_of, bits_in, Laid, over, a_span, a_text, a_count, a_flag, a_slice, a_byte, Tells, tells, LaidOut, numbers}
+use Rattle.grammar.specs.Layout.{Row, row, rows, Layout, layout, unknown, layout_in, layout_of, bits_in, over, a_span, a_text, a_count, a_flag, a_slice, a_byte, Tells, tells, LaidOut, numbers}
 use Rattle.grammar.proofs.Chosen.{and_left, and_right}
 use Rattle.grammar.proofs.Sorts.{fits-length, times-length}
 use Rattle.grammar.proofs.Obeys.{obeys_length}

@@ -16,7 +16,7 @@ use Rattle.lexemes.specs.Kept.{Lexemes, keep, first_bad}
 use Rattle.lexemes.specs.Kept as lexemes
 use Rattle.lexemes.specs.Rules.{rules}
 use Rattle.lexemes.specs.Letters.{letter, next}
-use Rattle.lexemes.proofs.Munch.{all, lex, lexed, munch, munched_ruled}
+use Rattle.lexemes.proofs.Munch.{lex, lexed, munch, munched_ruled}
 use Rattle.lexemes.specs.Texts.{plain}
 use Rattle.grammar.specs.Trees.{Trees, ◌⊕◌, count}
 use Rattle.grammar.specs.Image.{image, entry, payload}
@@ -28,7 +28,7 @@ use Rattle.grammar.specs.Says as says_of
 use Rattle.grammar.specs.Answer.{refused, tree, verdict, Judged, bad_lexeme, prefix_power, document_01}
 use Rattle.grammar.specs.Source.{Bad, bad, Kept}
 use Rattle.grammar.proofs.Execute.{run, after}
-use Rattle.grammar.proofs.Computed.{low, low_utf8, number_at, word_at, no_string, words, no_strings, judge, plainly}
+use Rattle.grammar.proofs.Computed.{low, low_utf8, word_at, no_string, words, no_strings, judge, plainly}
 
 -- ---- a claim, from bytes
 

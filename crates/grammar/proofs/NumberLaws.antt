@@ -7,10 +7,10 @@ use Prim.Native.Nat.{ℕ}
 use lib.Dec.{T, eqb}
 use borrow.Author.Tests.{eq-eqb}
 use Rattle.grammar.specs.Numbers.{TREE, ENCODING, ROOM, Row, row, first, met, last, nowhere, point, lexeme, table, placed, is_lexeme, detailed, met_in, met_with, fits_in, fits, at_lexeme_in, at_lexeme}
-use Rattle.grammar.specs.Trees.{Trees, none, count}
+use Rattle.grammar.specs.Trees.{Trees, count}
 use Rattle.grammar.specs.Lexemes.{Lexeme}
-use Rattle.grammar.specs.Productions.{Phrase, Body, source}
-use Rattle.grammar.specs.Reading.{view, production, Outcome, broken, Reading, failed, gone, eaten, uneaten, leafed, closed, subbed, unsubbed, deepened, undeepened, too_deep, Reads}
+use Rattle.grammar.specs.Productions.{Phrase, Body}
+use Rattle.grammar.specs.Reading.{view, production, broken, Reading, failed, gone, eaten, uneaten, leafed, closed, subbed, unsubbed, deepened, undeepened, too_deep, Reads}
 use Rattle.grammar.proofs.Tables.{numbered}
 use Rattle.grammar.proofs.Chosen.{numbered_chosen}
 

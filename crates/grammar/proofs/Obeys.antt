@@ -10,14 +10,13 @@ use lib.ListN.{length}
 use Rattle.grammar.specs.Trees.{Trees, node, ◌⊕◌, count}
 use Rattle.grammar.specs.Trees as trees
 use Rattle.grammar.specs.Lexemes.{Lexeme, rest, kind_of, start_of, stop_of, Ranged}
-use Rattle.grammar.specs.Productions.{Phrase, Body, end, goto, fail, ◌▸◌, eat, leaf, sub, deep, close, row, Table, otherwise, ◌∣◌, rule}
+use Rattle.grammar.specs.Productions.{Phrase, Body, row, Table, otherwise, ◌∣◌, rule}
 use Rattle.grammar.specs.Reading.{has, choose, view, production, done, Reading, ended, gone, eaten, leafed, closed, subbed, deepened, Reads}
 use Rattle.grammar.specs.Words.{Worded}
 use Rattle.grammar.specs.Records.{Sort, Is, Fits, Spans, Obeys}
 use Rattle.grammar.proofs.Tables.{moves, moved}
 use Rattle.grammar.proofs.Chosen.{moved_chosen}
 use Rattle.grammar.proofs.Possible.{next_possible, rest_worded}
-use Rattle.grammar.proofs.Sorts.{one}
 use Rattle.grammar.proofs.Shapes.{exit, wherever, AfterFrom, Before, Keeps, KeepsAt, ◌also◌, KeepsAll, anywhere}
 use Rattle.grammar.proofs.ShapesKept.{keeps}
 

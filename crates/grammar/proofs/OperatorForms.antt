@@ -109,9 +109,14 @@ module _ (s : ℕ) where
       by Binary.div = tt
       by Binary.modulo = tt
 
+  not_assign_in : {k l o : ℕ} {ops os : List Operator} → Sound ops → Found k l o os → ops ≡ os → T (eqb k ASSIGN) → ⊥
+  not_assign_in none (here on) q t = cc
+  not_assign_in none (there off f) q t = cc
+  not_assign_in {k} (more {k = j} b e n h) (here on) q t = let same : j ≡ k = cc in T_not (eqb j ASSIGN) n (subst (λ (i : ℕ). T (eqb i ASSIGN)) (sym same) t)
+  not_assign_in (more {rest = os} b e n h) (there {rest = os'} off f) q t = let same : os ≡ os' = cc in not_assign_in h f same t
+
   pub not_assign : {k l o : ℕ} {ops : List Operator} → Sound ops → Found k l o ops → T (eqb k ASSIGN) → ⊥
-  not_assign {k} (more b e n h) (here on) t = T_not (eqb k ASSIGN) n t
-  not_assign (more b e n h) (there off f) t = not_assign h f t
+  not_assign h f t = not_assign_in h f refl t
 
 -- Not this one, so a later one.
 pub found_later : {s i k l l' r o o' : ℕ} {g : Switch} {ops : List Operator} (m : ℕ) → Found s i l' o' (op k g l r o ∷ ops) → m ≤ l'

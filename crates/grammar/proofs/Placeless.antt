@@ -10,9 +10,9 @@ use lib.Dec.{T, eqb, leb, leb→le, le→leb}
 use borrow.Author.Tests.{eq-eqb}
 use Rattle.grammar.specs.Tags.{STRING}
 use Rattle.grammar.specs.Numbers.{ESCAPE}
-use Rattle.grammar.specs.Trees.{Field, byte, number, span, text, Trees, none, node, tree, ◌⊕◌, count}
+use Rattle.grammar.specs.Trees.{text, Trees, none, node, tree, ◌⊕◌, count}
 use Rattle.grammar.specs.Lexemes.{good, said, spoiled_at, Lexeme, rest, kind_of, start_of, stop_of}
-use Rattle.grammar.specs.Productions.{Phrase, Body, end, goto, fail, ◌▸◌, Step, eat, leaf, sub, deep, close, Row, row, Table, otherwise, ◌∣◌, when◌⟹◌, View, rule, source}
+use Rattle.grammar.specs.Productions.{Phrase, Body, end, goto, fail, ◌▸◌, Step, eat, leaf, sub, deep, close, row, Table, otherwise, ◌∣◌, when◌⟹◌, View, rule, source}
 use Rattle.grammar.specs.Productions.{expr, infix_tail, suffixed, suffix, null_safe, null_safe_index, bracket, member_name, null_safe_end, index_or_slice, slice_end, slice_ended, slice_step}
 use Rattle.grammar.specs.Productions.{slice_stepped, arguments, argument, argument_end, call_close, call_end, named_argument, basic, string, array, array_first, array_comp, array_comp_end, elements}
 use Rattle.grammar.specs.Productions.{next_element, inside, member, members, next_member, comprehension, comprehension_end, field, field_named, field_value, params, params_end, param, param_default}
@@ -398,15 +398,15 @@ module _ (prefix s : ℕ) where
   escape_inside {a} (failed {n} {x} {p = p} {xs}) (for_here e h) q =
       subst (λ (i : ℕ). i ≤ x) e (leb→le a x (subst (λ (c : Bool). T (not c || leb a x)) (eq-eqb n ESCAPE q) h))
   escape_inside (failed {n}) (for_any h) q = absurd (subst (λ (c : Bool). T (not c)) (eq-eqb n ESCAPE q) h)
-  escape_inside (gone {q} {ts} {p = p} {xs} r) f e = escape_inside r (for_phrase q p xs (count ts)) e
+  escape_inside {a = a} (gone {q} {ts} {p = p} {xs} r) f e = escape_inside {a = start_of p xs} r (for_phrase q p xs (count ts)) e
   escape_inside (eaten e r) f q = escape_inside r (onward f) q
   escape_inside (uneaten n) f q = absurd (omega (arith, q))
   escape_inside (leafed r) f q = escape_inside r (onward f) q
   escape_inside (closed r) f q = escape_inside r (onward f) q
   escape_inside (subbed r r') f q = escape_inside r' (onward f) q
-  escape_inside (unsubbed {q} {p = p} {xs = xs} r) f e = escape_inside r (for_phrase q p xs 0) e
+  escape_inside {a = a} (unsubbed {q} {p = p} {xs = xs} r) f e = escape_inside {a = start_of p xs} r (for_phrase q p xs 0) e
   escape_inside (deepened r r') f q = escape_inside r' (onward f) q
-  escape_inside (undeepened {q} {p = p} {xs = xs} r) f e = escape_inside r (for_phrase q p xs 0) e
+  escape_inside {a = a} (undeepened {q} {p = p} {xs = xs} r) f e = escape_inside {a = start_of p xs} r (for_phrase q p xs 0) e
   escape_inside too_deep f q = absurd (omega (arith, q))
 
   pub escape_from : {depth n r x : ℕ} {xs ys : List Lexeme} → Reads prefix s depth xs (broken n r ys x) → n ≡ ESCAPE → start_of r ys ≤ x

@@ -51,7 +51,7 @@ ascii (lo to hi ∷ rs) l b t =
     by false y z t f h g = g t
 
 one_byte : {b : ℕ} {w : List ℕ} → b ≤ 127 → Utf8 w → Utf8 (b ∷ w)
-one_byte {b} h u = Utf8.more (Character.row_00_7_f {a = b} (omega arith, h)) u
+one_byte {b} h u = Utf8.more (Character.row_00_7F {a = b} (omega arith, h)) u
 
 all_bytes : (f : ℕ → Bool) → ((b : ℕ) → T (f b) → b ≤ 127) → (w u : List ℕ) → All f w → Utf8 u → Utf8 (w ++ u)
 all_bytes f h [] u a v = v

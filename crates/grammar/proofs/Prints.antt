@@ -143,7 +143,7 @@ module _ {prefix s : ℕ} where
   pub each_of : {A : C} {F : ℕ → Type 0} {ts : Trees} → F COMMA → (r : Row (Prints prefix s A F) ts) (d : ℕ) → depth r ≤ d → (ys : List Lexeme)
       → Spells prefix s (greedily s) d (C.each A) ((commas r).before ys) ts ys
   unfolding ◌⊕◌
-  each_of f r d le ys = eachs f r d le ((commas r).before ys) ys trees.none Spells.Each-none
+  each_of f r d le ys = eachs f r d le ((commas r).before ys) ys trees.none Spells.each_none
 
   pub row_of : {A : C} {F : ℕ → Type 0} {ts : Trees} → F COMMA → (r : Row (Prints prefix s A F) ts) (d : ℕ) → depth r ≤ d → (ys : List Lexeme)
       → Spells prefix s (greedily s) d (C.row A) ((commas r).before ys) ts ys

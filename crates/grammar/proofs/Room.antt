@@ -1,7 +1,7 @@
 -- How long an image can be: at most 16 bytes for each byte of the source, and every payload fits its two length bytes. What a phrase may
 -- write beyond 16 bytes for each byte that it takes, and that each of its productions keeps to that, a line for each phrase.
 -- Assumes nothing.
-use mathlib.Core.Path.{◌≡◌, refl, sym, ap, subst, ◌∙◌}
+use mathlib.Core.Path.{◌≡◌, refl, ap, subst}
 use mathlib.Core.Bool.{Bool, true, false, ◌&&◌, not}
 use mathlib.Core.List.{List, [], ◌∷◌}
 use Prim.Native.Nat.{ℕ, ◌+◌, ◌-◌, ◌*◌, ◌≤◌}
@@ -12,7 +12,7 @@ use Rattle.lexemes.specs.Kinds.{EOF, SELF_KW, SUPER_KW, DOLLAR, NULL_KW, TRUE_KW
 use Rattle.grammar.specs.Trees.{Field, Trees, none, node, tree, ◌⊕◌, count}
 use Rattle.grammar.specs.Image.{payload, image}
 use Rattle.grammar.specs.Lexemes.{Said, good, said, Lexeme, rest, kind_of, word_of, stop_of, Ranged}
-use Rattle.grammar.specs.Productions.{Phrase, Body, end, goto, fail, ◌▸◌, Step, eat, leaf, sub, deep, close, Row, row, Table, otherwise, ◌∣◌, View, word, rule, Sign, sign, signs, sign_rows, Operator, op, operators, operator_rows}
+use Rattle.grammar.specs.Productions.{Phrase, Body, end, goto, fail, ◌▸◌, eat, leaf, sub, deep, close, row, Table, otherwise, ◌∣◌, View, word, rule, Sign, sign, signs, sign_rows, Operator, op, operators, operator_rows}
 use Rattle.grammar.specs.Productions.{expr, infix_tail, suffixed, suffix, null_safe, null_safe_index, bracket, member_name, null_safe_end, index_or_slice, slice_end, slice_ended, slice_step}
 use Rattle.grammar.specs.Productions.{slice_stepped, arguments, argument, argument_end, call_close, call_end, named_argument, basic, string, array, array_first, array_comp, array_comp_end, elements}
 use Rattle.grammar.specs.Productions.{next_element, inside, member, members, next_member, comprehension, comprehension_end, field, field_named, field_value, params, params_end, param, param_default}
@@ -20,7 +20,7 @@ use Rattle.grammar.specs.Productions.{binds, binds_end, local_body, bind, bind_n
 use Rattle.grammar.specs.Productions.{header, if_clause, iteration, iteration_value, pattern, array_pattern, pattern_starts, pattern_starts_end, array_rest, array_rest_end, pattern_ends, pattern_ends_end}
 use Rattle.grammar.specs.Productions.{array_pattern_close, object_pattern, pattern_fields, pattern_fields_end, object_rest, object_rest_end, object_pattern_close, pattern_field, pattern_into}
 use Rattle.grammar.specs.Productions.{pattern_default, default_value, default_end}
-use Rattle.grammar.specs.Reading.{has, choose, view, production, Outcome, done, Reading, ended, gone, eaten, leafed, closed, subbed, deepened, Reads}
+use Rattle.grammar.specs.Reading.{has, choose, view, production, done, Reading, ended, gone, eaten, leafed, closed, subbed, deepened, Reads}
 use Rattle.grammar.proofs.Chosen.{and_left, and_right}
 use Rattle.grammar.proofs.ImageLaws.{close_length, row-length}
 use Rattle.grammar.proofs.Obeys.{next_range, ranged_rest, onward}

@@ -1,13 +1,12 @@
 -- Sources whose kept lexemes agree in kind and text: each lexeme says the same, and so the same is found out about both, but for spans and places.
 -- And a block always says its text, so that number 10 had nothing to be given for.
 -- Assumes nothing.
-use mathlib.Core.Path.{◌≡◌, refl, sym, ap, ap₂, subst, ◌∙◌}
-use mathlib.Core.Bool.{Bool, true, false, cond}
+use mathlib.Core.Path.{◌≡◌, refl, sym, ap, subst, ◌∙◌}
+use mathlib.Core.Bool.{Bool, cond}
 use mathlib.Core.List.{List, [], ◌∷◌}
-use Prim.Native.Nat.{ℕ, zero, suc, ◌+◌, ◌-◌, ◌≤◌, ◌<◌}
+use Prim.Native.Nat.{ℕ, suc, ◌+◌, ◌-◌, ◌≤◌, ◌<◌}
 use native.Mathlib.Omega.{arith}
 use native.Mathlib.Decide.{dec_lt, ℕ_discrete}
-use lib.Dec.{eqb}
 use lib.ListN.{length, get_or, take, drop, get_or-eq_default}
 use lib.Seq.{slice}
 use borrow.Author.Tests.{eq-eqb, ne_eqb}
@@ -29,15 +28,14 @@ use Rattle.lexemes.proofs.TextLaws.{double_verbatim_has_quotes, single_verbatim_
 use Rattle.lexemes.proofs.SameLaws.{SameBad, no_bad, a_bad, same_first_bad, same_inside}
 use Rattle.grammar.specs.Numbers.{LEXEME, ESCAPE, at_lexeme}
 use Rattle.grammar.specs.Trees.{Trees}
-use Rattle.grammar.specs.Alike.{Alike}
-use Rattle.grammar.specs.Lexemes.{Said, says, nothing, Lexeme, start_of, stop_of}
+use Rattle.grammar.specs.Lexemes.{Said, says, Lexeme, start_of, stop_of}
 use Rattle.grammar.specs.Says.{Means, name, number, double, single, double_verbatim, single_verbatim, block, Spoils, in_double, in_single, Says, its_text, its_escape, no_text, Told}
 use Rattle.grammar.specs.Reading.{Outcome, done, broken, Reads}
-use Rattle.grammar.specs.Answer.{Verdict, refused, tree, verdict, Judged, bad_setting, too_long, not_utf8, bad_lexeme, read, prefix_power, document_01}
+use Rattle.grammar.specs.Answer.{Verdict, refused, verdict, Judged, bad_setting, too_long, not_utf8, bad_lexeme, read, prefix_power, document_01}
 use Rattle.grammar.specs.Source.{Bad, bad, Kept, kept}
 use Rattle.grammar.specs.SameAnswers.{SameDetail, equal, as_far, SameVerdict, trees, settings, refusals}
-use Rattle.grammar.proofs.Alike.{placeless, one_placeless}
-use Rattle.grammar.proofs.SaysLaws.{says_once, means_once, spoils_once, spoils_no_text}
+use Rattle.grammar.proofs.Alike.{one_placeless}
+use Rattle.grammar.proofs.SaysLaws.{says_once}
 use Rattle.grammar.proofs.Possible.{slice-part}
 use Rattle.grammar.proofs.Chosen.{true_false}
 use Rattle.grammar.proofs.NumberLaws.{refusal, met_at_lexeme}

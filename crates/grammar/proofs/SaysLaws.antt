@@ -1,7 +1,7 @@
 -- A lexeme of a source says one thing only.
 -- Assumes nothing.
 use mathlib.Core.Path.{◌≡◌, refl, ap, ap₂}
-use mathlib.Core.List.{List, [], ◌∷◌}
+use mathlib.Core.List.{List, ◌∷◌}
 use Prim.Native.Nat.{ℕ}
 use Rattle.strings.proofs.LiteralLaws.{quoted_once, verbatim_once, bad_escape_once, bad_escape_no_text}
 use Rattle.blocks.proofs.Laws.{text_once}
@@ -24,6 +24,11 @@ spoils_once (in_double x) (in_double y) = bad_escape_once x y
 spoils_once (in_single x) (in_single y) = bad_escape_once x y
 
 pub spoils_no_text : {s : List ℕ} {k a e n : ℕ} {w : List ℕ} → Means s k a e w → Spoils s k a e n → ⊥
+spoils_no_text {s = s} {a = a} {e = e} {n = n} Means.name x6 = elim x6 [ ]
+spoils_no_text {s = s} {a = a} {e = e} {n = n} (Means.number _) x12 = elim x12 [ ]
+spoils_no_text {s = s} {a = a} {e = e} {n = n} {w = w} (Means.double_verbatim _) x13 = elim x13 [ ]
+spoils_no_text {s = s} {a = a} {e = e} {n = n} {w = w} (Means.single_verbatim _) x14 = elim x14 [ ]
+spoils_no_text {s = s} {a = a} {e = e} {n = n} {w = w} (Means.block _) x15 = elim x15 [ ]
 spoils_no_text (Means.double x) (in_double y) = bad_escape_no_text x y
 spoils_no_text (Means.single x) (in_single y) = bad_escape_no_text x y
 

@@ -8,7 +8,7 @@ use native.Mathlib.Omega.{arith}
 use lib.Dec.{T, leb, leb→le, eqb, eqb→eq}
 use lib.ListN.{length, length-append}
 use Rattle.grammar.specs.Tags.{OBJECT_COMP, BIND, FIELD}
-use Rattle.grammar.specs.Trees.{Field, byte, number, span, text, count}
+use Rattle.grammar.specs.Trees.{Field, byte, number, span, text}
 use Rattle.lexemes.specs.Kinds.{L_BRACK, R_BRACK, COLON, FLOAT, IDENT, STRING_DOUBLE, STRING_SINGLE, STRING_DOUBLE_VERBATIM, STRING_SINGLE_VERBATIM, STRING_BLOCK}
 use Rattle.grammar.specs.Lexemes.{good, said}
 use Rattle.grammar.specs.Productions.{Phrase, goto, ◌▸◌, sub, View, four_are, is_string, with_field, with_member, rule, Sign, sign, signs, sign_rows, Operator, op, operators}

@@ -20,15 +20,14 @@ use Rattle.lexemes.specs.Kept as lexemes
 use Rattle.lexemes.specs.Texts.{plain as digits}
 use Rattle.lexemes.proofs.Munch.{all, lex}
 use Rattle.grammar.specs.Tags.{PREFIX}
-use Rattle.grammar.specs.Trees.{Field, byte, number, span, text, Trees, none, node, tree as a-tree, ◌⊕◌, count}
+use Rattle.grammar.specs.Trees.{byte, Trees, none, tree as a-tree, ◌⊕◌, count}
 use Rattle.grammar.specs.Lexemes.{Lexeme, rest, kind_of, good, said}
-use Rattle.grammar.specs.Productions.{Phrase, expr, Body, Switch, always, exp_destruct, exp_object_iteration, exp_null_coaelse, Row, row, Table, otherwise, ◌∣◌, View, rule, source, Sign, sign, signs}
+use Rattle.grammar.specs.Productions.{Phrase, expr, Body, Switch, always, exp_destruct, exp_object_iteration, exp_null_coaelse, row, Table, otherwise, ◌∣◌, rule, source, Sign, sign, signs}
 use Rattle.grammar.specs.Productions.{Operator, op, operators}
 use Rattle.grammar.specs.Reading.{has, published, choose, view, production, Outcome, done, broken, Reading, ended, failed, gone, eaten, uneaten, leafed, closed, subbed, unsubbed, deepened, undeepened, too_deep}
 use Rattle.grammar.specs.Operators.{sign_in, prefix_of}
-use Rattle.grammar.specs.declared.operators.Prefix.{Prefix}
 use Rattle.grammar.specs.declared.operators.Prefix.TheVariants.{Unary as One, NoPrefix}
-use Rattle.grammar.specs.Answer.{Limits, Answer, Verdict, refused, tree, verdict, Judged, bad_setting, too_long, not_utf8, bad_lexeme, read, valid_setting, prefix_power, document_01}
+use Rattle.grammar.specs.Answer.{Answer, Verdict, refused, tree, verdict, Judged, bad_setting, too_long, not_utf8, bad_lexeme, read, valid_setting, prefix_power, document_01}
 use Rattle.grammar.specs.Source.{Bad, Kept, Reads01}
 use Rattle.grammar.specs.Settings.{Signed, signed, Unsigned, NoPrefixSign}
 use Rattle.grammar.specs.Spells.{Lexemes, ◌is◌then◌, Unary, Binary, Open, Spells, Category as C}

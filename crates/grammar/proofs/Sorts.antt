@@ -8,14 +8,8 @@ use lib.Dec.{T, eqb, eqb→eq}
 use lib.ListN.{length}
 use Rattle.lexemes.specs.Kinds.{LOCAL_KW, ASSERT_KW}
 use Rattle.grammar.specs.Tags.{SLICE}
-use Rattle.grammar.specs.Trees.{Field, byte, span, count}
-use Rattle.grammar.specs.Lexemes.{rest}
-use Rattle.grammar.specs.Productions.{end, row, otherwise, with_field, with_assert, with_member}
-use Rattle.grammar.specs.Productions.{argument, string}
-use Rattle.grammar.specs.Productions.{member, members, comprehension, field}
-use Rattle.grammar.specs.Productions.{bind, assertion}
-use Rattle.grammar.specs.Productions.{if_clause, iteration, pattern}
-use Rattle.grammar.specs.Reading.{has}
+use Rattle.grammar.specs.Trees.{Field, byte, span}
+use Rattle.grammar.specs.Productions.{with_field, with_assert, with_member}
 use Rattle.grammar.specs.Words.{NameText}
 use Rattle.grammar.specs.Records.{Sort, Is, Fits, times, Spans, First, Part, Rest, Form}
 

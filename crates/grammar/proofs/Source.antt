@@ -4,13 +4,12 @@ use mathlib.Core.Path.{◌≡◌, refl, sym, ap, ◌∙◌}
 use mathlib.Core.Bool.{Bool, true, false, cond, true≢false}
 use mathlib.Core.List.{List, [], ◌∷◌}
 use mathlib.Core.Logic.{◌⊎◌, inl, inr}
-use Prim.Native.Nat.{ℕ, ◌+◌, ◌-◌, ◌≤◌}
+use Prim.Native.Nat.{ℕ, ◌+◌, ◌-◌}
 use native.Mathlib.Omega.{arith}
 use native.Mathlib.Decide.{ℕ_discrete}
 use lib.Dec.{T}
 use lib.ListN.{length, drop}
 use lib.Seq.{slice}
-use Rattle.strings.specs.Utf8.{Utf8}
 use Rattle.strings.specs.Literals.{Quoted, BadEscape}
 use Rattle.strings.proofs.Always.{valid_always, TextOrBadEscape, text_or_bad_escape}
 use Rattle.strings.proofs.LiteralLaws.{verbatim_always}
@@ -31,7 +30,7 @@ use Rattle.lexemes.proofs.KeptLaws.{lexemes_always, kept_always, kept_once, firs
 use Rattle.grammar.specs.Numbers.{fits}
 use Rattle.grammar.specs.Lexemes.{Said, says, spoiled, nothing, Lexeme}
 use Rattle.grammar.specs.Says.{Means, name, number, double, single, double_verbatim, single_verbatim, block, Spoils, in_double, in_single, Says, its_text, its_escape, no_text, Told}
-use Rattle.grammar.specs.Answer.{Answer, Answers, valid_setting, prefix_power, document_01}
+use Rattle.grammar.specs.Answer.{Answer, valid_setting, prefix_power, document_01}
 use Rattle.grammar.specs.Source.{Bad, bad, Kept, kept, Reads01}
 use Rattle.grammar.proofs.SaysLaws.{told_once, no_spoils}
 use Rattle.grammar.specs.Settings.{◌⊑◌}

@@ -2,16 +2,15 @@
 -- Assumes nothing.
 use mathlib.Core.Path.{◌≡◌, refl}
 use mathlib.Core.Bool.{not, ◌||◌}
-use mathlib.Core.List.{List, [], ◌∷◌}
-use Prim.Native.Nat.{ℕ, ◌/◌, ◌%◌, ◌≤◌}
+use mathlib.Core.List.{List}
+use Prim.Native.Nat.{ℕ, ◌≤◌}
 use native.Mathlib.Omega.{arith}
 use lib.Dec.{T, eqb}
 use Rattle.grammar.specs.Tags.{IDENTITY, NULL, BOOL, NUMBER, STRING, VARIABLE, ARRAY, ARRAY_COMP, MEMBERS, OBJECT_COMP, EXTENSION, PREFIX}
 use Rattle.grammar.specs.Tags.{INFIX, ASSERT_EXPR, LOCAL, IMPORT, ERROR, CALL, NAMED_ARGUMENT, INDEX_PART, FUNCTION, IF, SLICE, BIND}
 use Rattle.grammar.specs.Tags.{NAME_PATTERN, SKIP, ARRAY_PATTERN, OBJECT_PATTERN, PATTERN_FIELD, PARAMETER, FIELD, ASSERT, FOR, IF_CLAUSE}
 use Rattle.grammar.specs.Tags.{OBJECT_ITERATION}
-use Rattle.grammar.specs.Trees.{Field, byte, number, span, text, Trees}
-use Rattle.grammar.specs.Trees as trees
+use Rattle.grammar.specs.Trees.{Field, Trees}
 use Rattle.grammar.specs.Records.{Sort, Spans, Part, Form, Obeys}
 use Rattle.grammar.specs.Derived.{Forwards, Zeros, Spanned}
 use Rattle.grammar.proofs.Possible.{is_kind, not_either}

@@ -145,7 +145,7 @@ module _ (R : Rules) where
         (λ n8. if_fits (λ t h. (tt, (λ k. ((λ d. fresh), (λ us ys a. (tt, (λ j. one (Spells.parens k (inner a) j) (just R (entered a)))))))))
         (λ n9. if_fits (λ t h. (tt, (λ k. (opened k, (λ us ys y. y)))))
         (λ n10. if_fits (λ t h. (tt, (λ k. (fresh, (λ us ys a. (tt, (λ j. braced R k a j)))))))
-        (λ n11. if_fits (λ t h. (tt, (λ k. (behind k Spells.Each-none, (λ us ys y. y)))))
+        (λ n11. if_fits (λ t h. (tt, (λ k. (behind k Spells.each_none, (λ us ys y. y)))))
         (λ n12. if_fits (λ t h. (
           tt,
           (λ k. (
@@ -156,7 +156,7 @@ module _ (R : Rules) where
             )),
           )),
         ))
-        (λ n13. if_fits (λ t h. (tt, (λ k. (tt, (λ j. (Spells.Each-none, (λ us ys a. (tt, (λ l. (functioned k j a l, (λ us ys y. y)))))))))))
+        (λ n13. if_fits (λ t h. (tt, (λ k. (tt, (λ j. (Spells.each_none, (λ us ys a. (tt, (λ l. (functioned k j a l, (λ us ys y. y)))))))))))
         (λ n14. if_fits (λ t h. (fresh, (λ us ys a. (tt, (λ j. ((λ d. fresh), (λ vs zs b. one (Spells.assert a j (inner b)) refl)))))))
         (λ n15. if_fits (λ t h. (tt, (λ k. ((λ d. fresh), (λ us ys a. one (Spells.error k (inner a)) refl)))))
         (λ n16. if_fits (λ t h. (tt, (λ k. ((λ d. fresh), (λ us ys a. one (Spells.import Import.importstr k (inner a)) refl)))))
@@ -165,12 +165,12 @@ module _ (R : Rules) where
         (λ n19. if_fits (λ t h. one (Spells.variable (seen xs tt t)) refl) (λ n20. tt)))))))))))))))))))))
     keeps Phrase.string p x₀ xs ts (q, fresh) = if_fits (λ t h. one (spells_literal R xs q t) refl) (λ n1. tt)
     keeps Phrase.array p x₀ xs ts (opened k) =
-        if_fits (λ t h. (tt, (λ j. one (Spells.array k (Spells.row_shut Spells.Each-none) j) refl)))
+        if_fits (λ t h. (tt, (λ j. one (Spells.array k (Spells.row_shut Spells.each_none) j) refl)))
         (λ n1. ((λ d. fresh), (λ us ys a. (behind k (entered a), (λ us ys y. y)))))
     keeps Phrase.array_first p x₀ xs ts (behind k a) =
         if_fits (λ t h. (comprehending k a (Perhaps.no (stop COMMA xs (other (kind_of xs) FOR_KW COMMA tt t))), (λ us ys y. y)))
         (λ n1. if_fits (λ t h. (tt, (λ c. (comprehending k a (Perhaps.yes c), (λ us ys y. y)))))
-        (λ n2. (behind k (last Spells.Each-none (plain R a)), (λ us ys y. y))))
+        (λ n2. (behind k (last Spells.each_none (plain R a)), (λ us ys y. y))))
     keeps Phrase.array_comp p x₀ xs ts d = (fresh, (λ us ys a. (comprehended d a, (λ us ys y. y))))
     keeps Phrase.array_comp_end p x₀ xs ts d = (tt, (λ j. one (spells_array_comprehension R d j) refl))
     keeps Phrase.elements p x₀ xs ts (behind k l) =
@@ -179,8 +179,8 @@ module _ (R : Rules) where
         if_fits (λ t h. (tt, (λ j. one (Spells.array k (Spells.row_shut e) j) refl)))
         (λ n1. ((λ d. fresh), (λ us ys a. (behind k (last e (inner a)), (λ us ys y. y)))))
     keeps Phrase.inside p x₀ xs ts fresh =
-        if_fits (λ t h. inside (λ w y k j. Spells.members k (Spells.row_shut Spells.Each-none) j) refl)
-        (λ n1. (fresh, (λ us ys a. ((last Spells.Each-none a.spelled, a.adds 4 x₀ none (each_local Spells.Each-none)), (λ us ys y. y)))))
+        if_fits (λ t h. inside (λ w y k j. Spells.members k (Spells.row_shut Spells.each_none) j) refl)
+        (λ n1. (fresh, (λ us ys a. ((last Spells.each_none a.spelled, a.adds 4 x₀ none (each_local Spells.each_none)), (λ us ys y. y)))))
     keeps Phrase.member p x₀ xs ts fresh =
         if_fits (λ t h. (tt, (λ k. (fresh, (λ us ys a. a_local_member R t (Spells.a_local k a))))))
         (λ n1. if_fits (λ t h. (fresh, (λ us ys a. an_assert_member R t a)))
@@ -208,7 +208,7 @@ module _ (R : Rules) where
           )),
         )) (λ n3. tt)))
     keeps (Phrase.field_named c a) p x₀ xs ts n =
-        if_fits (λ t h. (tt, (λ k. (Spells.Each-none, (λ us ys b. (tt, (λ j. (headed_method n k b j, (λ us ys y. y)))))))))
+        if_fits (λ t h. (tt, (λ k. (Spells.each_none, (λ us ys b. (tt, (λ j. (headed_method n k b j, (λ us ys y. y)))))))))
         (λ n1. if_fits (λ t h. (tt, (λ k. (headed n (Perhaps.yes k), (λ us ys y. y)))))
         (λ n2. (headed n (Perhaps.no (stop PLUS xs (λ t. n2 t tt))), (λ us ys y. y))))
     keeps (Phrase.field_value i j c p' m) p x₀ xs ts d =
@@ -239,7 +239,7 @@ module _ (R : Rules) where
         if_fits (λ t h. (a_name (seen xs tt t), (λ us ys y. y))) (λ n1.
         (fresh, (λ us ys d. (tt, (λ k. ((λ d. fresh), (λ vs zs a. Spells.bind_value d k (inner a))))))))
     keeps Phrase.bind_named p x₀ xs ts d =
-        if_fits (λ t h. (tt, (λ k. (Spells.Each-none, (λ us ys a. (tt, (λ j. (with_params R d k a j, (λ us ys y. y)))))))))
+        if_fits (λ t h. (tt, (λ k. (Spells.each_none, (λ us ys a. (tt, (λ j. (with_params R d k a j, (λ us ys y. y)))))))))
         (λ n1. (tt, (λ k. ((λ d. fresh), (λ us ys a. spells_value R d k (inner a))))))
     keeps Phrase.bind_function p x₀ xs ts d = (tt, (λ k. ((λ d. fresh), (λ us ys a. spells_function R d k (inner a)))))
     keeps (Phrase.else_part i j) p x₀ xs ts (iffed k c l t') =
@@ -269,7 +269,7 @@ module _ (R : Rules) where
         if_fits (λ t h. Spells.name_pattern (seen xs tt t)) (λ n1. if_fits (λ t h. Spells.skip h (seen' xs tt t))
         (λ n2. if_fits (λ t h. ((λ d. (h, fresh)), (λ us ys a. inner_array a)))
         (λ n3. if_fits (λ t h. ((λ d. (h, fresh)), (λ us ys a. inner_object a))) (λ n4. if_fits (λ t h. tt) (λ n5. tt)))))
-    keeps Phrase.array_pattern p x₀ xs ts (h, fresh) = (tt, (λ k. (starts h k Spells.Each-none, (λ us ys y. y))))
+    keeps Phrase.array_pattern p x₀ xs ts (h, fresh) = (tt, (λ k. (starts h k Spells.each_none, (λ us ys y. y))))
     keeps Phrase.pattern_starts p x₀ xs ts (starts h' k e) =
         if_fits (λ t h. (whole h' k (Spells.row_shut e) refl, (λ us ys y. y)))
         (λ n1. if_fits (λ t h. (tt, (λ d. ((refl, dots h' k e d), (λ us ys y. y))))) (λ n2. (fresh, (λ us ys a. (starts h' k (last e a), (λ us ys y. y))))))
@@ -282,7 +282,7 @@ module _ (R : Rules) where
     keeps (Phrase.pattern_ends n r w) p x₀ xs ts d = if_fits (λ t h. (shut_ends R d, (λ us ys y. y))) (λ n1. (fresh, (λ us ys a. (add_end R d a, (λ us ys y. y)))))
     keeps (Phrase.pattern_ends_end n r w) p x₀ xs ts d = if_fits (λ t h. (tt, (λ k. (comma_ends R d k, (λ us ys y. y))))) (λ n1. (open_ends R d, (λ us ys y. y)))
     keeps (Phrase.array_pattern_close n r w) p x₀ xs ts d = (tt, (λ j. spells_array_pattern R d j))
-    keeps Phrase.object_pattern p x₀ xs ts (h, fresh) = (tt, (λ k. (starts h k Spells.Each-none, (λ us ys y. y))))
+    keeps Phrase.object_pattern p x₀ xs ts (h, fresh) = (tt, (λ k. (starts h k Spells.each_none, (λ us ys y. y))))
     keeps Phrase.pattern_fields p x₀ xs ts (starts h' k e) =
         if_fits (λ t h. (all_fields h' k (Spells.row_shut e), (λ us ys y. y)))
         (λ n1. if_fits (λ t h. (tt, (λ d. (dots h' k e d, (λ us ys y. y))))) (λ n2. (fresh, (λ us ys a. (starts h' k (last e a), (λ us ys y. y))))))

@@ -16,7 +16,7 @@ use Rattle.grammar.specs.Reading.{has}
 use Rattle.grammar.specs.Spells.{Lexemes, ◌is◌saying◌then◌, ◌is◌then◌, Perhaps, Colons, Quoted, Open, Spells}
 use Rattle.grammar.specs.Spells.{Category as C}
 use Rattle.grammar.proofs.ImageLaws.{count-row}
-use Rattle.grammar.proofs.Alike.{⊕_none, ⊕_assoc, same}
+use Rattle.grammar.proofs.Alike.{⊕_none, ⊕_assoc}
 use Rattle.grammar.proofs.LexemeForms.{Not, told, seen, quoted_is, field_fault}
 use Rattle.grammar.proofs.Chosen.{and_left, and_right}
 use Rattle.grammar.proofs.SpelledStates.{Sp, retree, One, Over, plain, just, Last, shut, as_row, Rules, one, last}
@@ -93,7 +93,7 @@ module _ (R : Rules) where
 
   pub member_comma : {c : ℕ} {x₀ y x : Lexemes} {ts : Trees} → LastMember c x₀ ts y → y is COMMA then x → EachMember c x₀ ts x
   member_comma (last_local l) k = each_local (shut R l k)
-  member_comma (last_field {ls = ls} {f = f} l d) k = each_field l d k Spells.Each-none (sym (⊕_none (ls ⊕ f)))
+  member_comma (last_field {ls = ls} {f = f} l d) k = each_field l d k Spells.each_none (sym (⊕_none (ls ⊕ f)))
   member_comma (local_after l f j m e) k = each_field l f j (shut R m k) e
   member_comma (last_other h) k = each_other h
 

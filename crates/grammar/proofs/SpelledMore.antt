@@ -1,13 +1,13 @@
 -- "Within" is said rightly: what is spelled within d levels is spelled within more.
 -- Assumes nothing.
 use Prim.Native.Nat.{ℕ, suc}
-use Rattle.grammar.specs.Trees.{Trees, ◌⊕◌}
+use Rattle.grammar.specs.Trees.{Trees}
 use Rattle.grammar.specs.Spells.{Lexemes, Open, Spells}
 use Rattle.grammar.specs.Spells.{Category as C}
 
 module _ {prefix s : ℕ} {Ends : Open → ℕ → Type 0} where
   pub more_levels : {d : ℕ} {c : C} {xs ys : Lexemes} {ts : Trees} → Spells prefix s Ends d c xs ts ys → Spells prefix s Ends (suc d) c xs ts ys
-  more_levels Spells.Each-none = Spells.Each-none
+  more_levels Spells.each_none = Spells.each_none
   more_levels (Spells.each_more a b c) = Spells.each_more (more_levels a) (more_levels b) c
   more_levels (Spells.row_shut a) = Spells.row_shut (more_levels a)
   more_levels (Spells.row_last a b) = Spells.row_last (more_levels a) (more_levels b)

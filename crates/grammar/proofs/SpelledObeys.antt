@@ -142,7 +142,7 @@ module _ {prefix s : ℕ} {Ends : Open → ℕ → Type 0} where
   spelled : {d : ℕ} {A : C} {xs ys : List Lexeme} {t : Trees} → Spells prefix s Ends d A xs t ys → Worded xs → Claim A t × Worded ys
   unfolding ◌⊕◌ times said
   -- Rows
-  spelled Spells.Each-none w = (no_more, w)
+  spelled Spells.each_none w = (no_more, w)
   spelled (Spells.each_more x y k) w = let a = spelled x w in let b = spelled y a.1 in (one_more a.0 b.0, past k b.1)
   spelled (Spells.row_shut x) w = spelled x w
   spelled (Spells.row_last x y) w = let a = spelled x w in let b = spelled y a.1 in (one_more a.0 b.0, b.1)

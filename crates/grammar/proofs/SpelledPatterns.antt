@@ -93,7 +93,7 @@ module _ (R : Rules) where
 
   pub first_ends : {n r : ℕ} {w : List ℕ} {x₀ y x : Lexemes} {ts : Trees} → n ≡ count ts → Rested C.pattern L_BRACK r w x₀ ts y → y is COMMA then x
       → Behind-rest (Sp R (C.each C.pattern)) n r w x₀ ts x
-  first_ends {ts = ts} q h k = behind-rest h k Spells.Each-none q (sym (⊕_none ts))
+  first_ends {ts = ts} q h k = behind-rest h k Spells.each_none q (sym (⊕_none ts))
 
   -- An object pattern, but for `}`
   pub data Shutting : ℕ → List ℕ → Lexemes → Trees → Lexemes → Type 0 where

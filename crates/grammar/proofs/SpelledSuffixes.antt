@@ -141,7 +141,7 @@ module _ (R : Rules) where
 
   pub no_arguments : {f : ℕ} {x₀ y x : Lexemes} {t : Trees} → Sp R (C.chain f) x₀ t y → y is L_PAREN then x → EachArgument 0 0 x₀ t x
   unfolding count
-  no_arguments {t = t} c k = each_plain c k Spells.Each-none refl (sym (⊕_none t))
+  no_arguments {t = t} c k = each_plain c k Spells.each_none refl (sym (⊕_none t))
 
   pub positional : {u n : ℕ} {x₀ y x : Lexemes} {ts t : Trees} → n ≡ 0 → EachArgument u n x₀ ts y → Over R 0 y t x → LastArgument (u + 1) n x₀ (ts ⊕ t) x
   positional {u = u} {t = t} z (each_plain {t = t₀} {us = us} c k e q r) (over g o w) =
@@ -151,7 +151,7 @@ module _ (R : Rules) where
   pub by_name : {u n : ℕ} {x₀ y x : Lexemes} {ts t : Trees} → EachArgument u n x₀ ts y → One R C.named_argument y t x → LastArgument u (n + 1) x₀ (ts ⊕ t) x
   unfolding ◌⊕◌
   by_name {n = n} {t = t} (each_plain c k e q r) (one g o) =
-      last_named {n = n + 1} c k e (last Spells.Each-none g) q (omega arith) (omega arith) (ap (λ (ws : Trees). ws ⊕ t) r)
+      last_named {n = n + 1} c k e (last Spells.each_none g) q (omega arith) (omega arith) (ap (λ (ws : Trees). ws ⊕ t) r)
   by_name {n = n} {t = t} (each_named {t = t₀} {us = us} {ns = ns} c k e h q q' i r) (one g o) =
       last_named {n = n + 1} c k e (last h g) q (omega (arith, count-row ns t)) (omega arith) (ap (λ (ws : Trees). ws ⊕ t) r ∙ ⊕_assoc (t₀ ⊕ us) ns t)
 

@@ -1,17 +1,16 @@
 -- Facts of the whole grammar: what each phrase is like, and a checker that every one of its productions keeps to it. One line for each
 -- phrase, so that a wrong production fails at its own line.
 -- Assumes nothing.
-use mathlib.Core.Path.{◌≡◌, refl, sym, ap, subst}
+use mathlib.Core.Path.{◌≡◌, refl}
 use mathlib.Core.Bool.{Bool, true, false, ◌&&◌, ◌||◌, not}
-use Prim.Native.Nat.{ℕ, ◌≤◌, ◌<◌}
-use native.Mathlib.Omega.{arith}
-use lib.Dec.{T, eqb, leb, ltb}
+use Prim.Native.Nat.{ℕ}
+use lib.Dec.{T, eqb, ltb}
 use Rattle.lexemes.specs.Kinds.{EOF, QUESTION_MARK, NULL_COAELSE}
 use Rattle.lexemes.specs.Kept.{bad_kinds, bad}
 use Rattle.lexemes.proofs.KeptLaws.{every}
 use Rattle.grammar.specs.Numbers.{met_with}
 use Rattle.grammar.specs.Lexemes.{Said, nothing, good}
-use Rattle.grammar.specs.Productions.{Phrase, Body, end, goto, fail, ◌▸◌, Step, eat, leaf, sub, deep, close, Switch, always, exp_destruct, exp_object_iteration, exp_null_coaelse, Row, row, Table, otherwise, ◌∣◌, View, rule, signs, operators, sign_rows, operator_rows}
+use Rattle.grammar.specs.Productions.{Phrase, Body, end, goto, fail, ◌▸◌, eat, leaf, sub, deep, close, always, exp_destruct, exp_object_iteration, exp_null_coaelse, row, Table, otherwise, ◌∣◌, View, rule}
 use Rattle.grammar.specs.Productions.{expr, infix_tail, suffixed, suffix, null_safe, null_safe_index, bracket, member_name, null_safe_end, index_or_slice, slice_end, slice_ended, slice_step}
 use Rattle.grammar.specs.Productions.{slice_stepped, arguments, argument, argument_end, call_close, call_end, named_argument, basic, string, array, array_first, array_comp, array_comp_end, elements}
 use Rattle.grammar.specs.Productions.{next_element, inside, member, members, next_member, comprehension, comprehension_end, field, field_named, field_value, params, params_end, param, param_default}
@@ -19,7 +18,6 @@ use Rattle.grammar.specs.Productions.{binds, binds_end, local_body, bind, bind_n
 use Rattle.grammar.specs.Productions.{header, if_clause, iteration, iteration_value, pattern, array_pattern, pattern_starts, pattern_starts_end, array_rest, array_rest_end, pattern_ends, pattern_ends_end}
 use Rattle.grammar.specs.Productions.{array_pattern_close, object_pattern, pattern_fields, pattern_fields_end, object_rest, object_rest_end, object_pattern_close, pattern_field, pattern_into}
 use Rattle.grammar.specs.Productions.{pattern_default, default_value, default_end}
-use Rattle.grammar.specs.Reading.{has, choose}
 
 -- ── What each phrase is like ──────────────────────────────────────────────────────────────────────
 

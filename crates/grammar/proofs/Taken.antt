@@ -4,7 +4,7 @@ use mathlib.Core.Path.{◌≡◌, refl, sym, ap, subst, ◌∙◌}
 use mathlib.Core.Bool.{Bool, true, false, ◌&&◌, ◌||◌, not}
 use mathlib.Core.List.{List, [], ◌∷◌}
 use mathlib.Core.Logic.{◌⊎◌, inl, inr}
-use Prim.Native.Nat.{ℕ}
+use Prim.Native.Nat.{ℕ, suc}
 use native.Mathlib.Omega.{arith}
 use lib.Dec.{T}
 use Rattle.strings.specs.Utf8.{Utf8}
@@ -14,13 +14,13 @@ use Rattle.lexemes.specs.Kept.{bad_kinds, bad}
 use Rattle.lexemes.specs.Kept as lexemes
 use Rattle.lexemes.proofs.Laws.{lexeme_not_eof}
 use Rattle.lexemes.proofs.KeptLaws.{every, every_at, NoneBad, kept_none_bad, Rest, kept_step}
-use Rattle.grammar.specs.Trees.{Trees, count}
+use Rattle.grammar.specs.Trees.{Trees, none, ◌⊕◌, count}
 use Rattle.grammar.specs.Lexemes.{Said, nothing, Lexeme, rest, kind_of}
 use Rattle.grammar.specs.Words.{Possible, Worded}
 use Rattle.grammar.specs.Spells.{Quoted}
 use Rattle.grammar.specs.Says.{Told}
 use Rattle.grammar.specs.Source.{Kept, kept}
-use Rattle.grammar.specs.Productions.{Phrase, Body, end, goto, fail, ◌▸◌, eat, leaf, sub, deep, close, Row, row, Table, otherwise, ◌∣◌, View, rule}
+use Rattle.grammar.specs.Productions.{Phrase, Body, end, goto, fail, ◌▸◌, eat, leaf, sub, deep, close, row, Table, otherwise, ◌∣◌, View, rule}
 use Rattle.grammar.specs.Reading.{has, choose, view, production, done, Reading, ended, gone, eaten, leafed, closed, subbed, deepened, Reads}
 use Rattle.grammar.proofs.Tables.{picky, picky_table, shuns, with_next, careful}
 use Rattle.grammar.proofs.Chosen.{true_false, and_left, and_right, or_cases, pick, careful_chosen}
@@ -165,9 +165,13 @@ module _ (prefix s : ℕ) where
   -- A reading of the whole source that is done has taken all its lexemes.
   pub all_taken : {depth r : ℕ} {us : Trees} {xs ys : List Lexeme} → Worded xs → Standing xs → Reads prefix s depth xs (done us r ys) → Good xs []
   unfolding picky
-  all_taken {xs = xs} w n (deepened {q} {b} {p = p} y (eaten e ended)) =
-      let g = taken w (wary q p xs 0 w) y in
-      subst (λ (zs : List Lexeme). Good xs zs) (at_end (standing_on g n) e) g
+  all_taken {xs = xs} w n (deepened {q} {us = vs} {d} {p = p} {r = k} {ys = zs} y z) = whole z
+    where
+      g : Good xs zs
+      g = taken w (wary q p xs 0 w) y
+
+      whole : {us : Trees} {r : ℕ} {ys : List Lexeme} → Reading prefix s (eat EOF ▸ end) (none ⊕ vs) (suc d) k zs (done us r ys) → Good xs []
+      whole (eaten e ended) = subst (λ (zs : List Lexeme). Good xs zs) (at_end (standing_on g n) e) g
 
 -- ── Of sources ────────────────────────────────────────────────────────────────────────────────────
 

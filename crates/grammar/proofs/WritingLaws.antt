@@ -6,7 +6,7 @@ use Prim.Native.Nat.{ℕ, zero, suc, ◌+◌, ◌≤◌, ◌<◌}
 use native.Mathlib.Omega.{arith}
 use native.Mathlib.Numerals.{add-one}
 use lib.ListN.{length, get_or, set, take, length-append}
-use lib.Seq.{sets, set_out, length-sets, length-take-le, take-suc}
+use lib.Seq.{sets, set_out, length-take-le, take-suc}
 use Rattle.strings.proofs.Stores.{sets_append}
 use Rattle.grammar.specs.Image.{two}
 use Rattle.grammar.specs.Writing.{Wrote}

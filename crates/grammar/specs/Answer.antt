@@ -1,7 +1,7 @@
 -- The whole answer: 01, "Numbers handed back". For a setting, a source and the length of the output: which number, with place, detail and
 -- length, and every byte of the output.
 -- Assumes nothing.
-use Rattle.std.specs.Prelude.{◌≡◌, Bool, true, false, cond, List, [], ◌∷◌, ◌++◌, ℕ, ◌-◌, ◌≤◌, ◌<◌, leb, length, replicate}
+use Rattle.std.specs.Prelude.{◌≡◌, Bool, true, false, cond, List, ◌++◌, ℕ, ◌-◌, ◌≤◌, ◌<◌, leb, length, replicate}
 use Rattle.strings.specs.Utf8.{Utf8, ValidTo}
 use Rattle.grammar.specs.Numbers.{TREE, SETTING, LONG, ENCODING, LEXEME, ROOM}
 use Rattle.grammar.specs.Trees.{Trees}

@@ -4,7 +4,7 @@ use Rattle.std.specs.Prelude.{◌≡◌, Bool, true, false, ◌&&◌, List, ℕ,
 use Rattle.grammar.specs.Numbers.{WANTED, DEPTH}
 use Rattle.grammar.specs.Trees.{Field, Trees, none, tree, ◌⊕◌, count}
 use Rattle.grammar.specs.Lexemes.{Lexeme, rest, kind_of, word_of, start_of, stop_of}
-use Rattle.grammar.specs.Productions.{Phrase, Body, end, goto, fail, ◌▸◌, Step, eat, leaf, sub, deep, close, Switch, always, exp_destruct, exp_object_iteration, exp_null_coaelse, Row, row, Table, otherwise, ◌∣◌, View, rule, source}
+use Rattle.grammar.specs.Productions.{Phrase, Body, end, goto, fail, ◌▸◌, eat, leaf, sub, deep, close, Switch, always, exp_destruct, exp_object_iteration, exp_null_coaelse, row, Table, otherwise, ◌∣◌, View, rule, source}
 
 -- R25. "Setting is a sum of 1 (`exp_destruct`), 2 (`exp_object_iteration`), 4 (`exp_null_coaelse`)."
 unfoldable pub has : ℕ → Switch → Bool

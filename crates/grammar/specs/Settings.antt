@@ -1,11 +1,11 @@
 -- Two settings, one within the other: what demand 3 compares, and the place that 01 names ("Demand 3's place"). And a source in which 8
 -- decides nothing.
 -- Assumes nothing.
-use Rattle.std.specs.Prelude.{◌≡◌, Bool, true, false, ◌&&◌, List, ℕ}
+use Rattle.std.specs.Prelude.{◌≡◌, true, false, ◌&&◌, List, ℕ}
 use Rattle.std.proofs.Math.Option.{Option, some, none as nowhere}
 use Rattle.grammar.specs.Trees.{Trees, count}
 use Rattle.grammar.specs.Lexemes.{Lexeme, rest, kind_of, stop_of}
-use Rattle.grammar.specs.Productions.{Phrase, expr, Body, Switch, always, exp_destruct, exp_object_iteration, exp_null_coaelse, Row, row, Table, otherwise, ◌∣◌, rule}
+use Rattle.grammar.specs.Productions.{Phrase, expr, Body, Switch, always, exp_destruct, exp_object_iteration, exp_null_coaelse, row, Table, otherwise, ◌∣◌, rule}
 use Rattle.grammar.specs.Reading.{has, published, view, Outcome, Reading, ended, failed, gone, eaten, uneaten, leafed, closed, subbed, unsubbed, deepened, undeepened, too_deep}
 use Rattle.grammar.specs.Answer.{Limits, Verdict, Judged, bad_setting, too_long, not_utf8, bad_lexeme, read}
 use Rattle.grammar.specs.Spells.{Unary}

@@ -1,3 +1,4 @@
+#![tactic(auto)]
 // The grammar: 01's phrases as derivations (specs/), what follows from them (proofs/), and the code that the phrase functions lean on.
 pub mod layout; // how records are laid out
 pub mod numbers; // the numbers handed back

@@ -10,7 +10,7 @@ use lib.Seq.{slice, length-slice}
 use Rattle.numerals.specs.Value.{TooLarge}
 use Rattle.lexemes.specs.Kinds.{COMMA, FLOAT}
 use Rattle.lexemes.specs.Texts.{plain}
-use Rattle.grammar.specs.Trees.{Field, number, span, text}
+use Rattle.grammar.specs.Trees.{Field, span, text}
 use Rattle.grammar.specs.Image.{entry, payload}
 use Rattle.grammar.specs.Lexemes.{Lexeme, Said, says}
 use Rattle.grammar.specs.Says.{Spoils}

@@ -1,24 +1,23 @@
 -- What a cursor tells of the lexemes that are left.
 -- Assumes nothing.
 use mathlib.Core.Path.{◌≡◌, refl, sym, ap, subst, subst⁻¹, ◌∙◌}
-use mathlib.Core.Bool.{Bool, true, false}
-use mathlib.Core.List.{List, [], ◌∷◌}
+use mathlib.Core.List.{List, []}
 use Prim.Native.Nat.{ℕ, ◌+◌, ◌≤◌, ◌<◌}
 use native.Mathlib.Omega.{arith}
 use lib.ListN.{length}
 use lib.Seq.{slice}
 use Rattle.lexemes.specs.declared.Lexeme.{Lexeme as Token}
 use Rattle.blocks.specs.Blocks.{BlockAt}
-use Rattle.blocks.proofs.Laws.{block_end_lem, end_of}
+use Rattle.blocks.proofs.Laws.{block_end_lem}
 use Rattle.lexemes.proofs.Letters.{inside}
 use Rattle.blocks.specs.declared.Block.TheVariants.{Good}
-use Rattle.lexemes.specs.Lexeme.{lexeme, LexemeAt}
+use Rattle.lexemes.specs.Lexeme.{lexeme}
 use Rattle.lexemes.specs.Kept.{NextKept, first}
 use Rattle.lexemes.proofs.KeptLaws.{Rest, nothing as no_rest, next, kept_step, next_once}
 use Rattle.lexemes.proofs.TextLaws.{double_has_quotes, single_has_quotes, double_verbatim_has_quotes, single_verbatim_has_quotes, block_is_good}
 use Rattle.grammar.specs.Lexemes.{Said, says, Lexeme, rest, kind_of, word_of, start_of, stop_of}
-use Rattle.grammar.specs.Says.{Says, its_text, no_text, Means, name}
-use Rattle.grammar.specs.Productions.{Phrase, Body, View, rule}
+use Rattle.grammar.specs.Says.{Says, its_text, its_escape, no_text, name}
+use Rattle.grammar.specs.Productions.{Phrase, View, rule}
 use Rattle.grammar.specs.Reading.{choose, view, production}
 use Rattle.leaves.specs.Lexing.{Left, over, more, Stands, Moved, Quoting, double, single, double_verbatim, single_verbatim, block}
 use Rattle.leaves.specs.declared.Cursor.{Cursor}
@@ -120,6 +119,7 @@ name_says {s} {k} {a} {e} {w} q t = go (subst (λ (m : ℕ). Says s m a e w) q t
   where
     go : {w : Said} → Says s 55 a e w → w ≡ says (slice a e s)
     go (its_text name) = refl
+    go (its_escape {n = n} x) = elim x [ ]
     go (no_text f g) = absurd (f (slice a e s) name)
 
 -- ── What a production sees ────────────────────────────────────────────────────────────────────────

@@ -1,9 +1,8 @@
 -- The steps of a reading: what each step of a production adds to a stretch, and the ways to end.
 -- Assumes nothing.
 use mathlib.Core.Path.{◌≡◌, refl, sym, ap, subst, subst⁻¹, ◌∙◌}
-use mathlib.Core.Bool.{Bool, true, false}
-use mathlib.Core.List.{List, [], ◌∷◌, ◌++◌, append_assoc, append-nil}
-use Prim.Native.Nat.{ℕ, zero, suc, ◌+◌, ◌-◌, ◌*◌, ◌≤◌, ◌<◌, ◌^◌}
+use mathlib.Core.List.{List, [], ◌++◌, append_assoc, append-nil}
+use Prim.Native.Nat.{ℕ, suc, ◌+◌, ◌-◌, ◌*◌, ◌≤◌, ◌<◌, ◌^◌}
 use native.Mathlib.Omega.{arith}
 use lib.ListN.{length, length-append}
 use lib.Seq.{sets, slice, length-sets}
@@ -11,12 +10,12 @@ use denote.Enum.Declared.{tag_of}
 use Rattle.strings.proofs.Stores.{sets_append}
 use Rattle.grammar.specs.Trees.{Field, Trees, none, tree, ◌⊕◌, count as size}
 use Rattle.grammar.specs.Image.{image, entry}
-use Rattle.grammar.specs.Lexemes.{Lexeme, Said, says, rest, kind_of, word_of, stop_of}
+use Rattle.grammar.specs.Lexemes.{Lexeme, Said, says, rest, word_of}
 use Rattle.grammar.specs.Writing.{Wrote}
 use Rattle.grammar.specs.Productions.{Phrase, Body, end, goto, fail, ◌▸◌, Step, eat, leaf, sub, deep, close, rule}
-use Rattle.grammar.specs.Reading.{Outcome, done, broken, Reading, ended, failed, gone as read_gone, eaten, uneaten, leafed, closed as read-closed, subbed, unsubbed, deepened, undeepened, too_deep as read-too-deep, production, choose}
+use Rattle.grammar.specs.Reading.{Outcome, done, Reading, ended, failed, gone as read_gone, eaten, uneaten, leafed, closed as read-closed, subbed, unsubbed, deepened, undeepened, too_deep as read-too-deep, production, choose}
 use Rattle.leaves.specs.Lexing.{Left, Stands, Moved}
-use Rattle.leaves.specs.Meets.{power, Ready, State, state, Comes, Seg, Stops, Breaks, Led, Leads, Takes, TakesSome, Counted, Counts, Told, Tells, Eats}
+use Rattle.leaves.specs.Meets.{power, Ready, State, state, Seg, Breaks, Led, Leads, Takes, TakesSome, Counted, Counts, Told, Tells, Eats}
 use Rattle.grammar.proofs.ImageLaws.{image-row, count-row, image_close, image-leaf}
 use Rattle.leaves.proofs.LexemeLaws.{lies, Sees, sees, sight, seen, name_says}
 use Rattle.leaves.specs.contracts.Answer.{the_type}

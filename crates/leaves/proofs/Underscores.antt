@@ -1,10 +1,10 @@
 -- A number literal is too large with its underscores where it is without them.
 -- Assumes nothing.
-use mathlib.Core.Path.{◌≡◌, refl, sym, ap, ap₂, subst, subst⁻¹, ◌∙◌}
+use mathlib.Core.Path.{◌≡◌, refl, sym, ap, subst, subst⁻¹, ◌∙◌}
 use mathlib.Core.Bool.{Bool, true, false, ◌||◌, cond, true≢false}
 use mathlib.Core.List.{List, [], ◌∷◌}
-use mathlib.Core.Logic.{◌⊎◌, inl, inr, ⊎_elim}
-use Prim.Native.Nat.{ℕ, ◌+◌, ◌*◌, ◌-◌}
+use mathlib.Core.Logic.{◌⊎◌, inl, inr}
+use Prim.Native.Nat.{ℕ, ◌+◌, ◌-◌}
 use native.Mathlib.Decide.{ℕ_discrete}
 use native.Mathlib.Omega.{arith}
 use lib.Dec.{eqb}

@@ -1,13 +1,13 @@
 -- What a phrase function promises.
 -- Assumes nothing.
-use Rattle.std.specs.Prelude.{◌≡◌, List, [], ◌∷◌, ◌++◌, ℕ, suc, ◌+◌, ◌-◌, ◌*◌, ◌≤◌, ◌<◌, length}
+use Rattle.std.specs.Prelude.{◌≡◌, List, [], ◌∷◌, ◌++◌, ℕ, ◌+◌, ◌-◌, ◌*◌, ◌≤◌, ◌<◌, length}
 use Rattle.std.proofs.lemmas.List.Edits.{sets}
 use Rattle.lexemes.specs.Kinds.{R_BRACK, DOT, ASSIGN}
 use Rattle.grammar.specs.Tags.{SLICE, BIND}
 use Rattle.grammar.specs.Trees.{Field, byte, number, Trees, count as size}
-use Rattle.grammar.specs.Image.{image, entry}
+use Rattle.grammar.specs.Image.{image}
 use Rattle.grammar.specs.Lexemes.{Lexeme}
-use Rattle.grammar.specs.Productions.{Phrase, Body, end, goto, ◌▸◌, Step, eat, sub, deep, close, expression, suffix, field_named, argument, argument_end, null_safe}
+use Rattle.grammar.specs.Productions.{Phrase, Body, end, goto, ◌▸◌, Step, eat, sub, close, expression, suffix, field_named, argument, argument_end, null_safe}
 use Rattle.grammar.specs.Reading.{Outcome, broken, Reading}
 use Rattle.grammar.specs.Answer.{prefix_power}
 use Rattle.leaves.specs.Lexing.{Left, Stands}

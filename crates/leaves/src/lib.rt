@@ -1,3 +1,4 @@
+#![tactic(auto)]
 // Phrases, and ends of phrases, that read no other phrase; and what every phrase function reads by and answers with.
 ghost use Rattle.std.specs.Prelude.{◌≡◌, ◌⊎◌, [], ◌∷◌, ◌+◌, ◌-◌, ◌≤◌, ◌<◌, ◌^◌, length};
 ghost use Rattle.std.proofs.lemmas.List.Edits.{sets};
@@ -27,7 +28,7 @@ use records::Span;
 use strings::Decoded;
 
 // Where a phrase reads: where the last lexeme ended, and the next kept lexeme, EOF where none is left.
-#[derive(Drop)]
+#[derive(Clone, Copy)]
 pub struct Cursor {
     pub at: u16,
     pub kind: u8,
@@ -36,7 +37,7 @@ pub struct Cursor {
 }
 
 // A phrase broken off: 01's number and detail, and where.
-#[derive(Drop)]
+#[derive(Clone, Copy)]
 pub struct Refusal {
     pub number: u8,
     pub place: Cursor,
@@ -45,7 +46,7 @@ pub struct Refusal {
 
 // A phrase's answer: where it ended, how long the image is then, and a number; or where it was broken off. What the number is, the type says
 // that a function answers by: of an `Answer` nobody reads it.
-#[derive(Drop)]
+#[derive(Clone, Copy)]
 pub enum Answer {
     Done(Cursor, usize, usize),
     Broken(Refusal),
@@ -324,7 +325,7 @@ pub fn object_rest(src: &[u8], out: &mut [u8], c: Cursor, w: usize, n: usize) ->
 }
 
 // What stands after a field's name or an iteration's header: the visibility, and where its colons end.
-#[derive(Drop)]
+#[derive(Clone, Copy)]
 pub struct Visible {
     pub cursor: Cursor,
     pub byte: u8,

@@ -9,14 +9,14 @@ use grammar::writers;
 use grammar::writers::Flags;
 
 // A span of the source, as records hold it.
-#[derive(Drop)]
+#[derive(Clone, Copy)]
 pub struct Span {
     pub start: u16,
     pub end: u16,
 }
 
 // A field's record but for its value's visibility: where the name stands, and whether it is computed, adds, is a method of so many parameters.
-#[derive(Drop)]
+#[derive(Clone, Copy)]
 pub struct Header {
     pub start: u16,
     pub end: u16,

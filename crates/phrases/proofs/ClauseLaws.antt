@@ -3,30 +3,28 @@
 use mathlib.Core.Path.{◌≡◌, refl, sym, ap, subst, subst⁻¹, ◌∙◌}
 use mathlib.Core.Bool.{Bool, true, false, ◌&&◌}
 use mathlib.Core.List.{List, [], ◌∷◌}
-use Prim.Native.Nat.{ℕ, ◌+◌, ◌-◌, ◌*◌, ◌≤◌, ◌<◌}
+use Prim.Native.Nat.{ℕ, ◌+◌, ◌-◌, ◌*◌, ◌≤◌}
 use native.Mathlib.Omega.{arith}
 use lib.Dec.{eqb}
 use lib.ListN.{length, take, drop}
 use lib.Seq.{slice, length-slice}
 use denote.Enum.Declared.{tag_of}
 use borrow.Author.Tests.{eq-eqb, ne_eqb}
-use Rattle.grammar.specs.Trees.{byte, number, span, text, Trees, none, node, count as size}
-use Rattle.grammar.specs.Image.{image, entry, payload}
-use Rattle.grammar.proofs.ImageLaws.{image-length}
+use Rattle.grammar.specs.Trees.{byte, number, span, text, Trees, count as size}
+use Rattle.grammar.specs.Image.{entry, payload}
 use Rattle.grammar.specs.Writing.{Wrote}
 use Rattle.grammar.specs.Lexemes.{Lexeme, Said, says, said, rest, kind_of, word_of}
-use Rattle.grammar.specs.Productions.{Phrase, Body, end, goto, ◌▸◌, eat, sub, deep, close, rule, expression, exp_object_iteration, for_clause, pattern, header, iteration, iteration_value, clauses, more_clauses, if_clause, members, next_member, comprehension, Step, array_first, array_comp, elements}
+use Rattle.grammar.specs.Productions.{Phrase, Body, end, goto, ◌▸◌, eat, sub, deep, close, rule, expression, exp_object_iteration, for_clause, pattern, header, iteration, iteration_value, clauses, more_clauses, if_clause, members, next_member, comprehension, array_first, array_comp, elements}
 use Rattle.grammar.specs.Reading.{has, choose, view, production, Outcome, Reading, gone as read_gone}
 use Rattle.grammar.proofs.Chosen.{pick_yes, pick_no}
 use Rattle.leaves.specs.Lexing.{Stands, Moved, Header, header as is-header, off, no_bracket, no_key, not_closed, no_colon, Colons, none_more, one_more, two_more, Past, past, same}
-use Rattle.leaves.specs.Meets.{power, State, state, Seg, Breaks, Leads, Takes, Counted, Counts}
+use Rattle.leaves.specs.Meets.{power, State, state, Seg, Leads, Takes}
 use Rattle.leaves.proofs.LexemeLaws.{lies, Sees, sees, sees_next, sight, seen, name_says, moved_once}
 use Rattle.leaves.proofs.PartLaws.{wrote_lent}
 use Rattle.leaves.proofs.LeafLaws.{moved_past}
 use Rattle.leaves.specs.contracts.Answer.{the_type}
 use Rattle.leaves.proofs.Steps
 use Rattle.leaves.specs.declared.Cursor.{Cursor}
-use Rattle.leaves.specs.declared.Refusal.{Refusal}
 use Rattle.leaves.specs.declared.Answer.{Answer}
 use Rattle.leaves.specs.declared.Answer.TheVariants.{Done, Broken}
 

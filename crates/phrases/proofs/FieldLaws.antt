@@ -3,20 +3,17 @@
 use mathlib.Core.Path.{◌≡◌, refl, sym, ap, subst, subst⁻¹, ◌∙◌}
 use mathlib.Core.Bool.{Bool, true, false, ◌&&◌}
 use mathlib.Core.List.{List, [], ◌∷◌}
-use Prim.Native.Nat.{ℕ, ◌+◌, ◌-◌, ◌*◌, ◌≤◌, ◌<◌}
+use Prim.Native.Nat.{ℕ, ◌+◌, ◌-◌, ◌<◌}
 use native.Mathlib.Omega.{arith}
 use lib.Dec.{eqb}
 use borrow.Author.Tests.{eq-eqb, ne_eqb}
 use denote.Enum.Declared.{tag_of}
-use lib.ListN.{length}
-use Rattle.grammar.specs.Image.{image}
-use Rattle.grammar.proofs.ImageLaws.{image-length}
-use Rattle.grammar.specs.Trees.{Trees, none, node, byte, number, span, count as size}
+use Rattle.grammar.specs.Trees.{Trees, none, byte, number, span, count as size}
 use Rattle.grammar.specs.Lexemes.{Lexeme, rest, kind_of}
-use Rattle.grammar.specs.Productions.{Phrase, Step, Body, end, goto, ◌▸◌, eat, close, rule, row, ◌∣◌, otherwise, always, expression, field_value}
+use Rattle.grammar.specs.Productions.{Phrase, Body, end, goto, ◌▸◌, eat, close, rule, row, ◌∣◌, otherwise, always, expression, field_value}
 use Rattle.grammar.specs.Reading.{Outcome, done, Reading, ended, gone as read_gone, eaten, production, view, choose, has}
 use Rattle.leaves.specs.Lexing.{Left, Stands, Moved, Colons, none_more, one_more, two_more}
-use Rattle.leaves.specs.Meets.{Ready, power, State, state, Seg, Breaks, Takes, Counted, Counts, Eats, bound}
+use Rattle.leaves.specs.Meets.{Ready, power, State, state, Seg, Breaks, Eats, bound}
 use Rattle.leaves.proofs.LexemeLaws.{Sees, sees, sees_next}
 use Rattle.leaves.proofs.LeafLaws.{ate_stands}
 use Rattle.leaves.specs.contracts.Answer.{the_type}

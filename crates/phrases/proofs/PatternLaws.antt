@@ -1,21 +1,18 @@
 -- Laws of patterns: what their phrases go on as, and the stretch over a field's name.
 -- Assumes nothing.
-use mathlib.Core.Path.{◌≡◌, refl, sym, ap, subst, subst⁻¹, ◌∙◌}
+use mathlib.Core.Path.{◌≡◌, refl, sym, ap, subst⁻¹, ◌∙◌}
 use mathlib.Core.Bool.{true}
 use mathlib.Core.Logic.{◌⊎◌, inl, inr}
 use mathlib.Core.List.{List, [], ◌∷◌}
-use Prim.Native.Nat.{ℕ, ◌+◌, ◌-◌, ◌≤◌, ◌<◌}
+use Prim.Native.Nat.{ℕ, ◌-◌}
 use native.Mathlib.Omega.{arith}
 use lib.Dec.{lit<, lit≤}
 use lib.Seq.{slice}
 use borrow.Author.Tests.{ne_eqb}
 use denote.Enum.Declared.{tag_of}
-use Rattle.grammar.specs.Trees.{byte, span, text, Trees, none, node, count as size}
-use Rattle.grammar.specs.Image.{image}
-use Rattle.grammar.proofs.ImageLaws.{image-length}
-use lib.ListN.{length}
+use Rattle.grammar.specs.Trees.{byte, span, text, Trees, count as size}
 use Rattle.grammar.specs.Lexemes.{Lexeme, Said, says, said, kind_of, word_of}
-use Rattle.grammar.specs.Productions.{Phrase, Body, Step, end, goto, ◌▸◌, eat, sub, deep, close, rule, expression, exp_destruct}
+use Rattle.grammar.specs.Productions.{Phrase, Body, end, goto, ◌▸◌, eat, sub, deep, close, rule, expression, exp_destruct}
 use Rattle.grammar.specs.Productions.{pattern, array_pattern, object_pattern, pattern_starts, pattern_starts_end, array_rest, array_rest_end, pattern_ends, pattern_ends_end, array_pattern_close, pattern_field, pattern_into, pattern_default, default_value, default_end, pattern_fields, pattern_fields_end, object_pattern_close, object_rest}
 use Rattle.grammar.specs.Reading.{has, choose, production, view, done, broken, Reading, ended, gone, eaten}
 use Rattle.leaves.specs.Lexing.{Stands, Moved}

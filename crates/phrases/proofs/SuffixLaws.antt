@@ -1,21 +1,15 @@
 -- Laws that suffixes and arguments rest on.
 -- Assumes nothing.
-use mathlib.Core.Path.{◌≡◌, refl, sym, ap, ap₂, subst, ◌∙◌}
+use mathlib.Core.Path.{◌≡◌, refl, sym, ap, ap₂, ◌∙◌}
 use mathlib.Core.Bool.{Bool, true, false, ◌&&◌}
 use mathlib.Core.List.{List, [], ◌∷◌}
-use Prim.Native.Nat.{ℕ, ◌+◌, ◌-◌, ◌*◌, ◌≤◌, ◌<◌}
+use Prim.Native.Nat.{ℕ, ◌+◌, ◌-◌, ◌*◌, ◌≤◌}
 use native.Mathlib.Omega.{arith}
 use lib.Dec.{eqb, lit<, lit≤}
-use lib.ListN.{length}
 use lib.Seq.{slice, length-slice}
 use borrow.Author.Tests.{eq-eqb, ne_eqb}
-use Rattle.lexemes.specs.declared.Lexeme.{Lexeme as Token}
-use Rattle.lexemes.specs.Lexeme.{lexeme}
-use Rattle.lexemes.specs.Kept.{NextKept}
-use Rattle.lexemes.proofs.KeptLaws.{next_once}
-use Rattle.grammar.specs.Trees.{byte, number, text, Trees, none, node, count as size}
-use Rattle.grammar.specs.Image.{image, entry, payload}
-use Rattle.grammar.proofs.ImageLaws.{image-length}
+use Rattle.grammar.specs.Trees.{text}
+use Rattle.grammar.specs.Image.{entry, payload}
 use Rattle.grammar.specs.Lexemes.{Lexeme, Said, said, rest, kind_of, word_of}
 use Rattle.grammar.specs.Writing.{Wrote}
 use Rattle.grammar.specs.Reading.{choose, has}

@@ -1,3 +1,4 @@
+#![tactic(auto)]
 // The phrase functions of ir-parser's lib.rs, in its order. They call each other in a cycle; at each call the depth that is left falls,
 // or it stays and the callee comes before its caller in the order of ranks. Lists and tails are loops: calls nest by depth alone.
 ghost use Rattle.std.specs.Prelude.{◌≡◌, [], ◌∷◌, ◌+◌, ◌-◌, ◌≤◌, ◌<◌, length};
@@ -23,7 +24,7 @@ use leaves::{
 use lexemes::kinds::Kind;
 
 // assert_stmt: assertion, condition, asserted.
-#[cycle(arg_args_array_assert_basic_bind_body_chain_claim_comp_cond_each_ends_expr_field_func_index_init_inside_item_link_load_local_member_name_obj_param_params_pat_rest_rhs_safe_sign_slice_spec_specs_step_value)]
+#[cycle(phrase)]
 fn assert(src: &[u8], out: &mut [u8], c: Cursor, w: usize, left: usize, set: u64) -> Answer
     requires { Ready src.now c w }
     ensures { Takes set src.now (sub assertion) 1 0 left c w out.old result out.new }
@@ -51,7 +52,7 @@ fn assert(src: &[u8], out: &mut [u8], c: Cursor, w: usize, left: usize, set: u64
 }
 
 // if_else, with if_spec_data's `if`: basic at `if`, else-part.
-#[cycle(arg_args_array_assert_basic_bind_body_chain_claim_comp_cond_each_ends_expr_field_func_index_init_inside_item_link_load_local_member_name_obj_param_params_pat_rest_rhs_safe_sign_slice_spec_specs_step_value)]
+#[cycle(phrase)]
 fn cond(src: &[u8], out: &mut [u8], c: Cursor, w: usize, left: usize, set: u64) -> Answer
     requires { Ready src.now c w × (c.kind ≡ IF_KW) }
     ensures { Leads set src.now left (state (goto basicPhrase) 0 c w out.old) 0 end 1 result out.new }
@@ -81,7 +82,7 @@ fn cond(src: &[u8], out: &mut [u8], c: Cursor, w: usize, left: usize, set: u64) 
 }
 
 // slice_desc, after its first `:`, with the start's span: slice-end, slice-ended.
-#[cycle(arg_args_array_assert_basic_bind_body_chain_claim_comp_cond_each_ends_expr_field_func_index_init_inside_item_link_load_local_member_name_obj_param_params_pat_rest_rhs_safe_sign_slice_spec_specs_step_value)]
+#[cycle(phrase)]
 fn slice(
     src: &[u8],
     out: &mut [u8],
@@ -117,7 +118,7 @@ fn slice(
 }
 
 // slice_desc, after its second `:`, with the spans of start and end: slice-step, slice-stepped.
-#[cycle(arg_args_array_assert_basic_bind_body_chain_claim_comp_cond_each_ends_expr_field_func_index_init_inside_item_link_load_local_member_name_obj_param_params_pat_rest_rhs_safe_sign_slice_spec_specs_step_value)]
+#[cycle(phrase)]
 fn step(
     src: &[u8],
     out: &mut [u8],
@@ -147,7 +148,7 @@ fn step(
 }
 
 // destruct, destruct_array: pattern; array-pattern up to `...` or `]`, that is pattern-starts, pattern-starts-end.
-#[cycle(arg_args_array_assert_basic_bind_body_chain_claim_comp_cond_each_ends_expr_field_func_index_init_inside_item_link_load_local_member_name_obj_param_params_pat_rest_rhs_safe_sign_slice_spec_specs_step_value)]
+#[cycle(phrase)]
 fn pat(src: &[u8], out: &mut [u8], c: Cursor, w: usize, left: usize, set: u64) -> Answer
     requires { Ready src.now c w }
     ensures { Takes set src.now (sub pattern) 1 0 left c w out.old result out.new }
@@ -191,7 +192,7 @@ fn pat(src: &[u8], out: &mut [u8], c: Cursor, w: usize, left: usize, set: u64) -
 }
 
 // destruct_rest in an array, after its `...`: array-rest.
-#[cycle(arg_args_array_assert_basic_bind_body_chain_claim_comp_cond_each_ends_expr_field_func_index_init_inside_item_link_load_local_member_name_obj_param_params_pat_rest_rhs_safe_sign_slice_spec_specs_step_value)]
+#[cycle(phrase)]
 fn rest(src: &[u8], out: &mut [u8], c: Cursor, w: usize, left: usize, set: u64, n: usize) -> Answer
     requires { Ready src.now c w × (n ≤ c.at) }
     ensures { Leads set src.now left (state (goto (array_rest n)) n c w out.old) 0 end 1 result out.new }
@@ -207,7 +208,7 @@ fn rest(src: &[u8], out: &mut [u8], c: Cursor, w: usize, left: usize, set: u64, 
 }
 
 // destruct_array after its rest: array-rest-end, pattern-ends, pattern-ends-end.
-#[cycle(arg_args_array_assert_basic_bind_body_chain_claim_comp_cond_each_ends_expr_field_func_index_init_inside_item_link_load_local_member_name_obj_param_params_pat_rest_rhs_safe_sign_slice_spec_specs_step_value)]
+#[cycle(phrase)]
 fn ends(
     src: &[u8],
     out: &mut [u8],
@@ -244,7 +245,7 @@ fn ends(
 }
 
 // destruct_object, after its `{`: pattern-fields, pattern-fields-end.
-#[cycle(arg_args_array_assert_basic_bind_body_chain_claim_comp_cond_each_ends_expr_field_func_index_init_inside_item_link_load_local_member_name_obj_param_params_pat_rest_rhs_safe_sign_slice_spec_specs_step_value)]
+#[cycle(phrase)]
 fn obj(src: &[u8], out: &mut [u8], c: Cursor, w: usize, left: usize, set: u64) -> Answer
     requires { Ready src.now c w }
     ensures { Leads set src.now left (state (goto pattern_fields) 0 c w out.old) 0 end 1 result out.new }
@@ -273,7 +274,7 @@ fn obj(src: &[u8], out: &mut [u8], c: Cursor, w: usize, left: usize, set: u64) -
 }
 
 // destruct_object, one field: pattern-field, pattern-into.
-#[cycle(arg_args_array_assert_basic_bind_body_chain_claim_comp_cond_each_ends_expr_field_func_index_init_inside_item_link_load_local_member_name_obj_param_params_pat_rest_rhs_safe_sign_slice_spec_specs_step_value)]
+#[cycle(phrase)]
 fn item(src: &[u8], out: &mut [u8], c: Cursor, w: usize, left: usize, set: u64) -> Answer
     requires { Ready src.now c w }
     ensures { Takes set src.now (sub pattern_field) 1 0 left c w out.old result out.new }
@@ -297,7 +298,7 @@ fn item(src: &[u8], out: &mut [u8], c: Cursor, w: usize, left: usize, set: u64) 
 }
 
 // destruct_object, one field's default: pattern-default, default-value, default-end.
-#[cycle(arg_args_array_assert_basic_bind_body_chain_claim_comp_cond_each_ends_expr_field_func_index_init_inside_item_link_load_local_member_name_obj_param_params_pat_rest_rhs_safe_sign_slice_spec_specs_step_value)]
+#[cycle(phrase)]
 fn init(
     src: &[u8],
     out: &mut [u8],
@@ -343,7 +344,7 @@ fn init(
 }
 
 // params: params, params-end.
-#[cycle(arg_args_array_assert_basic_bind_body_chain_claim_comp_cond_each_ends_expr_field_func_index_init_inside_item_link_load_local_member_name_obj_param_params_pat_rest_rhs_safe_sign_slice_spec_specs_step_value)]
+#[cycle(phrase)]
 fn params(src: &[u8], out: &mut [u8], c: Cursor, w: usize, left: usize, set: u64) -> WithCount
     requires { Ready src.now c w }
     ensures { Counts set src.now paramsPhrase 4 left c w out.old result out.new }
@@ -369,7 +370,7 @@ fn params(src: &[u8], out: &mut [u8], c: Cursor, w: usize, left: usize, set: u64
 }
 
 // params, one of them: param, param-default.
-#[cycle(arg_args_array_assert_basic_bind_body_chain_claim_comp_cond_each_ends_expr_field_func_index_init_inside_item_link_load_local_member_name_obj_param_params_pat_rest_rhs_safe_sign_slice_spec_specs_step_value)]
+#[cycle(phrase)]
 fn param(src: &[u8], out: &mut [u8], c: Cursor, w: usize, left: usize, set: u64) -> Answer
     requires { Ready src.now c w }
     ensures { TakesSome set src.now (sub paramPhrase) 1 4 left c w out.old result out.new }
@@ -391,7 +392,7 @@ fn param(src: &[u8], out: &mut [u8], c: Cursor, w: usize, left: usize, set: u64)
 }
 
 // args, after expr_suffix's `(`, which stood at `from`: arguments, argument-end.
-#[cycle(arg_args_array_assert_basic_bind_body_chain_claim_comp_cond_each_ends_expr_field_func_index_init_inside_item_link_load_local_member_name_obj_param_params_pat_rest_rhs_safe_sign_slice_spec_specs_step_value)]
+#[cycle(phrase)]
 fn args(
     src: &[u8],
     out: &mut [u8],
@@ -428,7 +429,7 @@ fn args(
 }
 
 // args, one of them, of which k says whether it is named: argument, named-argument.
-#[cycle(arg_args_array_assert_basic_bind_body_chain_claim_comp_cond_each_ends_expr_field_func_index_init_inside_item_link_load_local_member_name_obj_param_params_pat_rest_rhs_safe_sign_slice_spec_specs_step_value)]
+#[cycle(phrase)]
 fn arg(
     src: &[u8],
     out: &mut [u8],
@@ -465,7 +466,7 @@ fn arg(
 }
 
 // bind: bind, bind-named.
-#[cycle(arg_args_array_assert_basic_bind_body_chain_claim_comp_cond_each_ends_expr_field_func_index_init_inside_item_link_load_local_member_name_obj_param_params_pat_rest_rhs_safe_sign_slice_spec_specs_step_value)]
+#[cycle(phrase)]
 fn bind(src: &[u8], out: &mut [u8], c: Cursor, w: usize, left: usize, set: u64) -> Answer
     requires { Ready src.now c w }
     ensures { Takes set src.now (sub bindPhrase) 1 0 left c w out.old result out.new }
@@ -503,7 +504,7 @@ fn bind(src: &[u8], out: &mut [u8], c: Cursor, w: usize, left: usize, set: u64) 
 }
 
 // bind from its `=` on: bind-function, and the same of the other binds.
-#[cycle(arg_args_array_assert_basic_bind_body_chain_claim_comp_cond_each_ends_expr_field_func_index_init_inside_item_link_load_local_member_name_obj_param_params_pat_rest_rhs_safe_sign_slice_spec_specs_step_value)]
+#[cycle(phrase)]
 fn rhs(
     src: &[u8],
     out: &mut [u8],
@@ -530,7 +531,7 @@ fn rhs(
 }
 
 // field_name: field up to its name.
-#[cycle(arg_args_array_assert_basic_bind_body_chain_claim_comp_cond_each_ends_expr_field_func_index_init_inside_item_link_load_local_member_name_obj_param_params_pat_rest_rhs_safe_sign_slice_spec_specs_step_value)]
+#[cycle(phrase)]
 fn name(src: &[u8], out: &mut [u8], c: Cursor, w: usize, left: usize, set: u64) -> WithComputed
     requires { Ready src.now c w }
     ensures { Tells set src.now left (state (goto fieldPhrase) 0 c w out.old) (titled c.start) 1 result out.new }
@@ -550,7 +551,7 @@ fn name(src: &[u8], out: &mut [u8], c: Cursor, w: usize, left: usize, set: u64) 
 }
 
 // field: field, field-named.
-#[cycle(arg_args_array_assert_basic_bind_body_chain_claim_comp_cond_each_ends_expr_field_func_index_init_inside_item_link_load_local_member_name_obj_param_params_pat_rest_rhs_safe_sign_slice_spec_specs_step_value)]
+#[cycle(phrase)]
 fn field(src: &[u8], out: &mut [u8], c: Cursor, w: usize, left: usize, set: u64) -> Answer
     requires { Ready src.now c w }
     ensures { Takes set src.now (sub fieldPhrase) 1 0 left c w out.old result out.new }
@@ -603,7 +604,7 @@ fn field(src: &[u8], out: &mut [u8], c: Cursor, w: usize, left: usize, set: u64)
 }
 
 // field from its visibility on: field-value.
-#[cycle(arg_args_array_assert_basic_bind_body_chain_claim_comp_cond_each_ends_expr_field_func_index_init_inside_item_link_load_local_member_name_obj_param_params_pat_rest_rhs_safe_sign_slice_spec_specs_step_value)]
+#[cycle(phrase)]
 fn value(
     src: &[u8],
     out: &mut [u8],
@@ -631,7 +632,7 @@ fn value(
 }
 
 // member: member.
-#[cycle(arg_args_array_assert_basic_bind_body_chain_claim_comp_cond_each_ends_expr_field_func_index_init_inside_item_link_load_local_member_name_obj_param_params_pat_rest_rhs_safe_sign_slice_spec_specs_step_value)]
+#[cycle(phrase)]
 pub fn member(src: &[u8], out: &mut [u8], c: Cursor, w: usize, left: usize, set: u64) -> Answer
     requires { Ready src.now c w }
     ensures { Takes set src.now (sub memberPhrase) 1 0 left c w out.old result out.new }
@@ -646,7 +647,7 @@ pub fn member(src: &[u8], out: &mut [u8], c: Cursor, w: usize, left: usize, set:
 }
 
 // for_spec, after its `for`: for-clause.
-#[cycle(arg_args_array_assert_basic_bind_body_chain_claim_comp_cond_each_ends_expr_field_func_index_init_inside_item_link_load_local_member_name_obj_param_params_pat_rest_rhs_safe_sign_slice_spec_specs_step_value)]
+#[cycle(phrase)]
 fn spec(src: &[u8], out: &mut [u8], c: Cursor, w: usize, left: usize, set: u64) -> Answer
     requires { Ready src.now c w }
     ensures { Takes set src.now (sub for_clause) 1 0 left c w out.old result out.new }
@@ -671,7 +672,7 @@ fn spec(src: &[u8], out: &mut [u8], c: Cursor, w: usize, left: usize, set: u64) 
 }
 
 // for_spec, object iteration, at its header: header, iteration, iteration-value.
-#[cycle(arg_args_array_assert_basic_bind_body_chain_claim_comp_cond_each_ends_expr_field_func_index_init_inside_item_link_load_local_member_name_obj_param_params_pat_rest_rhs_safe_sign_slice_spec_specs_step_value)]
+#[cycle(phrase)]
 fn each(src: &[u8], out: &mut [u8], c: Cursor, w: usize, left: usize, set: u64) -> Answer
     requires { Ready src.now c w × HeaderAt set src.now c 1 }
     ensures { Leads set src.now left (state (goto for_clause) 0 c w out.old) 0 end 1 result out.new }
@@ -703,7 +704,7 @@ fn each(src: &[u8], out: &mut [u8], c: Cursor, w: usize, left: usize, set: u64) 
 }
 
 // compspecs, if_spec_data, at `for`: clauses, more-clauses, if-clause.
-#[cycle(arg_args_array_assert_basic_bind_body_chain_claim_comp_cond_each_ends_expr_field_func_index_init_inside_item_link_load_local_member_name_obj_param_params_pat_rest_rhs_safe_sign_slice_spec_specs_step_value)]
+#[cycle(phrase)]
 fn specs(src: &[u8], out: &mut [u8], c: Cursor, w: usize, left: usize, set: u64) -> WithCount
     requires { Ready src.now c w × (c.kind ≡ FOR_KW) }
     ensures { Counts set src.now clauses 0 left c w out.old result out.new }
@@ -736,7 +737,7 @@ fn specs(src: &[u8], out: &mut [u8], c: Cursor, w: usize, left: usize, set: u64)
 }
 
 // objinside: inside, members, next-member.
-#[cycle(arg_args_array_assert_basic_bind_body_chain_claim_comp_cond_each_ends_expr_field_func_index_init_inside_item_link_load_local_member_name_obj_param_params_pat_rest_rhs_safe_sign_slice_spec_specs_step_value)]
+#[cycle(phrase)]
 fn inside(src: &[u8], out: &mut [u8], c: Cursor, w: usize, left: usize, set: u64) -> Answer
     requires { Ready src.now c w }
     ensures { Takes set src.now (sub insidePhrase) 1 7 left c w out.old result out.new }
@@ -770,7 +771,7 @@ fn inside(src: &[u8], out: &mut [u8], c: Cursor, w: usize, left: usize, set: u64
 }
 
 // objinside, a comprehension of n members, at its `for`: comprehension, comprehension-end.
-#[cycle(arg_args_array_assert_basic_bind_body_chain_claim_comp_cond_each_ends_expr_field_func_index_init_inside_item_link_load_local_member_name_obj_param_params_pat_rest_rhs_safe_sign_slice_spec_specs_step_value)]
+#[cycle(phrase)]
 fn comp(
     src: &[u8],
     out: &mut [u8],
@@ -796,7 +797,7 @@ fn comp(
 }
 
 // expr_basic: basic.
-#[cycle(arg_args_array_assert_basic_bind_body_chain_claim_comp_cond_each_ends_expr_field_func_index_init_inside_item_link_load_local_member_name_obj_param_params_pat_rest_rhs_safe_sign_slice_spec_specs_step_value)]
+#[cycle(phrase)]
 fn basic(src: &[u8], out: &mut [u8], c: Cursor, w: usize, left: usize, set: u64) -> Answer
     requires { Ready src.now c w }
     ensures { Takes set src.now (sub basicPhrase) 1 0 left c w out.old result out.new }
@@ -838,7 +839,7 @@ fn basic(src: &[u8], out: &mut [u8], c: Cursor, w: usize, left: usize, set: u64)
 }
 
 // expr_basic's arrays, after `[`: array, array-first, array-comp, array-comp-end, elements, next-element.
-#[cycle(arg_args_array_assert_basic_bind_body_chain_claim_comp_cond_each_ends_expr_field_func_index_init_inside_item_link_load_local_member_name_obj_param_params_pat_rest_rhs_safe_sign_slice_spec_specs_step_value)]
+#[cycle(phrase)]
 fn array(src: &[u8], out: &mut [u8], c: Cursor, w: usize, left: usize, set: u64) -> Answer
     requires { Ready src.now c w }
     ensures { Leads set src.now left (state (goto arrayPhrase) 0 c w out.old) 0 end 1 result out.new }
@@ -880,7 +881,7 @@ fn array(src: &[u8], out: &mut [u8], c: Cursor, w: usize, left: usize, set: u64)
 }
 
 // expr_basic's local, after `local`: binds, binds-end.
-#[cycle(arg_args_array_assert_basic_bind_body_chain_claim_comp_cond_each_ends_expr_field_func_index_init_inside_item_link_load_local_member_name_obj_param_params_pat_rest_rhs_safe_sign_slice_spec_specs_step_value)]
+#[cycle(phrase)]
 fn local(src: &[u8], out: &mut [u8], c: Cursor, w: usize, left: usize, set: u64) -> Answer
     requires { Ready src.now c w }
     ensures { Leads set src.now left (state (goto binds) 0 c w out.old) 0 end 1 result out.new }
@@ -906,7 +907,7 @@ fn local(src: &[u8], out: &mut [u8], c: Cursor, w: usize, left: usize, set: u64)
 }
 
 // expr_basic's local from its `;` on: local-body.
-#[cycle(arg_args_array_assert_basic_bind_body_chain_claim_comp_cond_each_ends_expr_field_func_index_init_inside_item_link_load_local_member_name_obj_param_params_pat_rest_rhs_safe_sign_slice_spec_specs_step_value)]
+#[cycle(phrase)]
 fn body(src: &[u8], out: &mut [u8], c: Cursor, w: usize, left: usize, set: u64, n: usize) -> Answer
     requires { Ready src.now c w × (n ≤ c.at) }
     ensures { Leads set src.now left (state (goto local_body) n c w out.old) 0 end 1 result out.new }
@@ -924,7 +925,7 @@ fn body(src: &[u8], out: &mut [u8], c: Cursor, w: usize, left: usize, set: u64, 
 }
 
 // expr_basic's function: basic at `function`, function-body.
-#[cycle(arg_args_array_assert_basic_bind_body_chain_claim_comp_cond_each_ends_expr_field_func_index_init_inside_item_link_load_local_member_name_obj_param_params_pat_rest_rhs_safe_sign_slice_spec_specs_step_value)]
+#[cycle(phrase)]
 fn func(src: &[u8], out: &mut [u8], c: Cursor, w: usize, left: usize, set: u64) -> Answer
     requires { Ready src.now c w × (c.kind ≡ FUNCTION_KW) }
     ensures { Leads set src.now left (state (goto basicPhrase) 0 c w out.old) 0 end 1 result out.new }
@@ -950,7 +951,7 @@ fn func(src: &[u8], out: &mut [u8], c: Cursor, w: usize, left: usize, set: u64) 
 }
 
 // expr_basic's assert: basic at `assert`.
-#[cycle(arg_args_array_assert_basic_bind_body_chain_claim_comp_cond_each_ends_expr_field_func_index_init_inside_item_link_load_local_member_name_obj_param_params_pat_rest_rhs_safe_sign_slice_spec_specs_step_value)]
+#[cycle(phrase)]
 fn claim(src: &[u8], out: &mut [u8], c: Cursor, w: usize, left: usize, set: u64) -> Answer
     requires { Ready src.now c w × (c.kind ≡ ASSERT_KW) }
     ensures { Leads set src.now left (state (goto basicPhrase) 0 c w out.old) 0 end 1 result out.new }
@@ -972,7 +973,7 @@ fn claim(src: &[u8], out: &mut [u8], c: Cursor, w: usize, left: usize, set: u64)
 }
 
 // expr_basic's imports, whose kind is which: basic at `import`, `importstr`, `importbin`.
-#[cycle(arg_args_array_assert_basic_bind_body_chain_claim_comp_cond_each_ends_expr_field_func_index_init_inside_item_link_load_local_member_name_obj_param_params_pat_rest_rhs_safe_sign_slice_spec_specs_step_value)]
+#[cycle(phrase)]
 fn load(src: &[u8], out: &mut [u8], c: Cursor, w: usize, left: usize, set: u64, which: u8) -> Answer
     requires { Ready src.now c w × Imports c.kind which }
     ensures { Leads set src.now left (state (goto basicPhrase) 0 c w out.old) 0 end 1 result out.new }
@@ -986,7 +987,7 @@ fn load(src: &[u8], out: &mut [u8], c: Cursor, w: usize, left: usize, set: u64, 
 }
 
 // expr_suffix: suffixed, and the loop over its suffixes.
-#[cycle(arg_args_array_assert_basic_bind_body_chain_claim_comp_cond_each_ends_expr_field_func_index_init_inside_item_link_load_local_member_name_obj_param_params_pat_rest_rhs_safe_sign_slice_spec_specs_step_value)]
+#[cycle(phrase)]
 fn chain(src: &[u8], out: &mut [u8], c: Cursor, w: usize, left: usize, set: u64) -> Answer
     requires { Ready src.now c w }
     ensures { Takes set src.now (sub suffixed) 1 0 left c w out.old result out.new }
@@ -1013,7 +1014,7 @@ fn chain(src: &[u8], out: &mut [u8], c: Cursor, w: usize, left: usize, set: u64)
 }
 
 // expr_suffix, one suffix: suffix.
-#[cycle(arg_args_array_assert_basic_bind_body_chain_claim_comp_cond_each_ends_expr_field_func_index_init_inside_item_link_load_local_member_name_obj_param_params_pat_rest_rhs_safe_sign_slice_spec_specs_step_value)]
+#[cycle(phrase)]
 fn link(
     src: &[u8],
     out: &mut [u8],
@@ -1049,7 +1050,7 @@ fn link(
 }
 
 // expr_suffix, after `?`: null-safe, null-safe-index, null-safe-end.
-#[cycle(arg_args_array_assert_basic_bind_body_chain_claim_comp_cond_each_ends_expr_field_func_index_init_inside_item_link_load_local_member_name_obj_param_params_pat_rest_rhs_safe_sign_slice_spec_specs_step_value)]
+#[cycle(phrase)]
 fn safe(
     src: &[u8],
     out: &mut [u8],
@@ -1083,7 +1084,7 @@ fn safe(
 }
 
 // expr_suffix, after `[`: bracket, index-or-slice.
-#[cycle(arg_args_array_assert_basic_bind_body_chain_claim_comp_cond_each_ends_expr_field_func_index_init_inside_item_link_load_local_member_name_obj_param_params_pat_rest_rhs_safe_sign_slice_spec_specs_step_value)]
+#[cycle(phrase)]
 fn index(
     src: &[u8],
     out: &mut [u8],
@@ -1128,7 +1129,7 @@ fn index(
 }
 
 // expr_bp up to its loop: expr.
-#[cycle(arg_args_array_assert_basic_bind_body_chain_claim_comp_cond_each_ends_expr_field_func_index_init_inside_item_link_load_local_member_name_obj_param_params_pat_rest_rhs_safe_sign_slice_spec_specs_step_value)]
+#[cycle(phrase)]
 fn sign(src: &[u8], out: &mut [u8], c: Cursor, w: usize, left: usize, set: u64, least: u8) -> Answer
     requires { Ready src.now c w }
     ensures { Leads set src.now left (state (goto (exprPhrase least)) 0 c w out.old) 0 (goto (infix_tail least)) 1 result out.new }
@@ -1146,7 +1147,7 @@ fn sign(src: &[u8], out: &mut [u8], c: Cursor, w: usize, left: usize, set: u64, 
 }
 
 // expr_bp: expr, one level deeper, infix-tail.
-#[cycle(arg_args_array_assert_basic_bind_body_chain_claim_comp_cond_each_ends_expr_field_func_index_init_inside_item_link_load_local_member_name_obj_param_params_pat_rest_rhs_safe_sign_slice_spec_specs_step_value)]
+#[cycle(phrase)]
 pub fn expr(
     src: &[u8],
     out: &mut [u8],

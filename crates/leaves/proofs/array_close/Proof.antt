@@ -8,39 +8,37 @@ use Rattle.leaves.proofs.Steps
 use Rattle.leaves.proofs.array_close.Statement.{statement}
 use Rattle.leaves.proofs.array_close.Tie as tie
 
-eat_requires : tie.Need-eat-requires
+eat_requires : tie.Need-eat-a-requires
 eat_requires c κs = search rules
 
-enum_known_a : tie.Need-enum-known-a
+enum_known_a : tie.Need-enum_known-a
 enum_known_a c = search rules
 
-enum_told : tie.Need-enum-told
+enum_told : tie.Need-enum_told-1
 enum_told c = search rules
 
-returns : tie.Need-returns
+returns : tie.Need-returns-in_default
 returns c =
-    let eat' = c.before.before.eat in
-    let matched' = c.before.match in
+    let eat' = c.eat-a in
+    let matched' = c.in_default.in_default-own in
     record { ends = λ g d n. Steps.passed (Steps.eats_broken eat'.ensures matched'.keys2) Steps.here }
 
-put_count_requires : tie.Need-put-count-requires
+put_count_requires : tie.Need-put_count-w2-requires
 put_count_requires c κs =
-    let eat' = c.before.before.before.before.eat in
-    let a' = c.before.before.a in
-    let pre' = c.before.before.before.before.before.before.before.requires in
-    let moved = eat'.ensures.moved _ _ _ a'.given.1 in
+    let eat' = c.eat-a in
+    let pre' = c.requires in
+    let moved = eat'.ensures.moved _ _ _ c.in-Done.is in
     (omega (arith, moved.1, fits pre'.0), few pre'.0 pre'.1)
 
-same_length : tie.Need-same-length
+same_length : tie.Need-shape_of-out
 same_length c = search rules
 
-returns_2 : tie.Need-returns-2
+returns_2 : tie.Need-returns
 unfolding entry payload
 returns_2 c =
-    let put-count' = c.before.before.put_count in
-    let eat' = c.before.before.before.before.before.before.before.eat in
-    let a' = c.before.before.before.before.before.a in
-    record { ends = λ g d n. Steps.ends (omega arith) (Steps.closed 5 (omega arith) put-count'.ensures (Steps.ate eat'.ensures a'.given.1 Steps.here)) }
+    let put-count' = c.put_count-w2 in
+    let eat' = c.eat-a in
+    record { ends = λ g d n. Steps.ends (omega arith) (Steps.closed 5 (omega arith) put-count'.ensures (Steps.ate eat'.ensures c.in-Done.is Steps.here)) }
 
 pub array_close_spec : {M : Type 1} → statement M
 array_close_spec =

@@ -14,105 +14,105 @@ use Rattle.leaves.proofs.Steps
 use Rattle.leaves.proofs.atom.Statement.{statement}
 use Rattle.leaves.proofs.atom.Tie as tie
 
-eat_any_requires : tie.Need-eat-any-requires
+eat_any_requires : tie.Need-eat_any-requires
 eat_any_requires c κs = search rules
 
-put_kind_requires : tie.Need-put-kind-requires
+put_kind_requires : tie.Need-put_kind-requires
 put_kind_requires c κs =
-    let pre' = c.before.before.before.before.before.requires in
+    let pre' = c.requires in
     let places = within pre'.0 in
     (fits pre'.0, places.0, places.1)
 
-eat_any_requires_2 : tie.Need-eat-any-requires-2
+eat_any_requires_2 : tie.Need-eat_any-requires-in-82
 eat_any_requires_2 c κs = search rules
 
-put_kind_requires_2 : tie.Need-put-kind-requires-2
+put_kind_requires_2 : tie.Need-put_kind-requires-in-82
 put_kind_requires_2 c κs =
-    let pre' = c.before.before.before.before.before.requires in
+    let pre' = c.requires in
     let places = within pre'.0 in
     (fits pre'.0, places.0, places.1)
 
-eat_any_requires_3 : tie.Need-eat-any-requires-3
+eat_any_requires_3 : tie.Need-eat_any-requires-in-34
 eat_any_requires_3 c κs = search rules
 
-put_kind_requires_3 : tie.Need-put-kind-requires-3
+put_kind_requires_3 : tie.Need-put_kind-requires-in-34
 put_kind_requires_3 c κs =
-    let pre' = c.before.before.before.before.before.requires in
+    let pre' = c.requires in
     let places = within pre'.0 in
     (fits pre'.0, places.0, places.1)
 
-eat_any_requires_4 : tie.Need-eat-any-requires-4
+eat_any_requires_4 : tie.Need-eat_any-requires-in-78
 eat_any_requires_4 c κs = search rules
 
-put_none_requires : tie.Need-put-none-requires
+put_none_requires : tie.Need-put_none-requires
 put_none_requires c κs = search rules
 
-eat_any_requires_5 : tie.Need-eat-any-requires-5
+eat_any_requires_5 : tie.Need-eat_any-requires-in-79
 eat_any_requires_5 c κs = search rules
 
-put_flag_requires : tie.Need-put-flag-requires
+put_flag_requires : tie.Need-put_flag-requires
 put_flag_requires c κs = search rules
 
-eat_any_requires_6 : tie.Need-eat-any-requires-6
+eat_any_requires_6 : tie.Need-eat_any-requires-in-80
 eat_any_requires_6 c κs = search rules
 
-put_flag_requires_2 : tie.Need-put-flag-requires-2
+put_flag_requires_2 : tie.Need-put_flag-requires-in-80
 put_flag_requires_2 c κs = search rules
 
-parse_number_requires : tie.Need-parse-number-requires
+parse_number_requires : tie.Need-parse_number-requires
 parse_number_requires c κs = search rules
 
-eat_any_requires_7 : tie.Need-eat-any-requires-7
+eat_any_requires_7 : tie.Need-eat_any-requires-in-55
 eat_any_requires_7 c κs = search rules
 
-cast_put_name : tie.Need-overflow-cast-put-name
+cast_put_name : tie.Need-overflow_cast-start
 cast_put_name c = search rules
 
-cast_put_name_2 : tie.Need-overflow-cast-put-name-2
+cast_put_name_2 : tie.Need-overflow_cast-end
 cast_put_name_2 c = search rules
 
-sub_put_name : tie.Need-overflow-sub-put-name
+sub_put_name : tie.Need-slice_bounds-put_name-count
 sub_put_name c =
-    let pre' = c.before.before.before.before.before.requires in
+    let pre' = c.requires in
     let st = pre'.0.stands in
     (lies st).on
 
-part_put_name_start : tie.Need-slice-bounds-put-name-start
+part_put_name_start : tie.Need-slice_bounds-put_name-start
 part_put_name_start c =
-    let pre' = c.before.before.before.before.before.requires in
+    let pre' = c.requires in
     let st = pre'.0.stands in
     (lies st).on
 
-part_put_name_end : tie.Need-slice-bounds-put-name-end
+part_put_name_end : tie.Need-slice_bounds-put_name-end
 part_put_name_end c = search rules
 
-put_name_requires : tie.Need-put-name-requires
+put_name_requires : tie.Need-put_name-requires
 put_name_requires c κs =
-    let pre' = c.before.before.before.before.before.before.requires in
+    let pre' = c.requires in
     let places = within pre'.0 in
     (fits pre'.0, places.0, places.1, omega (arith, bytes_short pre'.0))
 
-is_string_token_requires : tie.Need-is-string-token-requires
+is_string_token_requires : tie.Need-is_string_token-requires
 is_string_token_requires c κs = search rules
 
-parse_string_content_requires : tie.Need-parse-string-content-requires
+parse_string_content_requires : tie.Need-parse_string_content-requires
 parse_string_content_requires c κs =
-    let is-string-token' = c.before.before.is-string-token in
-    let if1' = c.before.if1 in
-    let pre' = c.before.before.before.before.before.before.requires in
+    let is-string-token' = c.is_string_token in
+    let if1' = c.if-is_string_token in
+    let pre' = c.requires in
     let quoted = is_quoted is-string-token'.ensures if1'.true in
     (pre'.0, quoted)
 
-same_length : tie.Need-same-length
+same_length : tie.Need-shape_of-out-then-is_string_token
 same_length c = search rules
 
-returns : tie.Need-returns
+returns : tie.Need-returns-then-is_string_token
 returns c =
-    let pre' = c.before.before.before.before.before.before.before.before.before.requires in
-    let is-string-token' = c.before.before.before.before.before.is-string-token in
-    let if1' = c.before.before.before.before.if1 in
-    let parse-string-content' = c.before.before.parse-string-content in
-    let args' = c.before.before.before.before.before.before.before.before.before.args in
+    let pre' = c.requires in
+    let is-string-token' = c.is_string_token in
+    let if1' = c.if-is_string_token in
+    let parse-string-content' = c.parse_string_content in
+    let args' = c.args in
     let st = pre'.0.stands in
     let quoted = is_quoted is-string-token'.ensures if1'.true in
     record {
@@ -124,118 +124,111 @@ returns c =
 error_requires : tie.Need-error-requires
 error_requires c κs = search rules
 
-same_length_2 : tie.Need-same-length-2
+same_length_2 : tie.Need-shape_of-out-in-81
 same_length_2 c = search rules
 
-returns_2 : tie.Need-returns-2
+returns_2 : tie.Need-returns-in-81
 unfolding entry payload
 returns_2 c =
-    let pre' = c.before.before.before.before.before.before.before.before.requires in
-    let matched' = c.before.before.before.before.before.match in
-    let args' = c.before.before.before.before.before.before.before.before.args in
-    let eat-any' = c.before.before.before.before.eat-any in
-    let put-kind' = c.before.before.put-kind in
+    let pre' = c.requires in
+    let args' = c.args in
+    let eat-any' = c.eat_any in
+    let put-kind' = c.put_kind in
     let st = pre'.0.stands in
-    record { ends = λ g d. one_leaf st matched'.keys1 (lit< tt) (λ xs t. a_self g args'.c xs 0 t) eat-any'.ensures (omega arith) put-kind'.ensures }
+    record { ends = λ g d. one_leaf st c.in-81.is (lit< tt) (λ xs t. a_self g args'.c xs 0 t) eat-any'.ensures (omega arith) put-kind'.ensures }
 
-same_length_3 : tie.Need-same-length-3
+same_length_3 : tie.Need-shape_of-out-in-82
 same_length_3 c = search rules
 
-returns_3 : tie.Need-returns-3
+returns_3 : tie.Need-returns-in-82
 unfolding entry payload
 returns_3 c =
-    let pre' = c.before.before.before.before.before.before.before.before.requires in
-    let matched' = c.before.before.before.before.before.match in
-    let args' = c.before.before.before.before.before.before.before.before.args in
-    let eat-any2' = c.before.before.before.before.eat-any2 in
-    let put-kind2' = c.before.before.put-kind2 in
+    let pre' = c.requires in
+    let args' = c.args in
+    let eat-any2' = c.eat_any-in-82 in
+    let put-kind2' = c.put_kind-in-82 in
     let st = pre'.0.stands in
-    record { ends = λ g d. one_leaf st matched'.keys2 (lit< tt) (λ xs t. a_super g args'.c xs 0 t) eat-any2'.ensures (omega arith) put-kind2'.ensures }
+    record { ends = λ g d. one_leaf st c.in-82.is (lit< tt) (λ xs t. a_super g args'.c xs 0 t) eat-any2'.ensures (omega arith) put-kind2'.ensures }
 
-same_length_4 : tie.Need-same-length-4
+same_length_4 : tie.Need-shape_of-out-in-34
 same_length_4 c = search rules
 
-returns_4 : tie.Need-returns-4
+returns_4 : tie.Need-returns-in-34
 unfolding entry payload
 returns_4 c =
-    let pre' = c.before.before.before.before.before.before.before.before.requires in
-    let matched' = c.before.before.before.before.before.match in
-    let args' = c.before.before.before.before.before.before.before.before.args in
-    let eat-any3' = c.before.before.before.before.eat-any3 in
-    let put-kind3' = c.before.before.put-kind3 in
+    let pre' = c.requires in
+    let args' = c.args in
+    let eat-any3' = c.eat_any-in-34 in
+    let put-kind3' = c.put_kind-in-34 in
     let st = pre'.0.stands in
-    record { ends = λ g d. one_leaf st matched'.keys3 (lit< tt) (λ xs t. a_dollar g args'.c xs 0 t) eat-any3'.ensures (omega arith) put-kind3'.ensures }
+    record { ends = λ g d. one_leaf st c.in-34.is (lit< tt) (λ xs t. a_dollar g args'.c xs 0 t) eat-any3'.ensures (omega arith) put-kind3'.ensures }
 
-same_length_5 : tie.Need-same-length-5
+same_length_5 : tie.Need-shape_of-out-in-78
 same_length_5 c = search rules
 
-returns_5 : tie.Need-returns-5
+returns_5 : tie.Need-returns-in-78
 unfolding entry payload
 returns_5 c =
-    let pre' = c.before.before.before.before.before.before.before.before.requires in
-    let matched' = c.before.before.before.before.before.match in
-    let args' = c.before.before.before.before.before.before.before.before.args in
-    let eat-any4' = c.before.before.before.before.eat-any4 in
-    let put-none' = c.before.before.put-none in
+    let pre' = c.requires in
+    let args' = c.args in
+    let eat-any4' = c.eat_any-in-78 in
+    let put-none' = c.put_none in
     let st = pre'.0.stands in
-    record { ends = λ g d. one_leaf st matched'.keys4 (lit< tt) (λ xs t. a_null g args'.c xs 0 t) eat-any4'.ensures (omega arith) put-none'.ensures }
+    record { ends = λ g d. one_leaf st c.in-78.is (lit< tt) (λ xs t. a_null g args'.c xs 0 t) eat-any4'.ensures (omega arith) put-none'.ensures }
 
-same_length_6 : tie.Need-same-length-6
+same_length_6 : tie.Need-shape_of-out-in-79
 same_length_6 c = search rules
 
-returns_6 : tie.Need-returns-6
+returns_6 : tie.Need-returns-in-79
 unfolding entry payload
 returns_6 c =
-    let pre' = c.before.before.before.before.before.before.before.before.requires in
-    let matched' = c.before.before.before.before.before.match in
-    let args' = c.before.before.before.before.before.before.before.before.args in
-    let eat-any5' = c.before.before.before.before.eat-any5 in
-    let put-flag' = c.before.before.put-flag in
+    let pre' = c.requires in
+    let args' = c.args in
+    let eat-any5' = c.eat_any-in-79 in
+    let put-flag' = c.put_flag in
     let st = pre'.0.stands in
-    record { ends = λ g d. one_leaf st matched'.keys5 (lit< tt) (λ xs t. a_true g args'.c xs 0 t) eat-any5'.ensures (omega arith) put-flag'.ensures }
+    record { ends = λ g d. one_leaf st c.in-79.is (lit< tt) (λ xs t. a_true g args'.c xs 0 t) eat-any5'.ensures (omega arith) put-flag'.ensures }
 
-same_length_7 : tie.Need-same-length-7
+same_length_7 : tie.Need-shape_of-out-in-80
 same_length_7 c = search rules
 
-returns_7 : tie.Need-returns-7
+returns_7 : tie.Need-returns-in-80
 unfolding entry payload
 returns_7 c =
-    let pre' = c.before.before.before.before.before.before.before.before.requires in
-    let matched' = c.before.before.before.before.before.match in
-    let args' = c.before.before.before.before.before.before.before.before.args in
-    let eat-any6' = c.before.before.before.before.eat-any6 in
-    let put-flag2' = c.before.before.put-flag2 in
+    let pre' = c.requires in
+    let args' = c.args in
+    let eat-any6' = c.eat_any-in-80 in
+    let put-flag2' = c.put_flag-in-80 in
     let st = pre'.0.stands in
-    record { ends = λ g d. one_leaf st matched'.keys6 (lit< tt) (λ xs t. a_false g args'.c xs 0 t) eat-any6'.ensures (omega arith) put-flag2'.ensures }
+    record { ends = λ g d. one_leaf st c.in-80.is (lit< tt) (λ xs t. a_false g args'.c xs 0 t) eat-any6'.ensures (omega arith) put-flag2'.ensures }
 
-same_length_8 : tie.Need-same-length-8
+same_length_8 : tie.Need-shape_of-out-in-37
 same_length_8 c = search rules
 
-returns_8 : tie.Need-returns-8
+returns_8 : tie.Need-returns-in-37
 returns_8 c = search rules
 
-same_length_9 : tie.Need-same-length-9
+same_length_9 : tie.Need-shape_of-out-in-55
 same_length_9 c = search rules
 
-returns_9 : tie.Need-returns-9
+returns_9 : tie.Need-returns-in-55
 returns_9 c =
-    let pre' = c.before.before.before.before.before.before.before.before.before.requires in
-    let args' = c.before.before.before.before.before.before.before.before.before.args in
-    let matched' = c.before.before.before.before.before.before.match in
-    let eat-any7' = c.before.before.before.before.before.eat-any7 in
-    let put-name' = c.before.before.put-name in
+    let pre' = c.requires in
+    let args' = c.args in
+    let eat-any7' = c.eat_any-in-55 in
+    let put-name' = c.put_name in
     let st = pre'.0.stands in
     let src = args'.src.now in
     let name = slice args'.c.start args'.c.end src in
-    record { ends = λ g d. one_name 6 st matched'.keys8 (λ xs. a_variable g args'.c xs 0 name) eat-any7'.ensures put-name'.ensures }
+    record { ends = λ g d. one_name 6 st c.in-55.is (λ xs. a_variable g args'.c xs 0 name) eat-any7'.ensures put-name'.ensures }
 
-returns_10 : tie.Need-returns-10
+returns_10 : tie.Need-returns-else-is_string_token
 returns_10 c =
-    let pre' = c.before.before.before.before.before.before.requires in
-    let matched' = c.before.before.before.match in
-    let is-string-token' = c.before.before.is-string-token in
-    let if1' = c.before.if1 in
-    let args' = c.before.before.before.before.before.before.args in
+    let pre' = c.requires in
+    let matched' = c.in_default.in_default-own in
+    let is-string-token' = c.is_string_token in
+    let if1' = c.if-is_string_token in
+    let args' = c.args in
     let error' = c.error in
     let st = pre'.0.stands in
     let others = matched'.rest in

@@ -6,34 +6,29 @@ use Rattle.leaves.specs.Lexing.{double, single, double_verbatim, single_verbatim
 use Rattle.leaves.proofs.is_string_token.Statement.{statement}
 use Rattle.leaves.proofs.is_string_token.Tie as tie
 
-returns : tie.Need-returns
+returns : tie.Need-returns-in-41
 returns c =
-    let matched' = c.match in
-    a_string double matched'.keys1
+    a_string double c.in-41.is
 
-returns_2 : tie.Need-returns-2
+returns_2 : tie.Need-returns-in-43
 returns_2 c =
-    let matched' = c.match in
-    a_string single matched'.keys2
+    a_string single c.in-43.is
 
-returns_3 : tie.Need-returns-3
+returns_3 : tie.Need-returns-in-45
 returns_3 c =
-    let matched' = c.match in
-    a_string double_verbatim matched'.keys3
+    a_string double_verbatim c.in-45.is
 
-returns_4 : tie.Need-returns-4
+returns_4 : tie.Need-returns-in-47
 returns_4 c =
-    let matched' = c.match in
-    a_string single_verbatim matched'.keys4
+    a_string single_verbatim c.in-47.is
 
-returns_5 : tie.Need-returns-5
+returns_5 : tie.Need-returns-in-50
 returns_5 c =
-    let matched' = c.match in
-    a_string block matched'.keys5
+    a_string block c.in-50.is
 
-returns_6 : tie.Need-returns-6
+returns_6 : tie.Need-returns-in_default
 returns_6 c =
-    let matched' = c.match in
+    let matched' = c.in_default.in_default-own in
     no_string (λ z. omega (arith, z, matched'.rest)) (λ z. omega (arith, z, matched'.rest)) (λ z. omega (arith, z, matched'.rest)) (λ z. omega (arith, z, matched'.rest)) (λ z. omega (arith, z, matched'.rest))
 
 pub is_string_token_spec : {M : Type 1} → statement M

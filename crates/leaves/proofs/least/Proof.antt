@@ -6,11 +6,11 @@ use native.Mathlib.Omega.{arith}
 use Rattle.leaves.proofs.least.Statement.{statement}
 use Rattle.leaves.proofs.least.Tie as tie
 
-returns : tie.Need-returns
+returns : tie.Need-returns-then-a-b
 returns c =
     (omega arith, inl refl)
 
-returns_2 : tie.Need-returns-2
+returns_2 : tie.Need-returns-else-a-b
 returns_2 c =
     (omega arith, inr (refl, omega arith))
 

@@ -20,11 +20,11 @@ use Rattle.leaves.proofs.member_name.Tie as tie
 error_requires : tie.Need-error-requires
 error_requires c κs = search rules
 
-returns : tie.Need-returns
+returns : tie.Need-returns-then-c-ne-IDENT
 returns c =
-    let pre' = c.before.before.before.before.before.requires in
-    let args' = c.before.before.before.before.before.args in
-    let if1' = c.before.if1 in
+    let pre' = c.requires in
+    let args' = c.args in
+    let if1' = c.if-c-ne-IDENT in
     let error' = c.error in
     let st = pre'.0.stands in
     record {
@@ -34,60 +34,60 @@ returns c =
           error'.ensures;
     }
 
-cast_put_word : tie.Need-overflow-cast-put-word
+cast_put_word : tie.Need-overflow_cast-start
 cast_put_word c = search rules
 
-cast_put_word_2 : tie.Need-overflow-cast-put-word-2
+cast_put_word_2 : tie.Need-overflow_cast-end
 cast_put_word_2 c = search rules
 
-sub_put_word : tie.Need-overflow-sub-put-word
+sub_put_word : tie.Need-slice_bounds-put_word-count
 sub_put_word c =
-    let pre' = c.before.before.before.before.before.requires in
+    let pre' = c.requires in
     let st = pre'.0.stands in
     (lies st).on
 
-part_put_word_start : tie.Need-slice-bounds-put-word-start
+part_put_word_start : tie.Need-slice_bounds-put_word-start
 part_put_word_start c =
-    let pre' = c.before.before.before.before.before.requires in
+    let pre' = c.requires in
     let st = pre'.0.stands in
     (lies st).on
 
-part_put_word_end : tie.Need-slice-bounds-put-word-end
+part_put_word_end : tie.Need-slice_bounds-put_word-end
 part_put_word_end c =
-    let pre' = c.before.before.before.before.before.requires in
+    let pre' = c.requires in
     let st = pre'.0.stands in
     (lies st).within
 
-put_word_requires : tie.Need-put-word-requires
+put_word_requires : tie.Need-put_word-w1-requires
 put_word_requires c κs =
-    let pre' = c.before.before.before.before.before.before.requires in
+    let pre' = c.requires in
     (fits pre'.0, omega (arith, bytes_short pre'.0))
 
-put_index_requires : tie.Need-put-index-requires
+put_index_requires : tie.Need-put_index-w2-requires
 unfolding entry payload
 put_index_requires c κs =
-    let pre' = c.before.before.before.before.before.before.before.before.before.before.requires in
-    let put-word' = c.before.before.before.put_word in
+    let pre' = c.requires in
+    let put-word' = c.put_word-w1 in
     let st = pre'.0.stands in
     let places = within pre'.0 in
     let size = bytes_short pre'.0 in
     (omega (arith, put-word'.ensures.to, size, pre'.0.room, pre'.0.stands.short, st.within), places.0, places.1, pre'.1)
 
-eat_any_requires : tie.Need-eat-any-requires
+eat_any_requires : tie.Need-eat_any-requires
 eat_any_requires c κs = search rules
 
-same_length : tie.Need-same-length
+same_length : tie.Need-shape_of-out
 same_length c = search rules
 
-returns_2 : tie.Need-returns-2
+returns_2 : tie.Need-returns
 unfolding entry payload
 returns_2 c =
-    let args' = c.before.before.before.before.before.before.before.before.before.before.before.before.before.before.args in
-    let pre' = c.before.before.before.before.before.before.before.before.before.before.before.before.before.before.requires in
-    let put-word' = c.before.before.before.before.before.before.before.put_word in
-    let if1' = c.before.before.before.before.before.before.before.before.before.before.if1 in
-    let put-index' = c.before.before.before.put-index in
-    let eat-any' = c.eat-any in
+    let args' = c.args in
+    let pre' = c.requires in
+    let put-word' = c.put_word-w1 in
+    let if1' = c.if-c-ne-IDENT in
+    let put-index' = c.put_index-w2 in
+    let eat-any' = c.eat_any in
     let src = args'.src.now in
     let name = slice args'.c.start args'.c.end src in
     let st = pre'.0.stands in

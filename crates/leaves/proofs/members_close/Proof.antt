@@ -7,16 +7,16 @@ use Rattle.leaves.proofs.Steps
 use Rattle.leaves.proofs.members_close.Statement.{statement}
 use Rattle.leaves.proofs.members_close.Tie as tie
 
-put_count_requires : tie.Need-put-count-requires
+put_count_requires : tie.Need-put_count-w1-requires
 put_count_requires c κs = search rules
 
-same_length : tie.Need-same-length
+same_length : tie.Need-shape_of-out
 same_length c = search rules
 
 returns : tie.Need-returns
 unfolding entry payload
 returns c =
-    let put-count' = c.before.before.put_count in
+    let put-count' = c.put_count-w1 in
     record { ends = λ s. record { ends = λ g d n. Steps.owes (omega arith) (Steps.closed 5 (omega arith) put-count'.ensures Steps.here) } }
 
 pub members_close_spec : {M : Type 1} → statement M

@@ -9,7 +9,6 @@ use Rattle.leaves.proofs.LeafRules.{a_number}
 use Rattle.leaves.proofs.LexemeLaws.{lies}
 use Rattle.leaves.proofs.PartLaws.{lent, sets-rest, text_wrote}
 use Rattle.leaves.proofs.TextLaws.{meaning, means_short}
-use Rattle.leaves.specs.Lexing.{same}
 use lib.Dec.{lit<}
 use lib.ListN.{drop, length, take}
 use lib.Seq.{sets, slice}
@@ -23,55 +22,55 @@ use Rattle.lexemes.specs.Texts.{plain}
 use Rattle.leaves.proofs.number_in_range.Statement.{statement}
 use Rattle.leaves.proofs.number_in_range.Tie as tie
 
-add_least : tie.Need-overflow-add-least
+add_least : tie.Need-overflow_add-w
 add_least c = search rules
 
-least_requires : tie.Need-least-requires
+least_requires : tie.Need-least-from-requires
 least_requires c κs = search rules
 
-cast_plain : tie.Need-overflow-cast-plain
+cast_plain : tie.Need-overflow_cast-start
 cast_plain c = search rules
 
-cast_plain_2 : tie.Need-overflow-cast-plain-2
+cast_plain_2 : tie.Need-overflow_cast-end
 cast_plain_2 c = search rules
 
-sub_plain : tie.Need-overflow-sub-plain
+sub_plain : tie.Need-slice_bounds-plain-count
 sub_plain c =
-    let pre' = c.before.before.before.requires in
+    let pre' = c.requires in
     let st = pre'.0.stands in
     (lies st).on
 
-part-plain-start : tie.Need-slice-bounds-plain-start
+part-plain-start : tie.Need-slice_bounds-plain-start
 part-plain-start c =
-    let pre' = c.before.before.before.requires in
+    let pre' = c.requires in
     let st = pre'.0.stands in
     (lies st).on
 
-part_plain_end : tie.Need-slice-bounds-plain-end
+part_plain_end : tie.Need-slice_bounds-plain-end
 part_plain_end c =
-    let pre' = c.before.before.before.requires in
+    let pre' = c.requires in
     let st = pre'.0.stands in
     (lies st).within
 
-sub_plain_2 : tie.Need-overflow-sub-plain-2
+sub_plain_2 : tie.Need-slice_bounds-plain-count-2
 sub_plain_2 c = search rules
 
-part_plain_start_2 : tie.Need-slice-bounds-plain-start-2
+part_plain_start_2 : tie.Need-slice_bounds-plain-start-2
 part_plain_start_2 c = search rules
 
-part_plain_end_2 : tie.Need-slice-bounds-plain-end-2
+part_plain_end_2 : tie.Need-slice_bounds-plain-end-2
 part_plain_end_2 c = search rules
 
-plain_requires : tie.Need-plain-requires
+plain_requires : tie.Need-plain-n-requires
 plain_requires c κs =
-    let pre' = c.before.before.before.before.before.requires in
+    let pre' = c.requires in
     omega (arith, bytes_short pre'.0)
 
-put_head_requires : tie.Need-put-head-requires
+put_head_requires : tie.Need-put_head-w1-requires
 put_head_requires c κs =
-    let args' = c.before.before.before.before.before.before.before.before.before.args in
-    let plain' = c.before.before.before.plain in
-    let pre' = c.before.before.before.before.before.before.before.before.before.requires in
+    let args' = c.args in
+    let plain' = c.plain-n in
+    let pre' = c.requires in
     let src = args'.src.now in
     let same = ap plain (lent args'.c.start args'.c.end src) in
     let count = plain'.ensures.0 ∙ ap length same in
@@ -80,15 +79,15 @@ put_head_requires c κs =
     let short = means_short {t = digits} st pre'.1 (means-number pre'.2) in
     (omega (arith, fits pre'.0), omega (arith, count, short, (lies st).within, pre'.0.stands.short))
 
-eat_any_requires : tie.Need-eat-any-requires
+eat_any_requires : tie.Need-eat_any-requires
 eat_any_requires c κs = search rules
 
-add_t10 : tie.Need-overflow-add-t10
+add_t10 : tie.Need-overflow_add-result
 add_t10 c =
-    let args' = c.before.before.before.before.before.before.before.before.before.before.before.before.before.args in
-    let plain' = c.before.before.before.before.before.before.before.plain in
-    let pre' = c.before.before.before.before.before.before.before.before.before.before.before.before.before.requires in
-    let put-head' = c.before.before.before.put-head in
+    let args' = c.args in
+    let plain' = c.plain-n in
+    let pre' = c.requires in
+    let put-head' = c.put_head-w1 in
     let src = args'.src.now in
     let same = ap plain (lent args'.c.start args'.c.end src) in
     let count = plain'.ensures.0 ∙ ap length same in
@@ -97,17 +96,17 @@ add_t10 c =
     let short = means_short {t = digits} st pre'.1 (means-number pre'.2) in
     omega (arith, count, short, (lies st).within, pre'.0.stands.short, fits pre'.0, put-head'.ensures.to)
 
-same_length : tie.Need-same-length
+same_length : tie.Need-shape_of-out
 same_length c = search rules
 
 returns : tie.Need-returns
 returns c =
-    let args' = c.before.before.before.before.before.before.before.before.before.before.before.before.before.args in
-    let plain' = c.before.before.before.before.before.before.before.plain in
-    let pre' = c.before.before.before.before.before.before.before.before.before.before.before.before.before.requires in
-    let least' = c.before.before.before.before.before.before.before.before.before.before.least in
-    let put-head' = c.before.before.before.put-head in
-    let eat-any' = c.eat-any in
+    let args' = c.args in
+    let plain' = c.plain-n in
+    let pre' = c.requires in
+    let least' = c.least-from in
+    let put-head' = c.put_head-w1 in
+    let eat-any' = c.eat_any in
     let src = args'.src.now in
     let same = ap plain (lent args'.c.start args'.c.end src) in
     let digits = plain (slice args'.c.start args'.c.end src) in

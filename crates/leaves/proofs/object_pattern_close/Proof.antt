@@ -16,21 +16,21 @@ use Rattle.leaves.proofs.Steps
 use Rattle.leaves.proofs.object_pattern_close.Statement.{statement}
 use Rattle.leaves.proofs.object_pattern_close.Tie as tie
 
-eat_requires : tie.Need-eat-requires
+eat_requires : tie.Need-eat-a-requires
 eat_requires c κs = search rules
 
-enum_known_a : tie.Need-enum-known-a
+enum_known_a : tie.Need-enum_known-a
 enum_known_a c = search rules
 
-enum_told : tie.Need-enum-told
+enum_told : tie.Need-enum_told-1
 enum_told c = search rules
 
-returns : tie.Need-returns
+returns : tie.Need-returns-in_default
 returns c =
-    let args' = c.before.before.before.before.before.args in
-    let eat' = c.before.before.eat in
-    let matched' = c.before.match in
-    let pre' = c.before.before.before.before.before.requires in
+    let args' = c.args in
+    let eat' = c.eat-a in
+    let matched' = c.in_default.in_default-own in
+    let pre' = c.requires in
     let src = args'.src.now in
     let name = slice args'.name.start args'.name.end src in
     let body = eat 28 ▸ close 28 (number args'.n ∷ byte args'.rest ∷ text name ∷ []) ▸ end in
@@ -40,41 +40,39 @@ returns c =
           (Steps.known body pre'.0.stands refl (λ xs t. object_pattern_closes g args'.c xs args'.n args'.rest name args'.c.kind t) Steps.here);
     }
 
-cast_put_object_pattern : tie.Need-overflow-cast-put-object-pattern
+cast_put_object_pattern : tie.Need-overflow_cast-from
 cast_put_object_pattern c = search rules
 
-cast_put_object_pattern_2 : tie.Need-overflow-cast-put-object-pattern-2
+cast_put_object_pattern_2 : tie.Need-overflow_cast-to
 cast_put_object_pattern_2 c = search rules
 
-sub_put_object_pattern : tie.Need-overflow-sub-put-object-pattern
+sub_put_object_pattern : tie.Need-slice_bounds-put_object_pattern-count
 sub_put_object_pattern c = search rules
 
-part_put_object_pattern_start : tie.Need-slice-bounds-put-object-pattern-start
+part_put_object_pattern_start : tie.Need-slice_bounds-put_object_pattern-start
 part_put_object_pattern_start c = search rules
 
-part_put_object_pattern_end : tie.Need-slice-bounds-put-object-pattern-end
+part_put_object_pattern_end : tie.Need-slice_bounds-put_object_pattern-end
 part_put_object_pattern_end c = search rules
 
-put_object_pattern_requires : tie.Need-put-object-pattern-requires
+put_object_pattern_requires : tie.Need-put_object_pattern-w2-requires
 put_object_pattern_requires c κs =
-    let eat' = c.before.before.before.before.before.eat in
-    let a' = c.before.before.before.a in
-    let pre' = c.before.before.before.before.before.before.before.before.requires in
-    let args' = c.before.before.before.before.before.before.before.before.args in
-    let moved = eat'.ensures.moved _ _ _ a'.given.1 in
+    let eat' = c.eat-a in
+    let pre' = c.requires in
+    let args' = c.args in
+    let moved = eat'.ensures.moved _ _ _ c.in-Done.is in
     (omega (arith, moved.1, fits pre'.0), few pre'.0 pre'.1, omega (arith, lent_short args'.src.now args'.name.start args'.name.end pre'.0.stands.short pre'.3))
 
-same_length : tie.Need-same-length
+same_length : tie.Need-shape_of-out
 same_length c = search rules
 
-returns_2 : tie.Need-returns-2
+returns_2 : tie.Need-returns
 unfolding entry payload
 returns_2 c =
-    let args' = c.before.before.before.before.before.before.before.before.before.before.before.args in
-    let pre' = c.before.before.before.before.before.before.before.before.before.before.before.requires in
-    let put-object-pattern' = c.before.before.put-object-pattern in
-    let eat' = c.before.before.before.before.before.before.before.before.eat in
-    let a' = c.before.before.before.before.before.before.a in
+    let args' = c.args in
+    let pre' = c.requires in
+    let put-object-pattern' = c.put_object_pattern-w2 in
+    let eat' = c.eat-a in
     let src = args'.src.now in
     let name = slice args'.name.start args'.name.end src in
     let body = eat 28 ▸ close 28 (number args'.n ∷ byte args'.rest ∷ text name ∷ []) ▸ end in
@@ -84,7 +82,7 @@ returns_2 c =
       ends = λ g d.
           let there = Steps.known body pre'.0.stands refl (λ xs t. object_pattern_closes g args'.c xs args'.n args'.rest name args'.c.kind t) Steps.here in
           Steps.owes (omega arith)
-          (Steps.closed (6 + (args'.name.end - args'.name.start)) (omega (arith, size)) written (Steps.ate eat'.ensures a'.given.1 there));
+          (Steps.closed (6 + (args'.name.end - args'.name.start)) (omega (arith, size)) written (Steps.ate eat'.ensures c.in-Done.is there));
     }
 
 pub object_pattern_close_spec : {M : Type 1} → statement M

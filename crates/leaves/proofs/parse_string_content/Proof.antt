@@ -16,98 +16,93 @@ use Rattle.leaves.proofs.Steps
 use Rattle.leaves.proofs.parse_string_content.Statement.{statement}
 use Rattle.leaves.proofs.parse_string_content.Tie as tie
 
-add_least : tie.Need-overflow-add-least
+add_least : tie.Need-overflow_add-w
 add_least c = search rules
 
-least_requires : tie.Need-least-requires
+least_requires : tie.Need-least-from-requires
 least_requires c κs = search rules
 
-sub_decode : tie.Need-overflow-sub-decode
+sub_decode : tie.Need-slice_bounds-decode-count
 sub_decode c = search rules
 
-part_decode_start : tie.Need-slice-bounds-decode-start
+part_decode_start : tie.Need-slice_bounds-decode-start
 part_decode_start c = search rules
 
-part_decode_end : tie.Need-slice-bounds-decode-end
+part_decode_end : tie.Need-slice_bounds-decode-end
 part_decode_end c = search rules
 
-decode_requires : tie.Need-decode-requires
+decode_requires : tie.Need-decode-d-requires
 decode_requires c κs = search rules
 
-enum_known_d : tie.Need-enum-known-d
+enum_known_d : tie.Need-enum_known-d
 enum_known_d c = search rules
 
-cast_error : tie.Need-overflow-cast-error
+cast_error : tie.Need-overflow_cast-c
 cast_error c = search rules
 
-add_error : tie.Need-overflow-add-error
+add_error : tie.Need-overflow_add-c
 add_error c =
-    let pre' = c.before.before.before.before.before.before.before.before.before.before.before.requires in
+    let pre' = c.requires in
     omega (arith, within pre'.0)
 
-add_error_2 : tie.Need-overflow-add-error-2
+add_error_2 : tie.Need-overflow_add-c-in-Refused
 add_error_2 c =
-    let decode' = c.before.before.before.before.before.before.decode in
-    let d' = c.before.before.d in
-    let pre' = c.before.before.before.before.before.before.before.before.before.before.before.requires in
+    let decode' = c.decode-d in
+    let pre' = c.requires in
     let st = pre'.0.stands in
-    let inside = spoils_within (lies st).within (fault_found decode'.ensures d'.given.1) in
+    let inside = spoils_within (lies st).within (fault_found decode'.ensures c.in-Refused.is) in
     omega (arith, inside, within pre'.0)
 
 error_requires : tie.Need-error-requires
 error_requires c κs = search rules
 
-enum_known_d_2 : tie.Need-enum-known-d-2
+enum_known_d_2 : tie.Need-enum_known-d-in-Text-1
 enum_known_d_2 c = search rules
 
-put_head_requires : tie.Need-put-head-requires
+put_head_requires : tie.Need-put_head-w1-requires
 put_head_requires c κs =
-    let decode' = c.before.before.before.before.before.before.decode in
-    let d' = c.before.before.d2 in
-    let pre' = c.before.before.before.before.before.before.before.before.before.before.before.requires in
-    let text' = found decode'.ensures d'.given.1 in
+    let decode' = c.decode-d in
+    let pre' = c.requires in
+    let text' = found decode'.ensures c.in-Text.is in
     let st = pre'.0.stands in
     let short = means_short st refl text'.1 in
     (omega (arith, fits pre'.0), omega (arith, text'.2, short, (lies st).within, pre'.0.stands.short))
 
-eat_any_requires : tie.Need-eat-any-requires
+eat_any_requires : tie.Need-eat_any-requires
 eat_any_requires c κs = search rules
 
-add_t22 : tie.Need-overflow-add-t22
+add_t22 : tie.Need-overflow_add-result
 add_t22 c =
-    let decode' = c.before.before.before.before.before.before.before.before.before.before.decode in
-    let d' = c.before.before.before.before.before.before.d2 in
-    let pre' = c.before.before.before.before.before.before.before.before.before.before.before.before.before.before.before.requires in
-    let put-head' = c.before.before.before.put-head in
-    let text' = found decode'.ensures d'.given.1 in
+    let decode' = c.decode-d in
+    let pre' = c.requires in
+    let put-head' = c.put_head-w1 in
+    let text' = found decode'.ensures c.in-Text.is in
     let st = pre'.0.stands in
     let short = means_short st refl text'.1 in
     omega (arith, text'.2, short, (lies st).within, pre'.0.stands.short, fits pre'.0, put-head'.ensures.to)
 
-same_length : tie.Need-same-length
+same_length : tie.Need-shape_of-out-in-Refused
 same_length c = search rules
 
-returns : tie.Need-returns
+returns : tie.Need-returns-in-Refused
 returns c =
-    let pre' = c.before.before.before.before.before.before.before.before.before.before.before.before.requires in
-    let decode' = c.before.before.before.before.before.before.before.decode in
-    let d' = c.before.before.before.d in
-    let fault = fault_found decode'.ensures d'.given.1 in
+    let pre' = c.requires in
+    let decode' = c.decode-d in
+    let fault = fault_found decode'.ensures c.in-Refused.is in
     record { ends = λ g d. bad-answer pre'.0.stands fault c.error.ensures }
 
-same_length_2 : tie.Need-same-length-2
+same_length_2 : tie.Need-shape_of-out-in-Text
 same_length_2 c = search rules
 
-returns_2 : tie.Need-returns-2
+returns_2 : tie.Need-returns-in-Text
 returns_2 c =
-    let decode' = c.before.before.before.before.before.before.before.before.before.before.decode in
-    let d' = c.before.before.before.before.before.before.d2 in
-    let pre' = c.before.before.before.before.before.before.before.before.before.before.before.before.before.before.before.requires in
-    let args' = c.before.before.before.before.before.before.before.before.before.before.before.before.before.before.before.args in
-    let least' = c.before.before.before.before.before.before.before.before.before.before.before.before.least in
-    let put-head' = c.before.before.before.put-head in
-    let eat-any' = c.eat-any in
-    let text' = found decode'.ensures d'.given.1 in
+    let decode' = c.decode-d in
+    let pre' = c.requires in
+    let args' = c.args in
+    let least' = c.least-from in
+    let put-head' = c.put_head-w1 in
+    let eat-any' = c.eat_any in
+    let text' = found decode'.ensures c.in-Text.is in
     let st = pre'.0.stands in
     let some = a_lexeme pre'.1 in
     let short = means_short st refl text'.1 in

@@ -6,18 +6,18 @@ use mathlib.Core.Path.{refl}
 use Rattle.leaves.proofs.past_comma.Statement.{statement}
 use Rattle.leaves.proofs.past_comma.Tie as tie
 
-eat_any_requires : tie.Need-eat-any-requires
+eat_any_requires : tie.Need-eat_any-requires
 eat_any_requires c κs = search rules
 
-returns : tie.Need-returns
+returns : tie.Need-returns-then-c-eq-COMMA
 returns c =
-    let if1' = c.before.if1 in
-    let eat-any' = c.eat-any in
+    let if1' = c.if-c-eq-COMMA in
+    let eat-any' = c.eat_any in
     past if1'.true eat-any'.ensures
 
-returns_2 : tie.Need-returns-2
+returns_2 : tie.Need-returns
 returns_2 c =
-    let if1' = c.if1 in
+    let if1' = c.if-c-eq-COMMA in
     same if1'.false refl
 
 pub past_comma_spec : {M : Type 1} → statement M

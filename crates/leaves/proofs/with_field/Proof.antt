@@ -7,28 +7,28 @@ use native.Mathlib.Omega.{arith}
 use Rattle.leaves.proofs.with_field.Statement.{statement}
 use Rattle.leaves.proofs.with_field.Tie as tie
 
-returns : tie.Need-returns
+returns : tie.Need-returns-then-fault-eq4
 unfolding with_field
 returns c =
-    let args' = c.before.args in
-    let if1' = c.if1 in
+    let args' = c.args in
+    let if1' = c.if-fault-eq4 in
     (rw (eq-eqb args'.fault 4 if1'.true, with_field) refl, omega arith)
 
-returns_2 : tie.Need-returns-2
+returns_2 : tie.Need-returns-then-fault-eq0
 unfolding with_field
 returns_2 c =
-    let args' = c.before.before.args in
-    let if1' = c.before.if1 in
-    let if2' = c.if2 in
+    let args' = c.args in
+    let if1' = c.if-fault-eq4 in
+    let if2' = c.if-fault-eq0 in
     (rw (ne_eqb args'.fault 4 if1'.false, eq-eqb args'.fault 0 if2'.true, with_field) refl, omega arith)
 
-returns_3 : tie.Need-returns-3
+returns_3 : tie.Need-returns
 unfolding with_field
 returns_3 c =
-    let args' = c.before.before.args in
-    let if1' = c.before.if1 in
-    let if2' = c.if2 in
-    let pre' = c.before.before.requires in
+    let args' = c.args in
+    let if1' = c.if-fault-eq4 in
+    let if2' = c.if-fault-eq0 in
+    let pre' = c.requires in
     (rw (ne_eqb args'.fault 4 if1'.false, ne_eqb args'.fault 0 if2'.false, with_field) refl, pre')
 
 pub with_field_spec : {M : Type 1} → statement M

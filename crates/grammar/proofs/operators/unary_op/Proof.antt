@@ -7,26 +7,26 @@ use Rattle.grammar.specs.Productions.{signs}
 use Rattle.grammar.proofs.operators.unary_op.Statement.{statement}
 use Rattle.grammar.proofs.operators.unary_op.Tie as tie
 
-returns : tie.Need-returns
+returns : tie.Need-returns-in-16
 unfolding prefix_of sign_in signs
-returns c = sym (ap prefix_of c.match.keys1)
+returns c = sym (ap prefix_of c.in-16.is)
 
-returns_2 : tie.Need-returns-2
+returns_2 : tie.Need-returns-in-17
 unfolding prefix_of sign_in signs
-returns_2 c = sym (ap prefix_of c.match.keys2)
+returns_2 c = sym (ap prefix_of c.in-17.is)
 
-returns_3 : tie.Need-returns-3
+returns_3 : tie.Need-returns-in-22
 unfolding prefix_of sign_in signs
-returns_3 c = sym (ap prefix_of c.match.keys3)
+returns_3 c = sym (ap prefix_of c.in-22.is)
 
-returns_4 : tie.Need-returns-4
+returns_4 : tie.Need-returns-in-21
 unfolding prefix_of sign_in signs
-returns_4 c = sym (ap prefix_of c.match.keys4)
+returns_4 c = sym (ap prefix_of c.in-21.is)
 
-returns_5 : tie.Need-returns-5
+returns_5 : tie.Need-returns-in_default
 unfolding prefix_of sign_in signs
 returns_5 c =
-    let none = c.match.rest in
+    let none = c.in_default.in_default-own.rest in
     simp (ne_eqb _ _ none.1, ne_eqb _ _ none.0.1, ne_eqb _ _ none.0.0.1, ne_eqb _ _ none.0.0.0.1)
 
 pub unary_op_spec : {M : Type 1} → statement M

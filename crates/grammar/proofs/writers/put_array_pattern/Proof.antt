@@ -17,8 +17,8 @@ returns c =
     let byte = number2.before.before.before.before in
     let number = byte.before.before.before.before in
     let head = number.before.before.before.before in
-    let args = head.before.before.before.before.args in
-    and_then (and_then (and_then (and_then (head_is 27 (5 + length args.s.now) _ (omega arith) head.put-head.ensures) number.put-number.ensures) byte.put_byte.ensures) number2.put-number2.ensures) text.put-text.ensures
+    let args = head.args in
+    and_then (and_then (and_then (and_then (head_is 27 (5 + length args.s.now) _ (omega arith) head.put_head-w1.ensures) number.put_number-w2.ensures) byte.put_byte-w3.ensures) number2.put_number-w4.ensures) text.put_text.ensures
 
 pub put_array_pattern_spec : {M : Type 1} → statement M
 put_array_pattern_spec =

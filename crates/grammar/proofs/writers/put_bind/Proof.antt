@@ -12,7 +12,7 @@ returns c =
     let number = c.before.before in
     let byte = number.before.before.before.before in
     let head = byte.before.before.before.before in
-    and_then (and_then head.put-head.ensures byte.put_byte.ensures) number.put-number.ensures
+    and_then (and_then head.put_head-w1.ensures byte.put_byte-w2.ensures) number.put_number.ensures
 
 pub put_bind_spec : {M : Type 1} → statement M
 put_bind_spec =

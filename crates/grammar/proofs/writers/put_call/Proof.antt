@@ -14,7 +14,7 @@ returns c =
     let byte = number.before.before.before.before in
     let span = byte.before.before.before.before in
     let head = span.before.before.before.before in
-    and_then (and_then (and_then (and_then head.put-head.ensures span.put-span.ensures) byte.put_byte.ensures) number.put-number.ensures) number2.put-number2.ensures
+    and_then (and_then (and_then (and_then head.put_head-w1.ensures span.put_span-w2.ensures) byte.put_byte-w3.ensures) number.put_number-w4.ensures) number2.put_number.ensures
 
 pub put_call_spec : {M : Type 1} → statement M
 put_call_spec =

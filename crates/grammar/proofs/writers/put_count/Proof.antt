@@ -11,7 +11,7 @@ unfolding entry payload
 returns c =
     let number = c.before.before in
     let head = number.before.before.before.before in
-    and_then head.put-head.ensures number.put-number.ensures
+    and_then head.put_head-w1.ensures number.put_number.ensures
 
 pub put_count_spec : {M : Type 1} → statement M
 put_count_spec = tie.close (tie.spec (λ c κs. search rules) (λ c κs. search rules) (λ c. search rules) returns)

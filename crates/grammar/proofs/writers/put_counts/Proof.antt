@@ -12,7 +12,7 @@ returns c =
     let number2 = c.before.before in
     let number = number2.before.before.before.before in
     let head = number.before.before.before.before in
-    and_then (and_then head.put-head.ensures number.put-number.ensures) number2.put-number2.ensures
+    and_then (and_then head.put_head-w1.ensures number.put_number-w2.ensures) number2.put_number.ensures
 
 pub put_counts_spec : {M : Type 1} → statement M
 put_counts_spec =

@@ -14,7 +14,7 @@ returns c =
     let flags = number.before.before.before.before in
     let span = flags.before.before.before.before in
     let head = span.before.before.before.before in
-    and_then (and_then (and_then (and_then head.put-head.ensures span.put-span.ensures) flags.put-flags.ensures) number.put-number.ensures) byte.put_byte.ensures
+    and_then (and_then (and_then (and_then head.put_head-w1.ensures span.put_span-w2.ensures) flags.put_flags-w3.ensures) number.put_number-w4.ensures) byte.put_byte.ensures
 
 pub put_field_spec : {M : Type 1} → statement M
 put_field_spec =

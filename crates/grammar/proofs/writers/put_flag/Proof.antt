@@ -11,7 +11,7 @@ unfolding entry payload
 returns c =
     let byte = c.before.before in
     let head = byte.before.before.before.before in
-    and_then head.put-head.ensures byte.put_byte.ensures
+    and_then head.put_head-w1.ensures byte.put_byte.ensures
 
 pub put_flag_spec : {M : Type 1} → statement M
 put_flag_spec = tie.close (tie.spec (λ c κs. search rules) (λ c κs. search rules) (λ c. search rules) returns)

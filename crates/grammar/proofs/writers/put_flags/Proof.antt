@@ -10,7 +10,7 @@ returns c =
     let third = c.before.before in
     let second = third.before.before.before.before in
     let first = second.before.before.before.before in
-    and_then (and_then first.put_byte.ensures second.put-byte2.ensures) third.put-byte3.ensures
+    and_then (and_then first.put_byte-w1.ensures second.put_byte-w2.ensures) third.put_byte.ensures
 
 pub put_flags_spec : {M : Type 1} → statement M
 put_flags_spec =

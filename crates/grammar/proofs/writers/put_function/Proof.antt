@@ -12,7 +12,7 @@ returns c =
     let number = c.before.before in
     let span = number.before.before.before.before in
     let head = span.before.before.before.before in
-    and_then (and_then head.put-head.ensures span.put-span.ensures) number.put-number.ensures
+    and_then (and_then head.put_head-w1.ensures span.put_span-w2.ensures) number.put_number.ensures
 
 pub put_function_spec : {M : Type 1} → statement M
 put_function_spec =

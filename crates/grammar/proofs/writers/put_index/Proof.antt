@@ -13,7 +13,7 @@ returns c =
     let byte = byte2.before.before.before.before in
     let span = byte.before.before.before.before in
     let head = span.before.before.before.before in
-    and_then (and_then (and_then head.put-head.ensures span.put-span.ensures) byte.put_byte.ensures) byte2.put-byte2.ensures
+    and_then (and_then (and_then head.put_head-w1.ensures span.put_span-w2.ensures) byte.put_byte-w3.ensures) byte2.put_byte.ensures
 
 pub put_index_spec : {M : Type 1} → statement M
 put_index_spec =

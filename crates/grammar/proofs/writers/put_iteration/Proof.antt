@@ -15,8 +15,8 @@ returns c =
     let text = c.before.before in
     let byte = text.before.before.before.before in
     let head = byte.before.before.before.before in
-    let args = head.before.before.before.before.args in
-    and_then (and_then (head_is 35 (1 + length args.s.now) _ (omega arith) head.put-head.ensures) byte.put_byte.ensures) text.put-text.ensures
+    let args = head.args in
+    and_then (and_then (head_is 35 (1 + length args.s.now) _ (omega arith) head.put_head-w1.ensures) byte.put_byte-w2.ensures) text.put_text.ensures
 
 pub put_iteration_spec : {M : Type 1} → statement M
 put_iteration_spec =

@@ -12,7 +12,7 @@ returns c =
     let span = c.before.before in
     let byte = span.before.before.before.before in
     let head = byte.before.before.before.before in
-    and_then (and_then head.put-head.ensures byte.put_byte.ensures) span.put-span.ensures
+    and_then (and_then head.put_head-w1.ensures byte.put_byte-w2.ensures) span.put_span.ensures
 
 pub put_kind_spec : {M : Type 1} → statement M
 put_kind_spec =

@@ -11,7 +11,7 @@ unfolding entry payload
 returns c =
     let span = c.before.before in
     let head = span.before.before.before.before in
-    and_then head.put-head.ensures span.put-span.ensures
+    and_then head.put_head-w1.ensures span.put_span.ensures
 
 pub put_mark_spec : {M : Type 1} → statement M
 put_mark_spec = tie.close (tie.spec (λ c κs. search rules) (λ c κs. search rules) (λ c. search rules) returns)

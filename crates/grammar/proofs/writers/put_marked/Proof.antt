@@ -12,7 +12,7 @@ returns c =
     let byte = c.before.before in
     let span = byte.before.before.before.before in
     let head = span.before.before.before.before in
-    and_then (and_then head.put-head.ensures span.put-span.ensures) byte.put_byte.ensures
+    and_then (and_then head.put_head-w1.ensures span.put_span-w2.ensures) byte.put_byte.ensures
 
 pub put_marked_spec : {M : Type 1} → statement M
 put_marked_spec =

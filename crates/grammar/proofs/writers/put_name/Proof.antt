@@ -15,8 +15,8 @@ returns c =
     let text = c.before.before in
     let span = text.before.before.before.before in
     let head = span.before.before.before.before in
-    let args = head.before.before.before.before.args in
-    and_then (and_then (head_is args.tag (4 + length args.s.now) _ (omega arith) head.put-head.ensures) span.put-span.ensures) text.put-text.ensures
+    let args = head.args in
+    and_then (and_then (head_is args.tag (4 + length args.s.now) _ (omega arith) head.put_head-w1.ensures) span.put_span-w2.ensures) text.put_text.ensures
 
 pub put_name_spec : {M : Type 1} → statement M
 put_name_spec =

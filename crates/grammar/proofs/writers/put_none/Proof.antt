@@ -9,7 +9,7 @@ returns : tie.Need-returns
 unfolding entry payload
 returns c =
     let head = c.before.before in
-    head.put-head.ensures
+    head.put_head.ensures
 
 pub put_none_spec : {M : Type 1} → statement M
 put_none_spec = tie.close (tie.spec (λ c κs. search rules) (λ c. search rules) returns)

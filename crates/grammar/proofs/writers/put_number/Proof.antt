@@ -9,15 +9,15 @@ use Rattle.grammar.proofs.WritingLaws.{and_then, both}
 use Rattle.grammar.proofs.writers.put_number.Statement.{statement}
 use Rattle.grammar.proofs.writers.put_number.Tie as tie
 
-returns : tie.Need-returns
-returns c = and_then c.before.before.before.before.before.before.put_byte.ensures c.before.before.put-byte2.ensures
+returns : tie.Need-returns-then-out-w
+returns c = and_then c.put_byte-w1.ensures c.put_byte.ensures
 
-slice_write_out_2 : tie.Need-slice-write-out-2
+slice_write_out_2 : tie.Need-bounds-out-w-2
 slice_write_out_2 c = simp length-set (omega arith)
 
-returns_2 : tie.Need-returns-2
+returns_2 : tie.Need-returns
 returns_2 c =
-    let args = c.before.before.args in
+    let args = c.args in
     record { to = refl; stored = both args.out.now args.w (args.n / 256) (args.n % 256) }
 
 pub put_number_spec : {M : Type 1} → statement M

@@ -16,8 +16,8 @@ returns c =
     let byte = text.before.before.before.before in
     let number = byte.before.before.before.before in
     let head = number.before.before.before.before in
-    let args = head.before.before.before.before.args in
-    and_then (and_then (and_then (head_is 28 (3 + length args.s.now) _ (omega arith) head.put-head.ensures) number.put-number.ensures) byte.put_byte.ensures) text.put-text.ensures
+    let args = head.args in
+    and_then (and_then (and_then (head_is 28 (3 + length args.s.now) _ (omega arith) head.put_head-w1.ensures) number.put_number-w2.ensures) byte.put_byte-w3.ensures) text.put_text.ensures
 
 pub put_object_pattern_spec : {M : Type 1} → statement M
 put_object_pattern_spec =

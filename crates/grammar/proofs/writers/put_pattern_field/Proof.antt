@@ -17,8 +17,8 @@ returns c =
     let byte2 = span.before.before.before.before in
     let byte = byte2.before.before.before.before in
     let head = byte.before.before.before.before in
-    let args = head.before.before.before.before.args in
-    and_then (and_then (and_then (and_then (head_is 29 (6 + length args.s.now) _ (omega arith) head.put-head.ensures) byte.put_byte.ensures) byte2.put-byte2.ensures) span.put-span.ensures) text.put-text.ensures
+    let args = head.args in
+    and_then (and_then (and_then (and_then (head_is 29 (6 + length args.s.now) _ (omega arith) head.put_head-w1.ensures) byte.put_byte-w2.ensures) byte2.put_byte-w3.ensures) span.put_span-w4.ensures) text.put_text.ensures
 
 pub put_pattern_field_spec : {M : Type 1} → statement M
 put_pattern_field_spec =

@@ -14,7 +14,7 @@ returns c =
     let span = span2.before.before.before.before in
     let byte = span.before.before.before.before in
     let head = byte.before.before.before.before in
-    and_then (and_then (and_then (and_then head.put-head.ensures byte.put_byte.ensures) span.put-span.ensures) span2.put-span2.ensures) span3.put-span3.ensures
+    and_then (and_then (and_then (and_then head.put_head-w1.ensures byte.put_byte-w2.ensures) span.put_span-w3.ensures) span2.put_span-w4.ensures) span3.put_span.ensures
 
 pub put_slice_spec : {M : Type 1} → statement M
 put_slice_spec =

@@ -1,64 +1,61 @@
 -- `writers::put_some` meets its contract. The loop's invariant: the first i bytes of the text are written.
 -- Assumes nothing.
 use mathlib.Core.Path.{◌≡◌, refl, ap, ◌∙◌}
-use Prim.Native.Nat.{◌+◌, ◌-◌, ◌≤◌}
+use Prim.Native.Nat.{◌-◌, ◌≤◌}
 use native.Mathlib.Omega.{arith}
 use lib.ListN.{length, take}
 use lib.Seq.{sets, length-sets, take_all}
 use Rattle.grammar.proofs.WritingLaws.{copied, full}
 use Rattle.grammar.proofs.writers.put_some.Statement.{statement}
 use Rattle.grammar.proofs.writers.put_some.Tie as tie
-use Rattle.grammar.proofs.writers.put_some.Reads as reads
-use Rattle.grammar.proofs.writers.put_some.Lts as lts
-use Rattle.strings.proofs.put.Reads as put_reads
 
-abbrev invariant_loop : tie.invariant-loop
+abbrev invariant_loop : tie.invariant-loop-i
 invariant_loop out₀ w s i₀ out i = (i ≤ length s) × (out ≡ sets out₀ w (take i s))
 
-abbrev decreases_loop : tie.decreases-loop
+abbrev decreases_loop : tie.decreases-loop-i
 decreases_loop out₀ w s i₀ out i = length s - i
 
-add_result : tie.Need-overflow-add-result invariant_loop decreases_loop
+add_result : tie.Need-overflow_add-result invariant_loop decreases_loop
 add_result c = omega arith
 
-returns : tie.Need-returns invariant_loop decreases_loop
+returns : tie.Need-returns-then-out-w invariant_loop decreases_loop
 returns c =
-    let args = c.before.before.before.args in
-    record { to = refl; stored = full args.out.now args.w args.s.now c.if1.true }
+    let args = c.args in
+    record { to = refl; stored = full args.out.now args.w args.s.now c.if-out-w.true }
 
-loop_holds : tie.Need-loop-init invariant_loop decreases_loop
+loop_holds : tie.Need-loop-i-init invariant_loop decreases_loop
 loop_holds c = (omega arith, refl)
 
-add_put : tie.Need-overflow-add-put invariant_loop decreases_loop
+add_put : tie.Need-overflow_add-w invariant_loop decreases_loop
 add_put c = omega arith
 
-shared_slice_read_put : tie.Need-shared-slice-read-put invariant_loop decreases_loop
+shared_slice_read_put : tie.Need-bounds-s-i invariant_loop decreases_loop
 shared_slice_read_put c = omega arith
 
 put_requires : tie.Need-put-requires invariant_loop decreases_loop
 put_requires c κs = tt
 
-add_i : tie.Need-overflow-add-i invariant_loop decreases_loop
+add_i : tie.Need-overflow_add-i invariant_loop decreases_loop
 add_i c = omega arith
 
-loop_less : tie.Need-loop-smaller invariant_loop decreases_loop
+loop_less : tie.Need-loop-i-smaller invariant_loop decreases_loop
 loop_less c = omega arith
 
-loop_again : tie.Need-loop-preserved invariant_loop decreases_loop
+loop_again : tie.Need-loop-i-preserved invariant_loop decreases_loop
 loop_again c =
-    let inv = c.before.before.before.before.before.before.loop.invariant in
-    (omega arith, c.before.before.put.ensures ∙ copied _ _ _ _ _ (omega arith) inv.1)
+    let inv = c.loop-i.invariant in
+    (omega arith, c.put.ensures ∙ copied _ _ _ _ _ (omega arith) inv.1)
 
-add_result_2 : tie.Need-overflow-add-result-2 invariant_loop decreases_loop
+add_result_2 : tie.Need-overflow_add-result-2 invariant_loop decreases_loop
 add_result_2 c = omega arith
 
-same_length : tie.Need-same-length invariant_loop decreases_loop
-same_length c = ap length c.before.loop.invariant.1 ∙ simp length-sets
+same_length : tie.Need-shape_of-out invariant_loop decreases_loop
+same_length c = ap length c.loop-i.invariant.1 ∙ simp length-sets
 
-returns_2 : tie.Need-returns-2 invariant_loop decreases_loop
+returns_2 : tie.Need-returns invariant_loop decreases_loop
 returns_2 c =
     let inv = c.before in
-    record { to = refl; stored = inv.loop.invariant.1 ∙ ap (λ l. sets c.before.before.before.before.before.args.out.now c.before.before.before.before.before.args.w l) (take_all _ _ c.loop-test.false) }
+    record { to = refl; stored = inv.loop-i.invariant.1 ∙ ap (λ l. sets c.args.out.now c.args.w l) (take_all _ _ c.loop-i-test.false) }
 
 pub put_some_spec : {M : Type 1} → statement M
 put_some_spec =

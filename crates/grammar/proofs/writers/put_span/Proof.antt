@@ -6,7 +6,7 @@ use Rattle.grammar.proofs.writers.put_span.Statement.{statement}
 use Rattle.grammar.proofs.writers.put_span.Tie as tie
 
 returns : tie.Need-returns
-returns c = and_then c.before.before.before.before.before.before.put-number.ensures c.before.before.put-number2.ensures
+returns c = and_then c.put_number-w1.ensures c.put_number.ensures
 
 pub put_span_spec : {M : Type 1} → statement M
 put_span_spec = tie.close (tie.spec (λ c κs. search rules) (λ c κs. search rules) (λ c. search rules) returns)

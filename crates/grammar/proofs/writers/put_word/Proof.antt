@@ -11,8 +11,8 @@ unfolding entry payload
 returns c =
     let text = c.before.before in
     let head = text.before.before.before.before in
-    let args = head.before.before.before.before.args in
-    and_then head.put-head.ensures text.put-text.ensures
+    let args = head.args in
+    and_then head.put_head-w1.ensures text.put_text.ensures
 
 pub put_word_spec : {M : Type 1} → statement M
 put_word_spec = tie.close (tie.spec (λ c κs. search rules) (λ c κs. search rules) (λ c. search rules) returns)
