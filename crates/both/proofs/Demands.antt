@@ -18,15 +18,15 @@ use Rattle.grammar.specs.Answer.{Answer, Verdict, refused, tree, verdict, answer
 use Rattle.grammar.specs.Answer as grammar
 use Rattle.grammar.specs.Source.{Bad, Kept, kept}
 use Rattle.grammar.proofs.Whole.{Accepted}
-use Rattle.json.specs.Tokens.{At, ◌▹◌}
-use Rattle.json.specs.Values.{Part, Reads as Derives, broken}
-use Rattle.json.specs.Values as values
-use Rattle.json.specs.Json.{Text, Judged, ReadsJson}
-use Rattle.json.specs.Json as json
-use Rattle.json.specs.Importer.{Imports}
-use Rattle.json.specs.Importer as imports
-use Rattle.json.specs.declared.Importing.{Importing}
-use Rattle.json.specs.declared.Importing.TheVariants as importer
+use Rattle.json_import.specs.Tokens.{At, ◌▹◌}
+use Rattle.json_import.specs.Values.{Part, Reads as Derives, broken}
+use Rattle.json_import.specs.Values as values
+use Rattle.json_import.specs.Json.{Text, Judged, ReadsJson}
+use Rattle.json_import.specs.Json as json
+use Rattle.json_import.specs.Importer.{Imports}
+use Rattle.json_import.specs.Importer as imports
+use Rattle.json_import.specs.declared.Importing.{Importing}
+use Rattle.json_import.specs.declared.Importing.TheVariants as importer
 use Rattle.reader.specs.Reader.{Reads, numbers}
 use Rattle.reader.specs.declared.Reading.{Reading}
 use Rattle.reader.specs.declared.Reading.TheVariants.{Tree}

@@ -35,8 +35,8 @@ use Rattle.grammar.specs.Lexemes.{Said, says, spoiled, Lexeme}
 use Rattle.grammar.specs.Says.{Says, its_text, its_escape, Told}
 use Rattle.grammar.specs.Says as says_of
 use Rattle.grammar.proofs.Source.{says_always}
-use Rattle.json.specs.Tokens.{At, ◌▹◌, is_blank, Ws, String}
-use Rattle.json.specs.Tokens as tokens
+use Rattle.json_import.specs.Tokens.{At, ◌▹◌, is_blank, Ws, String}
+use Rattle.json_import.specs.Tokens as tokens
 use Rattle.both.specs.Solidus.{inside, outside, Solidus, SolidusAt}
 use Rattle.both.proofs.Numbers.{number_numeral, number_clear, number_some, clear_plain}
 use Rattle.both.proofs.Strings.{place, behind, Between, chars_between, chars_ruled, Meant, means, slashed}
@@ -55,7 +55,7 @@ byte_before {b} {r} h f = record { each = by }
     by (suc k) = f.each k
 
 character_bytes : {s r : List ℕ} → Character s r → Low r → Low s
-character_bytes (Character.row_00_7_f a) f = byte_before (omega (arith, a.1)) f
+character_bytes (Character.row_00_7F a) f = byte_before (omega (arith, a.1)) f
 character_bytes (Character.row_C2_DF a b) f = byte_before (omega (arith, a.1)) (byte_before (omega (arith, b.1)) f)
 character_bytes (Character.row_E0 a b c) f = byte_before (omega (arith, a.1)) (byte_before (omega (arith, b.1)) (byte_before (omega (arith, c.1)) f))
 character_bytes (Character.row_E1_EC a b c) f = byte_before (omega (arith, a.1)) (byte_before (omega (arith, b.1)) (byte_before (omega (arith, c.1)) f))
@@ -207,7 +207,7 @@ quiet_stops : {b : ℕ} → Quiet b → Stops b
 unfolding class_of ascii_class
 quiet_stops {b} q =
     record {
-      no_digit_lem = λ d. q.no_word (omega (arith, d.0), omega (arith, d.1));
+      no_digit = λ d. q.no_word (omega (arith, d.0), omega (arith, d.1));
       no_group = λ e. q.no_word (word e refl);
       no_point = q.no_point;
       no_e = λ e. q.no_word (word e refl);

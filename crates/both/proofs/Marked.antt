@@ -14,10 +14,10 @@ use Rattle.grammar.specs.Answer.{refused, tree, document_01}
 use Rattle.grammar.specs.Answer as grammar
 use Rattle.grammar.specs.Source.{Bad, Kept}
 use Rattle.grammar.proofs.Computed.{low, low_utf8}
-use Rattle.json.specs.Json.{Judged}
-use Rattle.json.specs.Machine.{run, step, finish, begin, start, past, closed, escaped, ended, next, whole, is_over, signed, meant}
-use Rattle.json.proofs.EveryText.{judged_run}
-use Rattle.both.specs.Solidus.{outside, Solidus, HasSolidus, SolidusAt}
+use Rattle.json_import.specs.Json.{Judged}
+use Rattle.json_import.specs.Machine.{run, step, finish, begin, start, past, closed, escaped, ended, next, whole, is_over, signed, meant}
+use Rattle.json_import.proofs.EveryText.{judged_run}
+use Rattle.both.specs.Solidus.{outside, Solidus, HasSolidus}
 use Rattle.both.proofs.Demands.{Found, same, nine, both_find}
 
 -- ── What has a `\/` ───────────────────────────────────────────────────────────────────────────────

@@ -10,11 +10,11 @@ use lib.ListN.{length, length-append}
 use borrow.Author.Tests.{ne_eqb, eqb-false, le-leb, leb-true}
 use Rattle.strings.specs.Utf8.{In}
 use Rattle.numerals.specs.Value as digit
-use Rattle.regex.specs.Regex.{within}
+use Rattle.regexes.specs.Regex.{within}
 use Rattle.lexemes.specs.Rules.{◌–◌}
 use Rattle.lexemes.specs.Texts.{plain, Numeral}
 use Rattle.lexemes.specs.Texts as texts
-use Rattle.json.specs.Tokens as tokens
+use Rattle.json_import.specs.Tokens as tokens
 use Rattle.both.specs.Solidus.{outside, Solidus}
 
 -- ── Bytes outside strings ─────────────────────────────────────────────────────────────────────────

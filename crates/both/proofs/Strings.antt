@@ -14,8 +14,8 @@ use Rattle.strings.proofs.Utf8Laws.{utf8_1}
 use Rattle.lexemes.specs.Kinds.{STRING_DOUBLE}
 use Rattle.lexemes.specs.Lexeme.{Ruled}
 use Rattle.alone.proofs.StringAlone.{There, there_next, Scanned, string_closed, byte_on, slash_on}
-use Rattle.json.specs.Tokens.{At, ◌▹◌, is_plain, Letter, Chars}
-use Rattle.json.specs.Tokens as tokens
+use Rattle.json_import.specs.Tokens.{At, ◌▹◌, is_plain, Letter, Chars}
+use Rattle.json_import.specs.Tokens as tokens
 use Rattle.both.specs.Solidus.{inside, outside, Solidus, SolidusAt}
 
 -- A place's offset, and the bytes from there on.

@@ -20,11 +20,11 @@ use Rattle.grammar.specs.Productions as phrase
 use Rattle.grammar.specs.Reading.{done, broken, ended, gone, eaten, deepened, undeepened}
 use Rattle.grammar.specs.Answer as answers
 use Rattle.grammar.proofs.ImageLaws.{row_assoc}
-use Rattle.json.specs.Tokens.{At, ◌▹◌, Ws, closes, around, String, literal, Number}
-use Rattle.json.specs.Values.{Part, done as whole, Reads, leaf, negative, array, object, field}
-use Rattle.json.specs.Values as json
-use Rattle.json.specs.Json.{Text, TooDeep}
-use Rattle.json.specs.Json as texts
+use Rattle.json_import.specs.Tokens.{At, ◌▹◌, Ws, closes, around, String, literal, Number}
+use Rattle.json_import.specs.Values.{Part, done as whole, Reads, leaf, negative, array, object, field}
+use Rattle.json_import.specs.Values as json
+use Rattle.json_import.specs.Json.{Text, TooDeep}
+use Rattle.json_import.specs.Json as texts
 use Rattle.both.specs.Solidus.{outside, Solidus, SolidusAt}
 use Rattle.both.proofs.Strings.{place, behind}
 use Rattle.both.proofs.Numbers.{clearly, clear_on, clear_back, number_clear}

@@ -8,7 +8,7 @@ use Rattle.images.specs.declared.asks.Question.{Question}
 use Rattle.images.specs.declared.roots.Roots.{Roots}
 use Rattle.images.specs.declared.roots.Roots.TheVariants.{Other}
 use Rattle.blocks.specs.Inside.{Says}
-use Rattle.images.specs.Inner.{tail_part, Worded, forward, asks, Open, Fit, Fitted, Checks, Checked}
+use Rattle.images.specs.Inner.{tail_part, Worded, forward, asks, Open, Fitted, Checked}
 use Rattle.blocks.proofs.Places.{said, denied}
 use Rattle.images.proofs.RootLaws.{no_true}
 

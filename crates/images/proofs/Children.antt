@@ -118,7 +118,7 @@ roots_found {before = before} {m = m} trees.none s h b = backward_as (omega arit
 roots_found {array = array} {before} {first = first} {m} (trees.node tag fields children ts) s h b =
     let own = m + records children in
     let c : Backward array first (suc own) (before ++ own ∷ []) = Backward.child {m = own} (omega arith) (subst (λ (i : ℕ). Backward array first i before) (sym (own_first s)) b) in
-    let d = roots_found ts (in_right s) (omega arith) (backward_as (omega arith) refl c) in
+    let d = roots_found {before = before ++ own ∷ []} ts (in_right s) (omega arith) (backward_as (omega arith) refl c) in
     backward_as (omega arith) (append_assoc before (own ∷ []) (root_numbers (own + 1) ts)) d
 
 -- ── Every record ──────────────────────────────────────────────────────────────────────────────────
@@ -152,8 +152,12 @@ tree_told {bytes} {t} rest e r h = holds_told stored h
 -- THE LINKS ARE THE TREE'S.
 pub links_are_the_trees : {bytes array : List ℕ} {room n : ℕ} → ReadsBack bytes room (Tree n) array
     → (t : Trees) × Accepted bytes t × (records t ≡ n) × ((r : Record) → Holds 0 0 t r → Told bytes array r)
-links_are_the_trees {room = room} (ReadsBack.accepted {t} h a) = (t, a, refl, tree_told (replicate (room - 2 * records t) 0) a.written)
-links_are_the_trees (ReadsBack.refused h x) = absurd (omega (arith, no_tree x))
+links_are_the_trees {bytes} {array} {room} {n} x = by room n array x
+  where
+    by : (room n : ℕ) (array : List ℕ) → ReadsBack bytes room (Tree n) array
+        → (t : Trees) × Accepted bytes t × (records t ≡ n) × ((r : Record) → Holds 0 0 t r → Told bytes array r)
+    by room n array (ReadsBack.accepted {t} h a) = (t, a, refl, tree_told (replicate (room - 2 * records t) 0) a.written)
+    by room n array (ReadsBack.refused h x) = absurd (omega (arith, no_tree x))
 
 -- ── Every number, and one record only ─────────────────────────────────────────────────────────────
 
@@ -200,9 +204,15 @@ holds_once (Holds.beside h) Holds.root e = absurd (omega (arith, (within h).0, e
 holds_once (Holds.beside h) (Holds.under g) e = absurd (omega (arith, (within h).0, (within g).1, e))
 holds_once (Holds.beside h) (Holds.beside g) e = holds_once h g e
 
+-- The same for two numbers that are equal: they are matched apart.
+found_alike : {array : List ℕ} {first n m : ℕ} {ks ls : List ℕ} → Backward array first n ks → Backward array first m ls → n ≡ m → ks ≡ ls
+found_alike Backward.over Backward.over e = refl
+found_alike Backward.over (Backward.child h b) e = absurd (omega arith)
+found_alike (Backward.child h b) Backward.over e = absurd (omega arith)
+found_alike {array = array} (Backward.child {m = i} h b) (Backward.child {m = j} {before = after} g c) e =
+    let same : i ≡ j = omega arith in
+    ap (λ (l : List ℕ). l ++ i ∷ []) (found_alike b c (ap (first_of array) same)) ∙ ap (λ (k : ℕ). after ++ k ∷ []) same
+
 -- The array tells of one row of children.
 pub found_once : {array ks ls : List ℕ} {first n : ℕ} → Backward array first n ks → Backward array first n ls → ks ≡ ls
-found_once Backward.over Backward.over = refl
-found_once Backward.over (Backward.child h b) = absurd (omega arith)
-found_once (Backward.child h b) Backward.over = absurd (omega arith)
-found_once (Backward.child {m = m} h b) (Backward.child g c) = ap (λ (l : List ℕ). l ++ m ∷ []) (found_once b c)
+found_once x y = found_alike x y refl

@@ -1,11 +1,11 @@
 -- The definitions of specs/Inner.antt by the branches of the code that computes them.
 -- Assumes nothing.
 use mathlib.Core.Path.{◌≡◌, refl, sym, ap, subst, ◌∙◌}
-use mathlib.Core.Bool.{Bool, true, false, cond, not, ◌&&◌, ◌||◌}
+use mathlib.Core.Bool.{Bool, true, false, cond, not, ◌||◌}
 use mathlib.Core.List.{List, [], ◌∷◌}
 use Prim.Native.Nat.{ℕ, zero, suc, ◌+◌, ◌-◌, ◌/◌, ◌%◌, ◌≤◌, ◌<◌}
 use native.Mathlib.Omega.{arith}
-use lib.Dec.{T, eqb, leb}
+use lib.Dec.{T, eqb}
 use lib.ListN.{length, take, drop, get_or, length-drop}
 use lib.Seq.{slice, take-nil, length-take-le}
 use borrow.Author.Tests.{eqb-true, eqb-false, le-leb, lt-leb, eq-eqb, ne_eqb}
@@ -18,7 +18,7 @@ use Rattle.strings.specs.Utf8.{Utf8}
 use Rattle.grammar.specs.Words.{NameText, NumberText}
 use Rattle.images.specs.declared.Answer.{Answer}
 use Rattle.images.specs.declared.records.Step.{Step}
-use Rattle.images.specs.declared.records.Extent.TheVariants.{End, Cut}
+use Rattle.images.specs.declared.records.Extent.TheVariants.{End}
 use Rattle.images.specs.declared.asks.Question.{Question}
 use Rattle.images.specs.declared.parts.Got.{Got}
 use Rattle.images.specs.declared.parts.Got.TheVariants.{Value, Wrong}

@@ -54,29 +54,42 @@ module _ {bytes : List ℕ} {room : ℕ} {a : Answer} {array : List ℕ} (x : Re
 -- A tree is answered for an accepted image only.
 pub tree_is_accepted : {bytes array : List ℕ} {room n : ℕ} → ReadsBack bytes room (Tree n) array
     → (t : Trees) × Accepted bytes t × (records t ≡ n) × (array ≡ links 0 0 t ++ replicate (room - 2 * records t) 0)
-tree_is_accepted (ReadsBack.accepted {t} h y) = (t, y, refl, refl)
-tree_is_accepted (ReadsBack.refused h y) = absurd (omega (arith, no_tree y))
+tree_is_accepted {bytes} {array} {room} {n} x = by room n array x
+  where
+    by : (room n : ℕ) (array : List ℕ) → ReadsBack bytes room (Tree n) array
+        → (t : Trees) × Accepted bytes t × (records t ≡ n) × (array ≡ links 0 0 t ++ replicate (room - 2 * records t) 0)
+    by room n array (ReadsBack.accepted {t} h y) = (t, y, refl, refl)
+    by room n array (ReadsBack.refused h y) = absurd (omega (arith, no_tree y))
 
 -- And any other answer, where the array is long enough, for one that is refused so.
 pub refusal_is_refused : {bytes array : List ℕ} {room : ℕ} {a : Answer} → ReadsBack bytes room a array → needed bytes ≤ room → ((n : ℕ) → a ≡ Tree n → ⊥) → Refused bytes a
-refusal_is_refused (ReadsBack.short h) g n = absurd (omega arith)
-refusal_is_refused (ReadsBack.accepted {t} h y) g n = absurd (n (records t) refl)
-refusal_is_refused (ReadsBack.refused h y) g n = y
+refusal_is_refused {bytes} {array} {room} {a} x = by room a array x
+  where
+    by : (room : ℕ) (a : Answer) (array : List ℕ) → ReadsBack bytes room a array → needed bytes ≤ room → ((n : ℕ) → a ≡ Tree n → ⊥) → Refused bytes a
+    by room a array (ReadsBack.short h) g n = absurd (omega arith)
+    by room a array (ReadsBack.accepted {t} h y) g n = absurd (n (records t) refl)
+    by room a array (ReadsBack.refused h y) g n = y
 
 -- After every other answer the array is all zero.
 pub zero_after_refusal : {bytes array : List ℕ} {room : ℕ} {a : Answer} → ReadsBack bytes room a array → ((n : ℕ) → a ≡ Tree n → ⊥) → array ≡ replicate room 0
-zero_after_refusal (ReadsBack.short h) n = refl
-zero_after_refusal (ReadsBack.accepted {t} h y) n = absurd (n (records t) refl)
-zero_after_refusal (ReadsBack.refused h y) n = refl
+zero_after_refusal {bytes} {array} {room} {a} x = by room a array x
+  where
+    by : (room : ℕ) (a : Answer) (array : List ℕ) → ReadsBack bytes room a array → ((n : ℕ) → a ≡ Tree n → ⊥) → array ≡ replicate room 0
+    by room a array (ReadsBack.short h) n = refl
+    by room a array (ReadsBack.accepted {t} h y) n = absurd (n (records t) refl)
+    by room a array (ReadsBack.refused h y) n = refl
 
 -- The array is as long as it was: there is room for the links of every image that is accepted.
 pub array-length : {bytes array : List ℕ} {room : ℕ} {a : Answer} → ReadsBack bytes room a array → length array ≡ room
-array-length {room = room} (ReadsBack.short h) = length-replicate {A = ℕ} room 0
-array-length {bytes} {room = room} (ReadsBack.accepted {t} h y) =
-    let many : records t * 3 ≤ length bytes = omega (arith, records-image t, ap length y.written) in
-    let zeros = replicate {A = ℕ} (room - 2 * records t) 0 in
-    omega (arith, length-append (links 0 0 t) zeros, links-length 0 0 t, length-replicate {A = ℕ} (room - 2 * records t) 0)
-array-length {room = room} (ReadsBack.refused h y) = length-replicate {A = ℕ} room 0
+array-length {bytes} {array} {room} {a} x = by room a array x
+  where
+    by : (room : ℕ) (a : Answer) (array : List ℕ) → ReadsBack bytes room a array → length array ≡ room
+    by room a array (ReadsBack.short h) = length-replicate {A = ℕ} room 0
+    by room a array (ReadsBack.accepted {t} h y) =
+        let many : records t * 3 ≤ length bytes = omega (arith, records-image t, ap length y.written) in
+        let zeros = replicate {A = ℕ} (room - 2 * records t) 0 in
+        omega (arith, length-append (links 0 0 t) zeros, links-length 0 0 t, length-replicate {A = ℕ} (room - 2 * records t) 0)
+    by room a array (ReadsBack.refused h y) = length-replicate {A = ℕ} room 0
 
 -- ── An answer in 02's numbers ─────────────────────────────────────────────────────────────────────
 

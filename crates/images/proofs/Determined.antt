@@ -14,7 +14,7 @@ use Rattle.grammar.specs.Tags.{INFIX}
 use Rattle.grammar.specs.Trees.{Field, byte, number, span, text, Trees, tree, ◌⊕◌, count}
 use Rattle.grammar.specs.Trees as trees
 use Rattle.grammar.specs.Image.{two, payload}
-use Rattle.grammar.specs.Layout.{Part, place, below, Layout, layout_of, Laid, over, a_span, a_text, a_count, a_flag, a_slice, a_byte, Tells, tells, bits_in}
+use Rattle.grammar.specs.Layout.{Part, Layout, layout_of, Laid, over, a_span, a_text, a_count, a_flag, a_slice, a_byte, Tells, tells, bits_in}
 use Rattle.grammar.proofs.ImageLaws.{count-row}
 use Rattle.grammar.proofs.LayoutLaws.{form_laid}
 use Rattle.grammar.proofs.Sorts.{fits-length}

@@ -1,18 +1,17 @@
 -- A record's bytes: tag, two bytes of length, payload; and the layout of its tag.
 -- Assumes nothing.
-use mathlib.Core.Path.{◌≡◌, refl, sym, ap, subst, ◌∙◌}
+use mathlib.Core.Path.{◌≡◌, refl, sym, ap, ◌∙◌}
 use mathlib.Core.Bool.{Bool, true, false, cond, ◌&&◌}
-use mathlib.Core.List.{List, [], ◌∷◌, ◌++◌, append_assoc}
-use mathlib.Core.Logic.{◌⊎◌, inl, inr}
-use Prim.Native.Nat.{ℕ, zero, suc, ◌+◌, ◌-◌, ◌*◌, ◌/◌, ◌%◌, ◌≤◌, ◌<◌}
+use mathlib.Core.List.{List, [], ◌∷◌, ◌++◌}
+use Prim.Native.Nat.{ℕ, suc, ◌+◌, ◌-◌, ◌*◌, ◌≤◌, ◌<◌}
 use native.Mathlib.Omega.{arith}
 use lib.Dec.{T, eqb, leb, leb→le}
-use lib.ListN.{length, take, drop, get_or, replicate, length-append, length-drop, take-append-drop}
+use lib.ListN.{length, take, drop, get_or, length-append, length-drop, take-append-drop}
 use lib.Seq.{slice, drop-drop, take_at, drop_at}
 use Rattle.strings.proofs.Stores.{drop-next}
 use Rattle.grammar.specs.Trees.{Field}
 use Rattle.grammar.specs.Image.{two, payload, entry}
-use Rattle.grammar.specs.Layout.{Part, Layout, layout, unknown, Row, row, rows, layout_in, layout_of, codes, numbers}
+use Rattle.grammar.specs.Layout.{Part, Layout, layout, unknown, Row, row, rows, layout_in, layout_of, numbers}
 use Rattle.grammar.proofs.Chosen.{and_left, and_right}
 use Rattle.images.specs.Inner.{two_at}
 use Rattle.images.proofs.PartLaws.{proper, two_back, two_is}

@@ -2,8 +2,8 @@
 -- Assumes nothing.
 use mathlib.Core.Path.{◌≡◌, refl, sym, ap, subst, ◌∙◌}
 use mathlib.Core.Bool.{Bool, true, false, cond, not, ◌&&◌, ◌||◌}
-use mathlib.Core.List.{List, [], ◌∷◌, ◌++◌, map, append_assoc, append-nil}
-use Prim.Native.Nat.{ℕ, zero, suc, ◌+◌, ◌-◌, ◌≤◌, ◌<◌}
+use mathlib.Core.List.{List, [], ◌∷◌, ◌++◌, map}
+use Prim.Native.Nat.{ℕ, zero, suc, ◌+◌, ◌<◌}
 use native.Mathlib.Omega.{arith}
 use lib.Dec.{T, eqb}
 use lib.ListN.{length, take, drop, length-append, take-append-drop, length-drop}
@@ -127,6 +127,8 @@ each_fits s (x ∷ xs) (Each.more i e) = Fits.more (is_of x s i) (each_fits s xs
 fits_each : (s n : ℕ) (xs : List ℕ) → s < 16 → Fits (map sort_of xs) (times n (sort_at s)) → Each s xs
 unfolding times
 fits_each s zero [] h f = Each.none
+fits_each s zero (x ∷ xs) h f = elim f [ ]
+fits_each s (suc n) [] h f = elim f [ ]
 fits_each s (suc n) (x ∷ xs) h (Fits.more i f) = Each.more (of_is x s h i) (fits_each s n xs h f)
 
 each_onto : (s : ℕ) (xs l : List ℕ) → Each s xs → Each s l → Each s (back xs l)
@@ -267,6 +269,7 @@ record Fitting (xs : List ℕ) (ws us : List Sort) : Type 0 where
   pub fits2 : Fits (map sort_of y2) us
 
 fits_split : (xs : List ℕ) (ws us : List Sort) → Fits (map sort_of xs) (ws ++ us) → Fitting xs ws us
+fits_split [] (w ∷ ws) us f = elim f [ ]
 fits_split xs [] us f = record { y1 = []; y2 = xs; whole = refl; fits1 = Fits.none; fits2 = f }
 fits_split (x ∷ xs) (w ∷ ws) us (Fits.more i f) =
     let g = fits_split xs ws us f in
@@ -319,6 +322,7 @@ record FieldFirst (xs : List ℕ) (y : ℕ) : Type 0 where
 
 field-first : (xs : List ℕ) (y : ℕ) → Fits (map sort_of xs) (records.field ∷ times y records.bind) → FieldFirst xs y
 unfolding sort_at look numbered
+field-first [] y x' = elim x' [ ]
 field-first (z ∷ zs) y (Fits.more i f) = record { binds = zs; whole = ap (λ (k : ℕ). k ∷ zs) (field_tag z i); each = fits_each 6 y zs (omega arith) f }
 
 -- ── What is asked for is there ────────────────────────────────────────────────────────────────────

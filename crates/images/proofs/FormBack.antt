@@ -3,22 +3,19 @@
 -- Assumes nothing.
 use mathlib.Core.Path.{◌≡◌, refl, sym, ap, subst, ◌∙◌}
 use mathlib.Core.Bool.{Bool, true, false, cond, ◌&&◌}
-use mathlib.Core.List.{List, [], ◌∷◌, ◌++◌, map, append-nil, append_assoc}
+use mathlib.Core.List.{List, [], ◌∷◌, ◌++◌, append-nil, append_assoc}
 use Prim.Native.Nat.{ℕ, zero, suc, ◌+◌, ◌-◌, ◌*◌, ◌/◌, ◌%◌, ◌≤◌, ◌<◌}
 use native.Mathlib.Omega.{arith}
-use lib.Dec.{T, eqb, leb}
-use lib.ListN.{length, replicate, get_or}
-use borrow.Author.Tests.{le-leb, leb-true, eqb-true, eqb-false, eq-eqb, ne_eqb}
-use Rattle.strings.specs.Utf8.{Utf8}
+use lib.Dec.{eqb}
+use borrow.Author.Tests.{le-leb, leb-true, eqb-true, eq-eqb}
 use Rattle.grammar.specs.Tags.{IDENTITY, NULL, BOOL, NUMBER, STRING, VARIABLE, ARRAY, ARRAY_COMP, MEMBERS, OBJECT_COMP, EXTENSION, PREFIX, INFIX, ASSERT_EXPR, LOCAL, IMPORT, ERROR, CALL}
 use Rattle.grammar.specs.Tags.{NAMED_ARGUMENT, INDEX_PART, FUNCTION, IF, SLICE, BIND, NAME_PATTERN, SKIP, ARRAY_PATTERN, OBJECT_PATTERN, PATTERN_FIELD, PARAMETER, FIELD, ASSERT, FOR, IF_CLAUSE, OBJECT_ITERATION}
 use Rattle.grammar.specs.Trees.{Field, byte, number, span, text}
 use Rattle.grammar.specs.Words.{NameText}
 use Rattle.grammar.specs.Records.{Sort, times, Spans, Has, First, Part, Rest, Name, Method, Form}
 use Rattle.grammar.specs.Records as records
-use Rattle.grammar.specs.Layout.{Layout, layout, unknown, Row, row, rows as layouts, layout_in, layout_of, bits_in, Laid, over, a_span, a_text, a_count, a_flag, a_slice, a_byte, Tells, tells}
+use Rattle.grammar.specs.Layout.{layout, unknown, Row, row, rows as layouts, layout_in, layout_of, bits_in, over, a_span, a_text, a_count, a_flag, a_slice, a_byte, Tells, tells}
 use Rattle.grammar.specs.Derived.{Forwards}
-use Rattle.images.specs.declared.asks.Question.{Question}
 use Rattle.images.specs.Inner.{span_value, unless, slice_fine, method_fine, pick, count_by, sort_by, text_by, fine_by, fines, look, row_of, rows, asks, sort_of, sorts, Worded, COMP}
 use Rattle.images.proofs.PartLaws.{value}
 use Rattle.images.proofs.CodeLaws.{number_of, utf8_of, name_of}

@@ -1,21 +1,19 @@
 -- A record of the table is as the code asks: its fields go together, its text is of the kind, its children are the groups that are asked for.
 -- Assumes nothing.
-use mathlib.Core.Path.{◌≡◌, refl, sym, ap, subst, ◌∙◌}
-use mathlib.Core.Bool.{Bool, true, false, cond, ◌&&◌}
-use mathlib.Core.List.{List, [], ◌∷◌, ◌++◌, map, append-nil, append_assoc}
-use Prim.Native.Nat.{ℕ, zero, suc, ◌+◌, ◌-◌, ◌*◌, ◌/◌, ◌%◌, ◌≤◌, ◌<◌}
+use mathlib.Core.Path.{◌≡◌, refl, ap}
+use mathlib.Core.Bool.{Bool, true, false, cond}
+use mathlib.Core.List.{List, [], ◌∷◌, ◌++◌, map, append-nil}
+use Prim.Native.Nat.{ℕ, ◌+◌, ◌-◌, ◌/◌, ◌%◌, ◌<◌}
 use native.Mathlib.Omega.{arith}
-use lib.Dec.{T, eqb, leb}
-use lib.ListN.{length, replicate, get_or}
-use borrow.Author.Tests.{le-leb, leb-true, eqb-true, eq-eqb, ne_eqb}
-use Rattle.grammar.specs.Tags.{IDENTITY, NULL, BOOL, NUMBER, STRING, VARIABLE, ARRAY, ARRAY_COMP, MEMBERS, OBJECT_COMP, EXTENSION, PREFIX, INFIX, ASSERT_EXPR, LOCAL, IMPORT, ERROR, CALL}
-use Rattle.grammar.specs.Tags.{NAMED_ARGUMENT, INDEX_PART, FUNCTION, IF, SLICE, BIND, NAME_PATTERN, SKIP, ARRAY_PATTERN, OBJECT_PATTERN, PATTERN_FIELD, PARAMETER, FIELD, ASSERT, FOR, IF_CLAUSE, OBJECT_ITERATION}
+use lib.Dec.{eqb}
+use lib.ListN.{length, replicate}
+use borrow.Author.Tests.{le-leb, eq-eqb, ne_eqb}
 use Rattle.grammar.specs.Trees.{Field, byte, number, span, text}
 use Rattle.grammar.specs.Records.{Sort, times, Spans, Has, First, Part, Rest, Name, Method, Form}
 use Rattle.grammar.specs.Records as records
 use Rattle.grammar.specs.Layout.{bits_in}
 use Rattle.images.specs.declared.asks.Question.{Question}
-use Rattle.images.specs.Inner.{BACKWARD, span_value, onward, forward, unless, slice_fine, method_fine, pick, count_by, sort_by, text_by, fine_by, fines, Entry, ◌is◌, look, row_of, rows, asks, code, sort_of, sorts, Worded, COMP}
+use Rattle.images.specs.Inner.{span_value, unless, slice_fine, method_fine, pick, count_by, sort_by, text_by, fine_by, fines, Entry, ◌is◌, look, row_of, rows, asks, sort_of, sorts, Worded, COMP}
 use Rattle.images.proofs.PartLaws.{value}
 
 -- The values of fields, in six numbers.

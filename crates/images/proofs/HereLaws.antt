@@ -1,28 +1,27 @@
 -- The record that stands at a place, as the walk over its parts finds it.
 -- Assumes nothing.
 use mathlib.Core.Path.{◌≡◌, refl, sym, ap, subst, ◌∙◌}
-use mathlib.Core.Bool.{Bool, true, false, cond}
-use mathlib.Core.List.{List, [], ◌∷◌, ◌++◌, map, append-nil, append_assoc}
-use Prim.Native.Nat.{ℕ, zero, suc, ◌+◌, ◌-◌, ◌*◌, ◌≤◌, ◌<◌}
+use mathlib.Core.Bool.{Bool, true, false}
+use mathlib.Core.List.{List, [], ◌∷◌, ◌++◌, map}
+use Prim.Native.Nat.{ℕ, suc, ◌+◌, ◌-◌, ◌≤◌, ◌<◌}
 use native.Mathlib.Omega.{arith}
 use lib.Dec.{T, eqb}
-use lib.ListN.{length, take, drop, get_or, replicate, length-append}
-use lib.Seq.{slice, slice_empty, length-slice}
-use borrow.Author.Tests.{eqb-true, eqb-false, eq-eqb, ne_eqb}
+use lib.ListN.{length, take, drop, get_or, replicate}
+use lib.Seq.{slice, length-slice}
+use borrow.Author.Tests.{eqb-true, eqb-false, eq-eqb}
 use Rattle.grammar.specs.Tags.{INFIX}
-use Rattle.grammar.specs.Trees.{Field, byte, span, text, Trees}
+use Rattle.grammar.specs.Trees.{Field, span, Trees}
 use Rattle.grammar.specs.Image.{payload, entry}
 use Rattle.grammar.specs.Layout.{Part, place, below, Layout, layout, layout_of, Laid, over, a_span, a_text, a_count, a_flag, a_slice, a_byte, Tells, tells, code, codes, numbers}
 use Rattle.grammar.proofs.ImageLaws.{entry_length}
-use Rattle.images.specs.declared.parts.Got.TheVariants.{Value}
 use Rattle.images.specs.Images.{Age, old, new, dated, Row, Stands}
-use Rattle.images.specs.Inner.{span_value, two_at, tail_part, Gets, Takes, Dating, dates, dated_row}
-use Rattle.images.proofs.PartLaws.{value, proper, cut, two_cut, Laidly, takes_laid, laid_takes}
+use Rattle.images.specs.Inner.{span_value, two_at, tail_part, Takes, Dating, dates, dated_row}
+use Rattle.images.proofs.PartLaws.{value, proper, cut, two_cut, takes_laid, laid_takes}
 use Rattle.images.proofs.CodeLaws.{part_slice}
 use Rattle.images.proofs.EntryLaws.{Entry, entry_there, there_entry}
 use Rattle.images.proofs.FormLaws.{values, words_of}
 use Rattle.images.proofs.RowLaws.{dated_other}
-use Rattle.images.proofs.StepLaws.{age_of, kind_old, kind_new, row_plain, row_old, infix_layout, told_laid, OldFields, old_fields, byte_laid, zero_laid, new_length}
+use Rattle.images.proofs.StepLaws.{kind_old, kind_new, row_plain, row_old, infix_layout, told_laid, OldFields, old_fields, byte_laid, zero_laid, new_length}
 
 -- Values in six numbers.
 abbrev pub six : List ℕ → List ℕ

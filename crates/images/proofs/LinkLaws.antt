@@ -1,18 +1,18 @@
 -- The links of a row of trees: one record more, and the walk back over the last trees.
 -- Assumes nothing.
-use mathlib.Core.Path.{◌≡◌, refl, sym, ap, subst, ◌∙◌}
-use mathlib.Core.List.{List, [], ◌∷◌, ◌++◌, append_assoc, append-nil}
-use Prim.Native.Nat.{ℕ, zero, suc, ◌+◌, ◌-◌, ◌*◌, ◌≤◌, ◌<◌}
+use mathlib.Core.Path.{◌≡◌, refl, sym, ap, ◌∙◌}
+use mathlib.Core.List.{List, [], ◌∷◌, ◌++◌, append_assoc}
+use Prim.Native.Nat.{ℕ, zero, suc, ◌+◌, ◌-◌, ◌*◌}
 use native.Mathlib.Omega.{arith}
-use lib.ListN.{length, get_or, length-append, get_or-append}
-use lib.Seq.{get_or-append-add, get_or_at}
+use lib.ListN.{length, get_or, length-append}
+use lib.Seq.{get_or-append-add}
 use Rattle.grammar.specs.Trees.{Field, Trees, tree, ◌⊕◌, count}
 use Rattle.grammar.specs.Trees as trees
 use Rattle.grammar.specs.Image.{entry, image}
-use Rattle.grammar.proofs.ImageLaws.{row_assoc, count-row, image-row, image_close, row-length}
+use Rattle.grammar.proofs.ImageLaws.{row_assoc, count-row, row-length}
 use Rattle.images.specs.Images.{records, links}
 use Rattle.images.specs.Inner.{pops}
-use Rattle.images.proofs.RowLaws.{records-row, Parted, part-row}
+use Rattle.images.proofs.RowLaws.{records-row, part-row}
 
 pub links-length : (at first : ℕ) (ts : Trees) → length (links at first ts) ≡ records ts * 2
 unfolding links records

@@ -7,7 +7,7 @@ use Prim.Native.Nat.{ℕ, suc, ◌+◌, ◌-◌, ◌*◌, ◌≤◌, ◌<◌}
 use native.Mathlib.Nat.{min-le_left}
 use native.Mathlib.Omega.{arith}
 use lib.Dec.{eqb}
-use lib.ListN.{length, take, drop, get_or, length-take, replicate, length-append, length-replicate}
+use lib.ListN.{length, drop, get_or, length-take, replicate, length-append, length-replicate}
 use Rattle.grammar.specs.Trees.{Field, Trees, tree, ◌⊕◌, count}
 use Rattle.grammar.specs.Image.{entry, image}
 use Rattle.grammar.specs.Tags.{INFIX}
@@ -18,21 +18,21 @@ use Rattle.images.specs.declared.parts.Parts.{Parts}
 use Rattle.images.specs.declared.roots.Roots.{Roots}
 use Rattle.images.specs.declared.roots.Roots.TheVariants.{From, Other}
 use Rattle.images.specs.declared.records.Extent.{Extent}
-use Rattle.images.specs.declared.records.Extent.TheVariants.{End, Cut}
-use Rattle.images.specs.declared.records.Step.TheVariants.{Next, Unknown, Malformed, Missing, Underived}
+use Rattle.images.specs.declared.records.Extent.TheVariants.{End}
+use Rattle.images.specs.declared.records.Step.TheVariants.{Next, Missing, Underived}
 use Rattle.images.specs.Images.{Stands, More, dated}
 use Rattle.images.specs.Images as images
-use Rattle.images.specs.Inner.{two_at, Takes, Fails, Walks, Extends, dates, dated_row, asks, pops, Lands, beyond, Chain, Checks, Checked, Dating, State, Stepped, roots}
+use Rattle.images.specs.Inner.{two_at, Takes, Fails, Walks, Extends, dates, dated_row, asks, pops, beyond, Chain, Checks, Checked, Dating, State, Stepped, roots}
 use Rattle.images.proofs.FormLaws.{values, words_of}
 use Rattle.images.proofs.RootLaws.{no_true}
-use Rattle.images.proofs.RowLaws.{tags, tags_count, roots_back, back_length, row_less, row_more}
+use Rattle.images.proofs.RowLaws.{tags, tags_count, roots_back, back_length, row_less}
 use Rattle.images.proofs.StepLaws.{age_of, row_age}
-use Rattle.images.proofs.EntryLaws.{Known, known as known-layout, Entry, entry_there}
+use Rattle.images.proofs.EntryLaws.{Known, known as known-layout, entry_there}
 use Rattle.images.proofs.HereLaws.{six, Here}
 use Rattle.images.proofs.SumLaws.{sums}
 use Rattle.images.proofs.LinkLaws.{pops-row}
 use Rattle.images.proofs.DateLaws.{dating_more}
-use Rattle.images.proofs.RecordLaws.{LayoutIs, fs, is_here, stands, Taken, taken, over_checks}
+use Rattle.images.proofs.RecordLaws.{LayoutIs, fs, is_here, stands, taken, over_checks}
 
 pub roots-length : (ts : Trees) → length (roots ts []) ≡ count ts
 roots-length ts = ap length (roots_back ts []) ∙ (let l = back_length (tags ts) [] in omega (arith, l, tags_count ts))

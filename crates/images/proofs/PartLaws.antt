@@ -1,18 +1,17 @@
 -- A payload by its parts: what the walk over a row of codes takes is laid out as the row says, and what is laid out so it takes.
 -- Assumes nothing.
 use mathlib.Core.Path.{◌≡◌, refl, sym, ap, subst, ◌∙◌}
-use mathlib.Core.Bool.{Bool, true, false, cond, ◌&&◌}
+use mathlib.Core.Bool.{Bool, true, false}
 use mathlib.Core.List.{List, [], ◌∷◌, ◌++◌, map}
 use Prim.Native.Nat.{ℕ, zero, suc, ◌+◌, ◌-◌, ◌*◌, ◌/◌, ◌%◌, ◌≤◌, ◌<◌}
 use native.Mathlib.Numerals.{add-one}
 use native.Mathlib.Omega.{arith}
-use lib.Dec.{T, eqb, leb}
-use lib.ListN.{length, drop, get_or, replicate}
+use lib.Dec.{T}
+use lib.ListN.{length, get_or, replicate}
 use lib.Seq.{slice, slice_empty, slice-cons, length-slice}
 use Rattle.grammar.specs.Trees.{Field, byte, number, span, text}
 use Rattle.grammar.specs.Image.{two, payload}
 use Rattle.grammar.specs.Layout.{Part, place, words, count, has, bits, below, bits_in, Laid, over, a_span, a_text, a_count, a_flag, a_slice, a_byte, code, codes}
-use Rattle.images.specs.declared.parts.Got.{Got}
 use Rattle.images.specs.declared.parts.Got.TheVariants.{Value, Wrong}
 use Rattle.images.specs.Inner.{two_at, span_value, limit, told_by, Gets, Takes, Fails}
 use Rattle.images.proofs.CodeLaws.{limit_other, told_other}
@@ -164,6 +163,7 @@ module _ (bytes : List ℕ) (end : ℕ) (within : end ≤ length bytes) where
 
     pub takes_laid : (ps : List Part) (k : ℕ) {at n : ℕ} {vs : List ℕ} → T (proper ps) → Takes bytes end at (codes ps ++ replicate k 0) vs n → Laidly ps at vs n
     unfolding proper codes code payload value limit told_by
+    takes_laid (words ∷ (_ ∷ _)) k {at = at} {n = n} {vs = vs} h t = elim h [ ]
     takes_laid [] zero h Takes.last = record { fields = []; laid = over; paid = sym (slice_empty end bytes); valued = refl }
     takes_laid [] (suc k) h Takes.over = record { fields = []; laid = over; paid = sym (slice_empty end bytes); valued = refl }
     takes_laid [] (suc k) h (Takes.more n g t) = absurd (n refl)

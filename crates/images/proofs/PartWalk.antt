@@ -3,15 +3,14 @@
 use mathlib.Core.Path.{◌≡◌, refl, sym, ap, subst, ◌∙◌}
 use mathlib.Core.Bool.{Bool, true, false}
 use mathlib.Core.List.{List, [], ◌∷◌, ◌++◌, append_assoc, append-nil}
-use Prim.Native.Nat.{ℕ, zero, suc, ◌+◌, ◌-◌, ◌*◌, ◌≤◌, ◌<◌}
+use Prim.Native.Nat.{ℕ, suc, ◌+◌, ◌-◌, ◌*◌, ◌≤◌, ◌<◌}
 use native.Mathlib.Numerals.{add-one}
 use native.Mathlib.Omega.{arith}
 use lib.Dec.{eqb}
-use lib.ListN.{length, take, drop, get_or, set, replicate, length-append, length-set, length-replicate, take-append-drop, length-take}
+use lib.ListN.{length, take, drop, get_or, set, replicate, length-set, take-append-drop}
 use lib.Seq.{drop-cons, take-suc-set, drop-set-lt, length-take-le, drop-length, drop-drop}
 use borrow.Author.Tests.{eqb-true, eqb-false}
 use Rattle.images.specs.declared.parts.Got.TheVariants.{Value, Wrong}
-use Rattle.images.specs.declared.parts.Parts.{Parts}
 use Rattle.images.specs.Inner.{Gets, Takes, Fails, Walks}
 
 -- From the loop's place on: what is taken there is taken from the start, with the values and children so far; what fails there fails.

@@ -3,33 +3,32 @@
 use mathlib.Core.Path.{◌≡◌, refl, sym, ap, subst, ◌∙◌}
 use mathlib.Core.Bool.{Bool, true, false, cond}
 use mathlib.Core.List.{List, [], ◌∷◌, ◌++◌, map}
-use Prim.Native.Nat.{ℕ, zero, suc, ◌+◌, ◌-◌, ◌*◌, ◌≤◌, ◌<◌}
+use Prim.Native.Nat.{ℕ, suc, ◌+◌, ◌-◌, ◌≤◌, ◌<◌}
 use native.Mathlib.Omega.{arith}
 use lib.Dec.{T, eqb}
-use lib.ListN.{length, take, drop, get_or, replicate}
+use lib.ListN.{length, drop, get_or}
 use borrow.Author.Tests.{eqb-true, eqb-false, eq-eqb, ne_eqb}
 use Rattle.grammar.specs.Tags.{INFIX}
-use Rattle.grammar.specs.Trees.{Field, byte, number, span, text, Trees, tree, ◌⊕◌, count}
-use Rattle.grammar.specs.Image.{entry, image, payload}
-use Rattle.grammar.specs.Layout.{Part, Layout, layout, unknown, layout_of, Laid, over, a_span, a_text, a_count, a_flag, a_slice, a_byte, Tells, codes, numbers}
-use Rattle.grammar.specs.Records.{Sort, Fits, Spans, Form}
-use Rattle.grammar.specs.Derived.{Forwards}
+use Rattle.grammar.specs.Trees.{Field, byte, number, span, text, Trees, ◌⊕◌, count}
+use Rattle.grammar.specs.Image.{entry}
+use Rattle.grammar.specs.Layout.{Part, Layout, layout, unknown, layout_of, Laid, over, a_span, a_text, a_count, a_flag, a_slice, a_byte, Tells}
+use Rattle.grammar.specs.Records.{Fits}
 use Rattle.grammar.proofs.LayoutLaws.{form_laid}
 use Rattle.grammar.proofs.Spanned.{forwards}
-use Rattle.grammar.proofs.Sorts.{fits-length}
-use Rattle.images.specs.declared.records.Extent.TheVariants.{End, Cut}
-use Rattle.images.specs.Images.{Age, old, new, dated, Row, Stands, More}
-use Rattle.images.specs.Inner.{two_at, tail_part, Takes, Fails, Extends, dates, dated_row, asks, forward, sort_of, Worded, Fit, Checks, Dating, State, roots}
+use Rattle.images.specs.declared.records.Extent.TheVariants.{Cut}
+use Rattle.images.specs.Images.{Age, old, new, dated, Row, Stands}
+use Rattle.images.specs.declared.parts.Got.TheVariants.{Value}
+use Rattle.images.specs.Inner.{two_at, tail_part, Gets, Takes, Fails, Extends, dates, dated_row, asks, forward, sort_of, Worded, Fit, Checks, State, roots}
 use Rattle.images.proofs.PartLaws.{proper, gets_equal, takes_fails}
 use Rattle.images.proofs.EntryLaws.{Known, known, Entry, entry_there}
-use Rattle.images.proofs.FormLaws.{values, words_of, form_asked}
-use Rattle.images.proofs.FormBack.{Made, makes}
+use Rattle.images.proofs.FormLaws.{values, form_asked}
+use Rattle.images.proofs.FormBack.{makes}
 use Rattle.images.proofs.FitLaws.{plain_fits, comp_fits, fits_wanted, three, beyond_all}
 use Rattle.images.proofs.SumLaws.{sums}
 use Rattle.images.proofs.SpanLaws.{Small, small_laid, values_below, forward_of, forward_is, forward_fields}
-use Rattle.images.proofs.RowLaws.{tags, tags_count, roots_back, roots-row, back, Parted, part-row, Over, row_less, row_more, dated_other}
+use Rattle.images.proofs.RowLaws.{tags, tags_count, roots_back, roots-row, back, part-row, Over, dated_other}
 use Rattle.images.proofs.StepLaws.{age_of, row_age, row_plain, row_old, told_laid}
-use Rattle.images.proofs.HereLaws.{six, Here, here-plain, here_old, Found, found}
+use Rattle.images.proofs.HereLaws.{six, Here, here-plain, here_old, found}
 
 -- ── The layout of a known tag ─────────────────────────────────────────────────────────────────────
 
@@ -149,14 +148,18 @@ module _ {bytes array : List ℕ} {at n standing age : ℕ} (small : (i : ℕ) �
 takes_at : {bytes : List ℕ} {end i j n : ℕ} {cs vs : List ℕ} → i ≡ j → Takes bytes end i cs vs n → Takes bytes end j cs vs n
 takes_at {bytes} {end} {n = n} {cs} {vs} e t = subst (λ (i : ℕ). Takes bytes end i cs vs n) e t
 
+-- The same from two places that are equal: they are matched apart.
+takes_alike : {bytes : List ℕ} {end at at' n m : ℕ} {cs vs ws : List ℕ} → Takes bytes end at cs vs n → Takes bytes end at' cs ws m → at ≡ at' → vs ≡ ws
+takes_alike Takes.over Takes.over q = refl
+takes_alike Takes.over (Takes.more z g t) q = absurd (z refl)
+takes_alike Takes.last Takes.last q = refl
+takes_alike (Takes.more z g t) Takes.over q = absurd (z refl)
+takes_alike {bytes} {end} (Takes.more {v = v} {next = next} {k = k} {c = c} z g t) (Takes.more {vs = us} y f u) q =
+    let e = gets_equal (subst (λ (i : ℕ). Gets bytes i end c (Value v next k)) q g) f in
+    ap (λ (l : List ℕ). v ∷ l) (takes_alike t u (sym e.0)) ∙ ap (λ (i : ℕ). i ∷ us) e.1
+
 takes_same : {bytes : List ℕ} {end at n m : ℕ} {cs vs ws : List ℕ} → Takes bytes end at cs vs n → Takes bytes end at cs ws m → vs ≡ ws
-takes_same Takes.over Takes.over = refl
-takes_same Takes.over (Takes.more z g t) = absurd (z refl)
-takes_same Takes.last Takes.last = refl
-takes_same (Takes.more z g t) Takes.over = absurd (z refl)
-takes_same {bytes} {end} (Takes.more {v = v} {cs = cs} z g t) (Takes.more {vs = us} y f u) =
-    let e = gets_equal g f in
-    ap (λ (l : List ℕ). v ∷ l) (takes_same t (takes_at e.0 u)) ∙ ap (λ (i : ℕ). i ∷ us) e.1
+takes_same x y = takes_alike x y refl
 
 dated_small : (of : Age) (tag : ℕ) (fields : List Field) → Small fields → Small (dated of tag fields)
 unfolding dated

@@ -2,7 +2,7 @@
 -- Assumes nothing.
 use mathlib.Core.Path.{◌≡◌, refl, sym, ap, subst, ◌∙◌}
 use mathlib.Core.Bool.{Bool, true, false}
-use mathlib.Core.List.{List, [], ◌∷◌, ◌++◌}
+use mathlib.Core.List.{List, [], ◌∷◌}
 use Prim.Native.Nat.{ℕ, zero, suc, ◌+◌, ◌-◌, ◌*◌, ◌≤◌, ◌<◌}
 use native.Mathlib.Omega.{arith}
 use lib.ListN.{length, take, drop, get_or, length-drop}
@@ -10,7 +10,7 @@ use Rattle.grammar.specs.Tags.{FIELD}
 use Rattle.images.specs.declared.asks.Question.{Question}
 use Rattle.images.specs.declared.roots.Roots.{Roots}
 use Rattle.images.specs.declared.roots.Roots.TheVariants.{From, Other}
-use Rattle.images.specs.Inner.{is_a, sort_of, code, wide_code, COMP, Chain, pops, Lands, Open, Each, OneField, Group, Walked, Fit, Fitted, beyond}
+use Rattle.images.specs.Inner.{is_a, sort_of, code, wide_code, COMP, Chain, pops, Lands, Each, OneField, Group, Walked, Fitted}
 
 pub no_true : {b : Bool} → b ≡ true → b ≡ false → ⊥
 no_true {b} e f = by (sym e ∙ f)

@@ -1,21 +1,19 @@
 -- Rows of trees: tags and sorts of their roots, a row with a record more, and a row split.
 -- Assumes nothing.
 use mathlib.Core.Path.{◌≡◌, refl, sym, ap, subst, ◌∙◌}
-use mathlib.Core.Bool.{Bool, true, false, cond}
-use mathlib.Core.List.{List, [], ◌∷◌, ◌++◌, map, append_assoc, append-nil}
-use Prim.Native.Nat.{ℕ, zero, suc, ◌+◌, ◌-◌, ◌≤◌, ◌<◌}
+use mathlib.Core.List.{List, [], ◌∷◌, ◌++◌, map, append_assoc}
+use Prim.Native.Nat.{ℕ, zero, suc, ◌+◌}
 use native.Mathlib.Omega.{arith}
-use lib.Dec.{eqb}
-use lib.ListN.{length, take, drop, length-append}
+use lib.ListN.{length, take, drop}
 use lib.Seq.{take_at, drop_at}
-use borrow.Author.Tests.{eq-eqb, ne_eqb}
+use borrow.Author.Tests.{ne_eqb}
 use Rattle.grammar.specs.Tags.{INFIX}
 use Rattle.grammar.specs.Trees.{Field, span, Trees, tree, ◌⊕◌, count}
 use Rattle.grammar.specs.Trees as trees
 use Rattle.grammar.specs.Image.{entry, image}
-use Rattle.grammar.specs.Records.{Sort, Is, Fits, Spans, Form, Obeys}
-use Rattle.grammar.proofs.ImageLaws.{row_assoc, row_end, count-row, image-row, image_close}
-use Rattle.grammar.proofs.Obeys.{obeys_append, obeys_length}
+use Rattle.grammar.specs.Records.{Sort, Fits, Spans, Form, Obeys}
+use Rattle.grammar.proofs.ImageLaws.{image-row, image_close}
+use Rattle.grammar.proofs.Obeys.{obeys_append}
 use Rattle.images.specs.Images.{Age, old, new, dated, dated_trees, Row, records}
 use Rattle.images.specs.Inner.{sort_of, roots}
 use Rattle.images.proofs.FormLaws.{form_asked}

@@ -100,10 +100,10 @@ more_same {ts} {us} {rest} {rest'} x y e q = by us rest' e q y
 -- With as many records they are the same row.
 same_row : {bytes rest rest' : List ℕ} {ts us : Trees} (n : ℕ) → Before bytes ts rest → Before bytes us rest' → records ts ≡ n → records us ≡ n → (ts ≡ us) × (rest ≡ rest')
 same_row {ts = ts} {us} zero b c e q = (no_records ts e ∙ sym (no_records us q), sym (all_left b e) ∙ all_left c q)
-same_row (suc n) b c e q =
+same_row {bytes = bytes} {rest = rest} {rest' = rest'} {ts = ts} {us = us} (suc n) b c e q =
     let x = undone n b e in
     let y = undone n c q in
-    let before = same_row n x.before y.before x.number y.number in
+    let before = same_row {bytes = bytes} {rest = x.before-rest} {rest' = y.before-rest} {ts = x.before_ts} {us = y.before_ts} n x.before y.before x.number y.number in
     let now = more_same x.more y.more before.0 before.1 in
     (x.again.0 ∙ now.0 ∙ sym y.again.0, x.again.1 ∙ now.1 ∙ sym y.again.1)
 
@@ -119,7 +119,8 @@ passed : {bytes rest : List ℕ} {ts : Trees} (n k : ℕ) → Before bytes ts re
 passed n zero b e =
     let x = undone n b (omega arith) in
     record { ts = x.before_ts; rest = x.before-rest; before = x.before; number = x.number; more = x.more }
-passed n (suc k) b e = let x = undone (suc k + n) b (omega arith) in passed n k x.before x.number
+passed {bytes = bytes} {rest = rest} {ts = ts} n (suc k) b e =
+    let x = undone (suc k + n) b (omega arith) in passed {bytes = bytes} {rest = x.before-rest} {ts = x.before_ts} n k x.before x.number
 
 -- The longer of two rows goes on where the shorter ends.
 goes_on : {bytes rest rest' : List ℕ} {ts us : Trees} → Before bytes ts rest → Before bytes us rest' → records ts < records us → More ts rest

@@ -2,23 +2,18 @@
 -- Assumes nothing.
 use mathlib.Core.Path.{◌≡◌, refl, sym, ap, subst, ◌∙◌}
 use mathlib.Core.Bool.{Bool, true, false, cond}
-use mathlib.Core.List.{List, [], ◌∷◌, ◌++◌, map, append-nil, append_assoc}
-use Prim.Native.Nat.{ℕ, zero, suc, ◌+◌, ◌-◌, ◌*◌, ◌≤◌, ◌<◌}
+use mathlib.Core.List.{List, [], ◌∷◌, ◌++◌}
+use Prim.Native.Nat.{ℕ, suc, ◌+◌, ◌-◌, ◌<◌}
 use native.Mathlib.Omega.{arith}
-use lib.Dec.{T, eqb}
-use lib.ListN.{length, take, drop, get_or, replicate, length-append}
-use lib.Seq.{slice, length-slice}
-use borrow.Author.Tests.{eqb-true, eqb-false, eq-eqb, ne_eqb}
+use lib.Dec.{eqb}
+use lib.ListN.{length, take, drop, replicate, length-append}
+use borrow.Author.Tests.{eqb-true, eq-eqb, ne_eqb}
 use Rattle.grammar.specs.Tags.{INFIX}
-use Rattle.grammar.specs.Trees.{Field, byte, number, span, text, Trees, tree, ◌⊕◌, count}
-use Rattle.grammar.specs.Image.{payload, entry, image}
-use Rattle.grammar.specs.Layout.{Part, place, below, Layout, layout, unknown, layout_of, rows, layout_in, Laid, over, a_span, a_byte, Tells, tells, code, codes, numbers}
-use Rattle.images.specs.Images.{Age, old, new, dated, dated_trees, Row, Stands, More}
-use Rattle.images.specs.Inner.{span_value, two_at, Takes, Fails, Dating, dates, dated_row, asks}
-use Rattle.images.proofs.PartLaws.{value, proper, Laidly, takes_laid, laid_takes, takes_fails}
-use Rattle.images.proofs.EntryLaws.{Known, known, Entry, entry_there, there_entry}
-use Rattle.images.proofs.FormLaws.{values}
-use Rattle.images.proofs.RowLaws.{dated_other}
+use Rattle.grammar.specs.Trees.{Field, byte, span, Trees}
+use Rattle.grammar.specs.Image.{payload}
+use Rattle.grammar.specs.Layout.{Part, place, below, Layout, layout, layout_of, Laid, over, a_span, a_byte, Tells, tells, codes, numbers}
+use Rattle.images.specs.Images.{Age, old, new, Row}
+use Rattle.images.specs.Inner.{Dating, dates, dated_row}
 
 -- ── The kind of infix records ─────────────────────────────────────────────────────────────────────
 

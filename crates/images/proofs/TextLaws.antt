@@ -13,8 +13,8 @@ use lib.Dec.{T, leb, le→leb, eqb}
 use lib.ListN.{length, get_or, drop, length-drop, drop_of_length-le, get_or-eq_default}
 use lib.Seq.{drop-cons}
 use borrow.Author.Tests.{ne_eqb}
-use Rattle.regex.specs.Regex.{within, in_class}
-use Rattle.regex.proofs.Bools.{and, true_is, false_is, is_false, implies, implied}
+use Rattle.regexes.specs.Regex.{within, in_class}
+use Rattle.regexes.proofs.Bools.{and, true_is, false_is, is_false, implies, implied}
 use Rattle.lexemes.specs.Rules.{◌–◌, alpha, alnum}
 use Rattle.lexemes.specs.Texts.{All, Identifier, keywords, Among, TellsKeyword, is_digit, is_e, is_sign, Whole, Fraction, Exponent, Numeral}
 use Rattle.lexemes.proofs.Spaces.{within_to, within_from}

@@ -4,7 +4,7 @@ use mathlib.Core.Path.{◌≡◌, refl, sym, ap, subst, ◌∙◌}
 use mathlib.Core.List.{List, [], ◌∷◌, ◌++◌, map, append_assoc, append-nil}
 use mathlib.Core.Bool.{true, false}
 use mathlib.Core.Logic.{⊎_elim}
-use Prim.Native.Nat.{ℕ, zero, suc, ◌+◌, ◌-◌, ◌*◌, ◌≤◌, ◌<◌}
+use Prim.Native.Nat.{ℕ, ◌+◌, ◌-◌, ◌*◌, ◌≤◌, ◌<◌}
 use native.Mathlib.Omega.{arith}
 use lib.ListN.{drop_of_length-le, length, drop, get_or, set, length-set, length-append}
 use lib.Seq.{get_or-set_same, get_or-set_other, set_at, get_or_at}
@@ -18,7 +18,6 @@ use Rattle.grammar.proofs.Derived.{whole_exactly, derived_obeys}
 use Rattle.grammar.proofs.Spanned.{spanned_obeys, obeys_spanned}
 use Rattle.grammar.proofs.ImageLaws.{count-row, image_close, image-length, close_length, entry_length}
 use Rattle.images.specs.declared.Answer.{Answer}
-use Rattle.images.specs.declared.Answer.TheVariants as Answer
 use Rattle.images.specs.declared.records.Step.{Step}
 use Rattle.images.specs.declared.records.Step.TheVariants.{Next}
 use Rattle.images.specs.Images.{Age, dated_trees, Row, Before, Stands, Accepted, Refused}

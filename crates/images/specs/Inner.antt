@@ -1,7 +1,7 @@
 -- What the functions below `back` promise each other: a numeral by its parts, a record's bytes by the parts of its layout, what it asks of its children, the
 -- row of open roots in the lent array. The definitions here follow the code; what they amount to is proved (proofs/). No public contract cites them.
 -- Assumes nothing.
-use Rattle.std.specs.Prelude.{◌≡◌, Bool, true, false, cond, not, ◌&&◌, ◌||◌, List, [], ◌∷◌, ◌++◌, ℕ, zero, suc, ◌+◌, ◌-◌, ◌*◌, ◌/◌, ◌%◌, ◌≤◌, ◌<◌, T, eqb, leb, ltb, length, take, drop, get_or, replicate}
+use Rattle.std.specs.Prelude.{◌≡◌, Bool, true, false, cond, ◌&&◌, ◌||◌, List, [], ◌∷◌, ◌++◌, ℕ, zero, suc, ◌+◌, ◌-◌, ◌*◌, ◌/◌, ◌%◌, ◌≤◌, ◌<◌, T, eqb, leb, ltb, length, take, drop, get_or, replicate}
 use Rattle.strings.specs.Utf8.{Utf8}
 use Rattle.lexemes.specs.Texts.{All, is_digit, Fraction, Exponent}
 use Rattle.grammar.specs.Tags.{IDENTITY, NULL, BOOL, NUMBER, STRING, VARIABLE, ARRAY, ARRAY_COMP, MEMBERS, OBJECT_COMP, EXTENSION, PREFIX, INFIX, ASSERT_EXPR, LOCAL, IMPORT, ERROR, CALL}
@@ -16,7 +16,6 @@ use Rattle.grammar.specs.Layout.{Layout, layout_of, bits_in, numbers as layout-n
 use Rattle.images.specs.Images.{Age, old, new, Accepted, Row, Stands, More, Refused, links}
 use Rattle.images.specs.Images as images
 use Rattle.images.specs.declared.Answer.{Answer}
-use Rattle.images.specs.declared.Answer.TheVariants as Answer
 use Rattle.images.specs.declared.asks.Question.{Question}
 use Rattle.images.specs.declared.parts.Got.{Got}
 use Rattle.images.specs.declared.parts.Got.TheVariants.{Value, Wrong}

@@ -1,3 +1,4 @@
+#![tactic(auto)]
 // Images read back: whether bytes are one tree's records, and where each record's children are.
 ghost use Rattle.std.specs.Prelude.{◌≡◌, ◌≤◌, length, replicate};
 ghost use Rattle.images.specs.Images.{needed as needed-for, ReadsBack};

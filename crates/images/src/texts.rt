@@ -1,6 +1,6 @@
 // The texts of records: whether a name is one, a number, and UTF-8.
 ghost use Rattle.std.specs.Prelude.{◌≡◌, drop};
-ghost use Rattle.regex.specs.Regex.{in_class};
+ghost use Rattle.regexes.specs.Regex.{in_class};
 ghost use Rattle.strings.specs.Utf8.{Utf8};
 ghost use Rattle.lexemes.specs.Rules.{alpha, alnum};
 ghost use Rattle.lexemes.specs.Texts.{Numeral, Exponent, is_digit, is_e, is_sign};

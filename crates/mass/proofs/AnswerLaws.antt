@@ -1,8 +1,8 @@
 -- `listed` and `list`, answer by answer.
 -- Assumes nothing.
 use mathlib.Core.Path.{◌≡◌, refl, sym, ap, subst, ◌∙◌}
-use mathlib.Core.List.{List, [], ◌∷◌, ◌++◌}
-use Prim.Native.Nat.{ℕ, ◌+◌, ◌-◌, ◌*◌, ◌/◌, ◌≤◌, ◌<◌}
+use mathlib.Core.List.{List}
+use Prim.Native.Nat.{ℕ, ◌*◌, ◌/◌, ◌≤◌, ◌<◌}
 use native.Mathlib.Omega.{arith}
 use lib.ListN.{length, replicate, length-replicate}
 use Rattle.images.specs.Images.{Refused, needed, ReadsBack}
@@ -12,8 +12,8 @@ use Rattle.images.specs.declared.Answer.TheVariants.{Tree}
 use Rattle.images.specs.declared.Answer.TheVariants as back
 use Rattle.mass.specs.declared.Answer.{Answer}
 use Rattle.mass.specs.declared.Answer.TheVariants.{Listed, ListShort, Short}
-use Rattle.mass.specs.Mass.{Listing, numbers, Kept, Answers, MassDepth}
-use Rattle.mass.specs.Inner.{Given, SomeGiven, Fills}
+use Rattle.mass.specs.Mass.{Kept, Answers, MassDepth}
+use Rattle.mass.specs.Inner.{SomeGiven, Fills}
 
 pub zeros_length : {list : List ℕ} (n : ℕ) → list ≡ replicate n 0 → length list ≡ n
 zeros_length n e = ap length e ∙ length-replicate {A = ℕ} n 0
@@ -59,13 +59,21 @@ reads_as {bytes} {array} {room} e x = subst (λ (c : images.Answer). ReadsBack b
 
 pub tree_given : {bytes array : List ℕ} {room n : ℕ} → ReadsBack bytes room (Tree n) array → (needed bytes ≤ room) × SomeGiven bytes array n
 unfolding in-numbers.numbers
-tree_given (ReadsBack.accepted {t} h a) = (h, record { t = t; given = record { accepted = a; rest = _; linked = refl; many = refl } })
-tree_given (ReadsBack.refused h r) = absurd (omega (arith, refused_number r))
+tree_given {bytes} {array} {room} {n} x = by room n array x
+  where
+    by : (room n : ℕ) (array : List ℕ) → ReadsBack bytes room (Tree n) array → (needed bytes ≤ room) × SomeGiven bytes array n
+    by room n array (ReadsBack.accepted {t} h a) = (h, record { t = t; given = record { accepted = a; rest = _; linked = refl; many = refl } })
+    by room n array (ReadsBack.refused h r) = absurd (omega (arith, refused_number r))
 
 -- A refusal of Item 1, as it is.
 pub kept : {bytes array list : List ℕ} {room size : ℕ} {b : images.Answer} {a : Answer} → ReadsBack bytes room b array → Kept b a → list ≡ replicate size 0 → MassDepth bytes room size a array list
-kept {bytes} {room = room} {size} {a = a} (ReadsBack.refused h r) k e =
-    record { answers = subst (λ (l : List ℕ). Answers bytes room size a l) (sym e) (Answers.refused h r k); zeros = refl }
+kept {bytes} {array} {list} {room} {size} {b} {a} x k e = by room b array x k
+  where
+    by : (room : ℕ) (b : images.Answer) (array : List ℕ) → ReadsBack bytes room b array → Kept b a → MassDepth bytes room size a array list
+    by room b array (ReadsBack.short h) k = elim k [ ]
+    by room b array (ReadsBack.accepted h r) k = elim k [ ]
+    by room b array (ReadsBack.refused h r) k =
+        record { answers = subst (λ (l : List ℕ). Answers bytes room size a l) (sym e) (Answers.refused h r k); zeros = refl }
 
 pub kept_short : {bytes array list : List ℕ} {room size n : ℕ} → ReadsBack bytes room (back.Short n) array → list ≡ replicate size 0 → MassDepth bytes room size (Short n) array list
 unfolding in-numbers.numbers

@@ -3,16 +3,14 @@
 -- Assumes nothing.
 use mathlib.Core.Path.{◌≡◌, refl, sym, ap, subst, ◌∙◌}
 use mathlib.Core.Bool.{Bool, cond}
-use mathlib.Core.List.{List, [], ◌∷◌, ◌++◌}
-use mathlib.Core.Logic.{◌⊎◌, inl, inr}
-use Prim.Native.Nat.{ℕ, suc, ◌+◌, ◌-◌, ◌*◌, ◌≤◌, ◌<◌}
+use mathlib.Core.List.{List, ◌++◌}
+use Prim.Native.Nat.{ℕ, ◌-◌, ◌*◌, ◌<◌}
 use native.Mathlib.Omega.{arith}
 use lib.Dec.{eqb}
 use lib.ListN.{length, replicate}
 use Rattle.grammar.specs.Trees.{Trees}
-use Rattle.images.specs.Images.{Accepted, needed}
-use Rattle.images.specs.Numbers.{Numbers, answered}
-use Rattle.images.specs.declared.fields.Fields.{Fields}
+use Rattle.images.specs.Images.{Accepted}
+use Rattle.images.specs.Numbers.{Numbers}
 use Rattle.mass.specs.declared.Answer.{Answer}
 use Rattle.mass.specs.declared.Answer.TheVariants.{Listed, Unknown, Malformed, Children, Underived, ListShort, Short}
 use Rattle.mass.specs.Numbers as in-numbers
@@ -52,8 +50,11 @@ pub record Holding (size n : ℕ) (t : Trees) (list : List ℕ) : Type 0 where
   pub held : list ≡ numbers ls ++ replicate (size - 4 * n) 0
 
 holding_of : {bytes list : List ℕ} {room size n : ℕ} {t : Trees} → Answers bytes room size (Listed n) list → Accepted bytes t → Holding size n t list
-holding_of (Answers.refused h r k) a = absurd (accepted_not_refused a r)
-holding_of (Answers.listed {ls = ls} h y p s) a = record { ls = ls; planned = subst (λ (u : Trees). Planned u ls) (one_tree y a) p; counted = refl; held = refl }
+holding_of {bytes} {list} {room} {size} {n} {t} x a = by size n list x
+  where
+    by : (size n : ℕ) (list : List ℕ) → Answers bytes room size (Listed n) list → Holding size n t list
+    by size n list (Answers.refused h r k) = absurd (accepted_not_refused a r)
+    by size n list (Answers.listed {ls = ls} h y p s) = record { ls = ls; planned = subst (λ (u : Trees). Planned u ls) (one_tree y a) p; counted = refl; held = refl }
 
 module _ {bytes : List ℕ} {room size n : ℕ} {array list : List ℕ} {t : Trees} (x : MassDepth bytes room size (Listed n) array list) (accepted : Accepted bytes t) where
   pub holding : Holding size n t list
@@ -93,7 +94,7 @@ module _ {bytes : List ℕ} {room size n : ℕ} {array list : List ℕ} {t : Tre
 pub zero_after_refusal : {bytes array list : List ℕ} {room size : ℕ} {a : Answer} → MassDepth bytes room size a array list → ((n : ℕ) → a ≡ Listed n → ⊥) → list ≡ replicate size 0
 zero_after_refusal x n = by x.answers n
   where
-    by : {bytes list : List ℕ} {room size : ℕ} {a : Answer} → Answers bytes room size a list → ((n : ℕ) → a ≡ Listed n → ⊥) → list ≡ replicate size 0
+    by : {bytes : List ℕ} {room size : ℕ} {a : Answer} {list : List ℕ} → Answers bytes room size a list → ((n : ℕ) → a ≡ Listed n → ⊥) → list ≡ replicate size 0
     by (Answers.short h) n = refl
     by (Answers.refused h r k) n = refl
     by (Answers.list_short h y p s) n = refl

@@ -2,23 +2,23 @@
 -- Assumes nothing.
 use mathlib.Core.Path.{◌≡◌, refl, sym, ap, subst, ◌∙◌}
 use mathlib.Core.List.{List, [], ◌∷◌, ◌++◌}
-use Prim.Native.Nat.{ℕ, zero, suc, ◌+◌, ◌-◌, ◌*◌, ◌/◌, ◌%◌, ◌≤◌, ◌<◌}
+use Prim.Native.Nat.{ℕ, ◌+◌, ◌-◌, ◌*◌, ◌/◌, ◌%◌, ◌≤◌, ◌<◌}
 use native.Mathlib.Omega.{arith}
-use lib.ListN.{length, get_or, take, drop, length-append, length-drop}
-use lib.Seq.{slice, take_at}
-use Rattle.grammar.specs.Tags.{INFIX, STRING, FIELD}
+use lib.ListN.{length, get_or, take, drop}
+use lib.Seq.{slice}
+use Rattle.grammar.specs.Tags.{STRING, FIELD}
 use Rattle.grammar.specs.Trees.{Field, byte, number, span, text, Trees, tree, node, ◌⊕◌, count}
 use Rattle.grammar.specs.Trees as trees
-use Rattle.grammar.specs.Image.{payload, entry, image}
-use Rattle.grammar.specs.Records.{Sort, Is, Fits, Spans, Form, Name, Method, Obeys}
+use Rattle.grammar.specs.Image.{payload, entry}
+use Rattle.grammar.specs.Records.{Sort, Is, Fits, Spans, Form, Name, Obeys}
 use Rattle.grammar.proofs.Obeys.{obeys_length}
-use Rattle.images.specs.Images.{Age, old, new, dated, dated_trees, Row, records}
-use Rattle.images.proofs.RowLaws.{Over, dated_other}
+use Rattle.images.specs.Images.{Age, dated, dated_trees, records}
+use Rattle.images.proofs.RowLaws.{dated_other}
 use Rattle.images.proofs.CodeLaws.{part_slice}
 use Rattle.images.proofs.EntryLaws.{entry_there}
 use Rattle.mass.specs.Mass.{MASS, DEPTH, FixedPlus, fixed_plus, ComputedPlus, computed_plus}
-use Rattle.mass.specs.Inner.{two_at, Standing, Root, Calls, Adds}
-use Rattle.mass.proofs.StandLaws.{left, over, children, seen, read_at, long_at}
+use Rattle.mass.specs.Inner.{two_at, Root, Calls, Adds}
+use Rattle.mass.proofs.StandLaws.{left, children, seen, read_at, long_at}
 
 -- ── The shape of a field ──────────────────────────────────────────────────────────────────────────
 

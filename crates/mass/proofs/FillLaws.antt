@@ -2,18 +2,17 @@
 -- Assumes nothing.
 use mathlib.Core.Path.{◌≡◌, refl, sym, ap, subst, ◌∙◌}
 use mathlib.Core.List.{List, [], ◌∷◌, ◌++◌, append_assoc, append-nil}
-use Prim.Native.Nat.{ℕ, suc, ◌+◌, ◌-◌, ◌*◌, ◌/◌, ◌≤◌, ◌<◌}
+use Prim.Native.Nat.{ℕ, ◌+◌, ◌-◌, ◌*◌, ◌≤◌, ◌<◌}
 use native.Mathlib.Omega.{arith}
-use lib.ListN.{length, get_or, replicate, length-append, length-replicate}
-use Rattle.grammar.specs.Trees.{Field, Trees, tree}
+use lib.ListN.{length, get_or, replicate, length-append}
+use Rattle.grammar.specs.Trees.{Field, Trees}
 use Rattle.grammar.specs.Image.{image}
 use Rattle.grammar.specs.Answer.{prefix_power}
 use Rattle.grammar.proofs.Derived.{whole_exactly}
-use Rattle.images.specs.Images.{dated_trees, records, links}
-use Rattle.mass.specs.Mass.{Lists, Braces, Listing, listing, numbers, Planned}
-use Rattle.mass.specs.declared.members.Found.{Found}
+use Rattle.images.specs.Images.{dated_trees}
+use Rattle.mass.specs.Mass.{Lists, Braces, Listing, listing, numbers}
 use Rattle.mass.specs.declared.members.Found.TheVariants.{Nothing, Listed}
-use Rattle.mass.specs.Inner.{Standing, Root, SomeRoot, Shows, ShownOf, Stores, Given, SomeGiven, Filled, Fills}
+use Rattle.mass.specs.Inner.{Standing, Root, SomeRoot, Shows, ShownOf, Stores, Given, SomeGiven, Fills}
 use Rattle.mass.proofs.StandLaws.{seen}
 use Rattle.mass.proofs.ListLaws.{filled_next}
 use Rattle.mass.proofs.PlaceLaws.{Place, place, places, places-length, Walk, walk, Ahead, ahead, next_record, Listings, listings_append, planned}

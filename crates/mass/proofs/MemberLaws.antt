@@ -2,8 +2,8 @@
 -- Assumes nothing.
 use mathlib.Core.Path.{◌≡◌, refl, sym, ap, subst, ◌∙◌}
 use mathlib.Core.Bool.{Bool, true, false}
-use mathlib.Core.List.{List, [], ◌∷◌, ◌++◌}
-use Prim.Native.Nat.{ℕ, zero, suc, ◌+◌, ◌-◌, ◌*◌, ◌≤◌, ◌<◌}
+use mathlib.Core.List.{List, [], ◌∷◌}
+use Prim.Native.Nat.{ℕ, ◌+◌, ◌-◌, ◌*◌, ◌≤◌, ◌<◌}
 use native.Mathlib.Omega.{arith}
 use lib.ListN.{length, get_or}
 use Rattle.grammar.specs.Tags.{STRING, FIELD}
@@ -14,10 +14,10 @@ use Rattle.grammar.proofs.ImageLaws.{row_assoc, row_end, image-length}
 use Rattle.images.specs.Images.{records}
 use Rattle.images.proofs.RootLaws.{no_true}
 use Rattle.images.proofs.RowLaws.{records-row}
-use Rattle.mass.specs.Mass.{MASS, DEPTH, FixedPlus, fixed_plus, ComputedPlus, computed_plus, Raises, Leaves, Undecided}
-use Rattle.mass.specs.Inner.{two_at, Standing, Some, Root, SomeRoot, Adds, AddsAs, Spot, SumsUp}
+use Rattle.mass.specs.Mass.{MASS, DEPTH, FixedPlus, fixed_plus, ComputedPlus, Raises, Leaves, Undecided}
+use Rattle.mass.specs.Inner.{two_at, Standing, Some, Root, Adds, AddsAs, Spot, SumsUp}
 use Rattle.mass.proofs.StandLaws.{left, right, seen}
-use Rattle.mass.proofs.FieldLaws.{Face, face, field_face, as_field, fixed_tag, fixed_name, computed_flag, root_within, tag_read}
+use Rattle.mass.proofs.FieldLaws.{Face, face, field_face, as_field, fixed_tag, fixed_name, computed_flag, tag_read}
 
 -- ── The last of a row ─────────────────────────────────────────────────────────────────────────────
 

@@ -1,22 +1,21 @@
 -- THE RULE OF THE MINUTES: "Change one, change the other". Every `mass+` field of an accepted tree stands in an object that raises depth too, or that
 -- is listed, or that is undecided and listed so.
 -- Assumes nothing.
-use mathlib.Core.Path.{◌≡◌, refl, sym, ap, subst, ◌∙◌}
+use mathlib.Core.Path.{◌≡◌, refl, sym, subst}
 use mathlib.Core.List.{List, [], ◌∷◌, ◌++◌}
 use mathlib.Core.Logic.{◌⊎◌, inl, inr, ⊎_elim}
-use Prim.Native.Nat.{ℕ, zero, suc, ◌+◌, ◌*◌, ◌≤◌, ◌<◌}
+use Prim.Native.Nat.{ℕ, zero, suc, ◌+◌, ◌≤◌, ◌<◌}
 use native.Mathlib.Omega.{arith}
 use lib.ListN.{length}
 use Rattle.grammar.specs.Tags.{FIELD}
 use Rattle.grammar.specs.Trees.{Field, Trees, node}
-use Rattle.grammar.specs.Trees as trees
 use Rattle.grammar.specs.Image.{entry, image}
 use Rattle.grammar.specs.Records.{Sort, Is, Fits, times, Spans, Has, First, Part, Name, Form, Obeys}
 use Rattle.grammar.specs.Answer.{prefix_power}
 use Rattle.grammar.proofs.Derived.{whole_exactly}
-use Rattle.images.specs.Images.{Age, dated, dated_trees, Accepted}
+use Rattle.images.specs.Images.{Age, dated_trees, Accepted}
 use Rattle.mass.specs.declared.Answer.TheVariants.{Listed}
-use Rattle.mass.specs.Mass.{MASS, DEPTH, FixedPlus, Raises, Leaves, Undecided, Lists, Braces, Subtree, Object, Among, Listing, listing, row, Due, due, MassDepth}
+use Rattle.mass.specs.Mass.{MASS, DEPTH, FixedPlus, Raises, Leaves, Undecided, Lists, Braces, Subtree, Object, Among, listing, due, MassDepth}
 use Rattle.mass.specs.Minutes.{Accounted, Minuted}
 use Rattle.mass.proofs.FieldLaws.{fixed_tag}
 use Rattle.mass.proofs.Decided.{Found, found, nowhere, Decided, decided}
@@ -134,7 +133,7 @@ fits_more (Fits.more i f) = omega (arith, is_more i, fits_more f)
 field_sort : {σ : Sort} {fs : List Field} {ws : List Sort} → Form Spans.forward σ FIELD fs ws → field_in σ ≡ 1
 field_sort (Form.r31 q m i j) = refl
 
-some-field : (age : Age) {ts : Trees} {σs : List Sort} {fields : List Field} {cs : Trees} → Among FIELD fields cs ts → Obeys Spans.forward σs (dated_trees age ts) → 0 < fields_in σs
+some-field : (age : Age) {fields : List Field} {cs ts : Trees} {σs : List Sort} → Among FIELD fields cs ts → Obeys Spans.forward σs (dated_trees age ts) → 0 < fields_in σs
 unfolding dated_trees
 some-field age Among.here (Obeys.node f g h k) = omega (arith, field_sort f)
 some-field age (Among.later a) (Obeys.node f g h k) = omega (arith, some-field age a k)

@@ -1,6 +1,6 @@
 -- What is listed of an object, by what its members raise.
 -- Assumes nothing.
-use mathlib.Core.Path.{◌≡◌, refl, sym, ap, subst, ◌∙◌}
+use mathlib.Core.Path.{◌≡◌, refl, sym, subst}
 use mathlib.Core.Bool.{Bool, true, false}
 use mathlib.Core.List.{List}
 use Prim.Native.Nat.{ℕ, ◌+◌, ◌*◌, ◌<◌}
@@ -10,14 +10,12 @@ use lib.Dec.{eqb}
 use borrow.Author.Tests.{eq-eqb, eqb-true}
 use Rattle.grammar.specs.Tags.{MEMBERS, OBJECT_COMP}
 use Rattle.grammar.specs.Trees.{Field, Trees}
-use Rattle.images.specs.Images.{records}
 use Rattle.images.proofs.RootLaws.{no_true}
-use Rattle.mass.specs.Mass.{MASS, DEPTH, Raises, Leaves, Undecided, Lists, Braces}
+use Rattle.mass.specs.Mass.{Raises, Leaves, Undecided, Lists, Braces}
 use Rattle.mass.specs.declared.members.Found.TheVariants.{Nothing, Listed}
 use Rattle.mass.specs.declared.members.Own.{Own}
 use Rattle.mass.specs.Inner.{two_at, Standing, Some, Root, RaisedBy, Spot, SumsUp, Shows}
 use Rattle.mass.proofs.StandLaws.{children, seen}
-use Rattle.mass.proofs.FieldLaws.{tag_read}
 
 -- ── Its members ───────────────────────────────────────────────────────────────────────────────────
 

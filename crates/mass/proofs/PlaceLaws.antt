@@ -1,17 +1,17 @@
 -- The records of trees, in image order, and what is listed of them.
 -- Assumes nothing.
 use mathlib.Core.Path.{◌≡◌, refl, sym, ap, subst, ◌∙◌}
-use mathlib.Core.List.{List, [], ◌∷◌, ◌++◌, append_assoc, append-nil}
-use Prim.Native.Nat.{ℕ, zero, suc, ◌+◌, ◌-◌, ◌*◌, ◌≤◌, ◌<◌}
+use mathlib.Core.List.{List, [], ◌∷◌, ◌++◌}
+use Prim.Native.Nat.{ℕ, suc, ◌+◌, ◌≤◌, ◌<◌}
 use native.Mathlib.Omega.{arith}
-use lib.ListN.{length, get_or, length-append}
+use lib.ListN.{length, length-append}
 use Rattle.grammar.specs.Trees.{Field, Trees, tree, node, ◌⊕◌}
 use Rattle.grammar.specs.Trees as trees
 use Rattle.grammar.specs.Image.{entry, image}
 use Rattle.grammar.proofs.ImageLaws.{image-length, entry_length, close_length}
 use Rattle.images.specs.Images.{records}
-use Rattle.mass.specs.Mass.{MASS, DEPTH, FixedPlus, fixed_plus, Raises, Lists, Braces, Subtree, Object, Listing, listing, offset, Due, due, In, Ascends, Planned}
-use Rattle.mass.specs.Inner.{Standing, Root}
+use Rattle.mass.specs.Mass.{FixedPlus, fixed_plus, Raises, Lists, Braces, Subtree, Listing, listing, offset, Due, due, In, Ascends, Planned}
+use Rattle.mass.specs.Inner.{Standing}
 use Rattle.mass.proofs.StandLaws.{left, right, children}
 
 -- A record, with its tree's offset and the number of its tree's first record.
@@ -81,8 +81,13 @@ listings_append (Listings.passed n x) y = Listings.passed n (listings_append x y
 
 -- ── One listing for each object ───────────────────────────────────────────────────────────────────
 
+-- The same for two records whose fields are equal: they are matched apart.
+fixed_alike : {name : List ℕ} {a e b f tag tag' : ℕ} {fields fields' : List Field} {cs cs' : Trees} → FixedPlus name a e tag fields cs → FixedPlus name b f tag' fields' cs' → fields ≡ fields'
+    → (a ≡ b) × (e ≡ f)
+fixed_alike fixed_plus fixed_plus q = (cc, cc)
+
 fixed_once : {name : List ℕ} {a e b f tag : ℕ} {fields : List Field} {cs : Trees} → FixedPlus name a e tag fields cs → FixedPlus name b f tag fields cs → (a ≡ b) × (e ≡ f)
-fixed_once fixed_plus fixed_plus = (refl, refl)
+fixed_once x y = fixed_alike x y refl
 
 pub raises_once : {name : List ℕ} {a e b f : ℕ} {ts : Trees} → Raises name ts a e → Raises name ts b f → (a ≡ b) × (e ≡ f)
 raises_once (Raises.first x) (Raises.first y) = fixed_once x y
@@ -127,6 +132,7 @@ HeldIn t (place at first tag fields cs) = Subtree 0 t (at + length (image cs)) t
 
 sound : (t : Trees) {ps : List Place} {ls : List Listing} → Listings ps ls → Every (HeldIn t) ps → (l : Listing) → In l ls → Due t l
 unfolding HeldIn
+sound t Listings.none h l i = elim i [ ]
 sound t (Listings.shown {tag = tag} {fields = fields} b x y) (Every.more h hs) l In.first = due (record { tag = tag; fields = fields; braces = b; subtree = h }) x
 sound t (Listings.shown b x y) (Every.more h hs) l (In.later i) = sound t y hs l i
 sound t (Listings.passed n y) (Every.more h hs) l i = sound t y hs l i
@@ -151,6 +157,7 @@ placed first (Subtree.inside x) = placed_left _ (placed first x)
 placed first (Subtree.beside {at} {children = cs} x) = placed_right (places at first cs) (Placed.behind (placed (first + records cs + 1) x))
 
 complete : {o tag k a e : ℕ} {fields : List Field} {cs : Trees} {ps : List Place} {ls : List Listing} → Listings ps ls → Placed o tag fields cs ps → Braces tag → Lists cs k a e → In (listing o k a e) ls
+complete Listings.none p c z = elim p [ ]
 complete {o} {k = k} {a} {e} (Listings.shown {k = l} {a = b} {e = f} {ls = ls} d x y) (Placed.found q) c z =
     subst (λ (m : Listing). In (listing o k a e) (m ∷ ls)) (lists_once o z x ∙ ap (λ (i : ℕ). listing i l b f) (sym q)) In.first
 complete (Listings.passed n y) (Placed.found q) c z = absurd (n _ _ _ c z)
@@ -167,7 +174,7 @@ rising_from : {hi lo low : ℕ} {ps : List Place} → low ≤ lo → Rising hi l
 rising_from {hi} {lo} {low} h (Rising.none i) = Rising.none (let j : low ≤ hi = omega arith in j)
 rising_from {low = low} h (Rising.more {at = at} {cs = cs} i x) = Rising.more (let j : low ≤ at + length (image cs) = omega arith in j) x
 
-rising_append : {lo mid hi : ℕ} {ps qs : List Place} → Rising mid lo ps → Rising hi mid qs → Rising hi lo (ps ++ qs)
+rising_append : {mid hi lo : ℕ} {ps qs : List Place} → Rising mid lo ps → Rising hi mid qs → Rising hi lo (ps ++ qs)
 rising_append (Rising.none h) y = rising_from h y
 rising_append (Rising.more h x) y = Rising.more h (rising_append x y)
 
@@ -185,7 +192,7 @@ ascends_from : {n m : ℕ} {ls : List Listing} → m ≤ n → Ascends n ls → 
 ascends_from h Ascends.none = Ascends.none
 ascends_from {m = m} h (Ascends.more {l = l} i x) = Ascends.more (let j : m ≤ offset l = omega arith in j) x
 
-ascends : {lo hi : ℕ} {ps : List Place} {ls : List Listing} → Listings ps ls → Rising hi lo ps → Ascends lo ls
+ascends : {hi : ℕ} {ps : List Place} {ls : List Listing} {lo : ℕ} → Listings ps ls → Rising hi lo ps → Ascends lo ls
 ascends Listings.none r = Ascends.none
 ascends (Listings.shown b x y) (Rising.more h r) = Ascends.more h (ascends y r)
 ascends (Listings.passed n y) (Rising.more h r) = ascends_from (omega arith) (ascends y r)

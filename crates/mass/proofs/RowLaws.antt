@@ -2,7 +2,7 @@
 -- Assumes nothing.
 use mathlib.Core.Path.{◌≡◌, refl, sym, ap, subst, ◌∙◌}
 use mathlib.Core.List.{List, [], ◌∷◌, ◌++◌}
-use Prim.Native.Nat.{ℕ, zero, suc, ◌+◌, ◌*◌, ◌≤◌, ◌<◌}
+use Prim.Native.Nat.{ℕ, zero, suc, ◌+◌, ◌*◌, ◌<◌}
 use native.Mathlib.Omega.{arith}
 use lib.ListN.{length, get_or}
 use Rattle.mass.specs.Mass.{Listing, listing, offset, numbers, row, In, Ascends}
@@ -29,6 +29,7 @@ module _ (zs : List ℕ) where
   -- .. and what is in the list is a row.
   pub in_row : (ls : List Listing) {l : Listing} → In l ls → (i : ℕ) × (i < length ls) × (row (numbers ls ++ zs) i ≡ l)
   unfolding numbers
+  in_row [] j = elim j [ ]
   in_row (listing o k a e ∷ ls) In.first = (0, omega arith, refl)
   in_row (listing o k a e ∷ ls) (In.later j) = let x = in_row ls j in (suc x.0, omega (arith, x.1), row_next o k a e x.0 (numbers ls ++ zs) ∙ x.2)
 

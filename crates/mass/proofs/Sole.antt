@@ -3,21 +3,22 @@
 use mathlib.Core.Path.{◌≡◌, refl, sym, ap, subst, ◌∙◌}
 use mathlib.Core.List.{List, [], ◌∷◌, ◌++◌}
 use mathlib.Core.Logic.{◌⊎◌, inl, inr, ⊎_elim}
-use Prim.Native.Nat.{ℕ, suc, ◌+◌, ◌-◌, ◌*◌, ◌≤◌, ◌<◌}
+use Prim.Native.Nat.{ℕ, suc, ◌-◌, ◌*◌, ◌≤◌, ◌<◌}
 use native.Mathlib.Omega.{arith}
 use lib.ListN.{length, replicate}
 use Rattle.grammar.specs.Trees.{Trees}
-use Rattle.images.specs.Images.{Accepted, Refused, needed}
+use Rattle.images.specs.Images.{Accepted}
 use Rattle.images.specs.declared.Answer as images
 use Rattle.images.proofs.Sole.{one_tree, one_refusal, accepted_not_refused}
 use Rattle.mass.specs.declared.Answer.{Answer}
 use Rattle.mass.specs.declared.Answer.TheVariants.{Listed, ListShort}
-use Rattle.mass.specs.Mass.{Listing, offset, numbers, In, Ascends, Planned, Kept, Answers, MassDepth}
+use Rattle.mass.specs.Mass.{Listing, offset, numbers, In, Ascends, Planned, Kept, Answers}
 
 -- ── One list ──────────────────────────────────────────────────────────────────────────────────────
 
 -- What is in a list that ascends stands at its beginning or higher.
 pub above : {n : ℕ} {l : Listing} {ls : List Listing} → Ascends n ls → In l ls → n ≤ offset l
+above Ascends.none i = elim i [ ]
 above (Ascends.more h a) In.first = h
 above (Ascends.more h a) (In.later i) = let x = above a i in omega (arith, x)
 

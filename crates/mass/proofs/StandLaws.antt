@@ -1,10 +1,10 @@
 -- Trees that stand in an image, taken apart; and what the image and the array have of a record.
 -- Assumes nothing.
-use mathlib.Core.Path.{◌≡◌, refl, sym, ap, subst, ◌∙◌}
+use mathlib.Core.Path.{◌≡◌, refl, sym, ap, ◌∙◌}
 use mathlib.Core.List.{List, [], ◌∷◌, ◌++◌, append_assoc}
-use Prim.Native.Nat.{ℕ, zero, suc, ◌+◌, ◌-◌, ◌*◌, ◌≤◌, ◌<◌}
+use Prim.Native.Nat.{ℕ, ◌+◌, ◌*◌, ◌<◌}
 use native.Mathlib.Omega.{arith}
-use lib.ListN.{length, get_or, drop, length-append, length-drop}
+use lib.ListN.{length, get_or, drop, length-drop}
 use lib.Seq.{drop-drop, drop_at, get_or-drop}
 use Rattle.grammar.specs.Trees.{Field, Trees, tree, ◌⊕◌}
 use Rattle.grammar.specs.Trees as trees

@@ -1,6 +1,6 @@
 -- What the functions promise each other. No public contract cites these.
 -- Assumes nothing.
-use Rattle.std.specs.Prelude.{◌≡◌, Bool, true, List, [], ◌∷◌, ◌++◌, ℕ, ◌+◌, ◌-◌, ◌*◌, ◌≤◌, ◌<◌, length, get_or, take, drop, replicate}
+use Rattle.std.specs.Prelude.{◌≡◌, Bool, true, List, ◌∷◌, ◌++◌, ℕ, ◌+◌, ◌-◌, ◌*◌, ◌≤◌, ◌<◌, length, get_or, take, drop, replicate}
 use Rattle.grammar.specs.Trees.{Field, Trees, tree}
 use Rattle.grammar.specs.Image.{image}
 use Rattle.images.specs.Images.{Age, Row, records, links, Accepted}

@@ -1,6 +1,5 @@
 -- An answer in 02's numbers.
 -- Assumes nothing.
-use Rattle.std.specs.Prelude.{ℕ}
 use Rattle.images.specs.Numbers.{Numbers, refusal}
 use Rattle.mass.specs.declared.Answer.{Answer}
 use Rattle.mass.specs.declared.Answer.TheVariants.{Listed, Unknown, Malformed, Children, Underived, ListShort, Short}

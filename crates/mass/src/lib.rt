@@ -1,3 +1,4 @@
+#![tactic(auto)]
 // The planner's list: the objects of an image that raise mass without depth, or depth without mass, or of which that is undecided.
 ghost use Rattle.std.specs.Prelude.{◌≡◌, ◌≤◌, length, replicate};
 ghost use Rattle.images.specs.Images.{needed};

@@ -8,9 +8,9 @@ use Rattle.grammar.specs.Source.{Reads01}
 use Rattle.grammar.proofs.Source.{reads_once}
 use Rattle.reader.specs.Five.{five}
 use Rattle.night.proofs.NightLaws.{same_five}
-use Rattle.json.specs.Json.{ReadsJson}
-use Rattle.json.specs.Importer as importer
-use Rattle.json.proofs.OneAnswer.{one_answer}
+use Rattle.json_import.specs.Json.{ReadsJson}
+use Rattle.json_import.specs.Importer as importer
+use Rattle.json_import.proofs.OneAnswer.{one_answer}
 
 -- No second array and no second output meet the contract.
 pub one_array : {setting : ℕ} {source : List ℕ} {room : ℕ} (a b : List ℕ) {out out' : List ℕ} → length a ≡ 5 → length b ≡ 5

@@ -1,10 +1,11 @@
-// The reader for C and Rust programs to link: `rt staticlib matigelo`.
+#![tactic(auto)]
+// The reader for C and Rust programs to link: `rt lib` in this folder makes out/libmatigelo.a.
 ghost use Rattle.std.specs.Prelude.{length};
 ghost use Rattle.grammar.specs.Source.{Reads01};
 ghost use Rattle.reader.specs.Five.{five as five01};
 ghost use Rattle.night.specs.Night.{Night};
-ghost use Rattle.json.specs.Json.{ReadsJson};
-ghost use Rattle.json.specs.Importer.{five as five02};
+ghost use Rattle.json_import.specs.Json.{ReadsJson};
+ghost use Rattle.json_import.specs.Importer.{five as five02};
 ghost use Rattle.matigelo.specs.Three.{three as three02, Back02, Mass02};
 
 // Reads a source under a setting into a lent output. The answer's five numbers: number, start, end, detail, length.
@@ -27,8 +28,8 @@ pub extern "C" fn matigelo_read(
 pub extern "C" fn matigelo_json(text: &[u8], output: &mut [u8], answer: &mut [u64; 5])
     ensures { ReadsJson text.now (length output.old) (five02 answer.new) output.new }
 {
-    let importing = json::read_json(text, output);
-    let five = json::five(importing);
+    let importing = json_import::read_json(text, output);
+    let five = json_import::five(importing);
     *answer = five;
 }
 

@@ -2,27 +2,26 @@
 -- ends, the output's length with the ends of its parts and the length of the list for the answers, which number the call gives and what it
 -- leaves. It is told by what a single call promises (`Reads01`, crates/grammar/specs/Source.antt) and by nothing else.
 -- Assumes nothing.
-use mathlib.Core.Path.{◌≡◌, refl, sym, ap, subst, ◌∙◌}
+use mathlib.Core.Path.{◌≡◌, refl, sym, ap, ◌∙◌}
 use mathlib.Core.Bool.{true}
 use mathlib.Core.List.{List}
 use mathlib.Core.Logic.{◌⊎◌}
-use Prim.Native.Nat.{ℕ, suc, ◌+◌, ◌*◌, ◌≤◌, ◌<◌}
+use Prim.Native.Nat.{ℕ, ◌+◌, ◌*◌, ◌<◌}
 use native.Mathlib.Omega.{arith}
 use lib.ListN.{length, replicate}
-use lib.Seq.{slice, length-slice}
+use lib.Seq.{length-slice}
 use Rattle.grammar.specs.Numbers.{TREE}
 use Rattle.grammar.specs.Settings.{◌⊑◌}
 use Rattle.grammar.specs.Answer.{Answer, valid_setting, document_01}
 use Rattle.grammar.specs.Source.{Reads01}
 use Rattle.grammar.proofs.Whole.{Accepted, Fifth}
 use Rattle.grammar.proofs.Source.{lexing, reads_once, larger_setting, smaller_setting}
-use Rattle.reader.specs.Five.{five}
 use Rattle.reader.specs.Reader.{numbers, Reads}
 use Rattle.reader.specs.declared.Reading.{Reading}
 use Rattle.reader.proofs.AnswerLaws.{refusal-output}
-use Rattle.night.specs.Night.{READ, LISTS, begins, stops, file, size_of, answer_of, Cuts, Fit, Each, Night, read, unfit}
+use Rattle.night.specs.Night.{READ, LISTS, begins, stops, file, size_of, answer_of, Fit, Each, Night, read, unfit}
 use Rattle.night.proofs.Parts.{same_parts}
-use Rattle.night.proofs.NightLaws.{stops-within, same_five, reads_same}
+use Rattle.night.proofs.NightLaws.{same_five, reads_same}
 use contract.Lifetimes.{Lfts}
 use borrow.Fn.Kinds.{Dens}
 use Rattle.night.proofs.read.Kinds.{ps}

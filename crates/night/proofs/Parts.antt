@@ -1,7 +1,7 @@
 -- Laws of parts of a list: what a store into one part leaves of the others, and lists that have the same parts.
 -- Assumes nothing.
-use mathlib.Core.Path.{◌≡◌, refl, sym, ap, ap₂, ◌∙◌}
-use mathlib.Core.List.{List, [], ◌∷◌, ◌++◌}
+use mathlib.Core.Path.{◌≡◌, sym, ap, ap₂, ◌∙◌}
+use mathlib.Core.List.{List, ◌++◌}
 use Prim.Native.Nat.{ℕ, zero, suc, ◌+◌, ◌-◌, ◌≤◌, ◌<◌}
 use native.Mathlib.Omega.{arith}
 use lib.ListN.{length, take, drop}

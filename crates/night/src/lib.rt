@@ -1,3 +1,4 @@
+#![tactic(auto)]
 // A night's files in one call: sources that stand in one buffer, read one after the other as `reader::read` reads them.
 ghost use Rattle.std.specs.Prelude.{◌≡◌, true, length, replicate};
 ghost use Rattle.grammar.specs.Source.{Reads01};

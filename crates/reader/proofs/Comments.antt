@@ -8,9 +8,9 @@
 use mathlib.Core.Path.{◌≡◌, refl, sym, ap, subst, ◌∙◌}
 use mathlib.Core.Bool.{Bool, true, false, cond}
 use mathlib.Core.List.{List, ◌++◌}
-use Prim.Native.Nat.{ℕ, ◌+◌, ◌-◌, ◌≤◌}
+use Prim.Native.Nat.{ℕ, ◌-◌, ◌≤◌}
 use native.Mathlib.Omega.{arith}
-use lib.Dec.{T, eqb, leb}
+use lib.Dec.{T, leb}
 use lib.ListN.{length, replicate}
 use Rattle.strings.specs.Utf8.{Utf8}
 use Rattle.lexemes.specs.Same.{SameLexemes, Place}
@@ -18,7 +18,7 @@ use Rattle.grammar.specs.Numbers.{TREE, ESCAPE, fits, at_lexeme}
 use Rattle.grammar.specs.Trees.{Trees}
 use Rattle.grammar.specs.Alike.{Alike}
 use Rattle.grammar.specs.Image.{image}
-use Rattle.grammar.specs.Answer.{Answer, Verdict, refused, tree, answer, output}
+use Rattle.grammar.specs.Answer.{Answer, Verdict, tree, answer, output}
 use Rattle.grammar.specs.Source.{Reads01}
 use Rattle.grammar.specs.SameAnswers.{SameDetail, SameVerdict, equal, as_far, trees, settings, refusals}
 use Rattle.grammar.proofs.ImageLaws.{alike_length}

@@ -15,7 +15,7 @@ use Rattle.grammar.specs.Numbers.{TREE}
 use Rattle.grammar.specs.Trees.{Trees}
 use Rattle.grammar.specs.Image.{image}
 use Rattle.grammar.specs.Settings.{◌⊑◌, NoPrefixSign}
-use Rattle.grammar.specs.Answer.{Limits, Answer, Verdict, refused, tree, verdict, Judged, answer, output, valid_setting, prefix_power, document_01}
+use Rattle.grammar.specs.Answer.{Limits, Answer, Verdict, refused, verdict, Judged, answer, output, valid_setting, prefix_power, document_01}
 use Rattle.grammar.specs.Source.{Bad, Kept, Reads01}
 use Rattle.grammar.specs.Spells.{Lexemes, greedily, SpelledWithin, Spelled}
 use Rattle.grammar.proofs.Alike.{Alike}

@@ -1,3 +1,4 @@
+#![tactic(auto)]
 // The reader: a setting, a source, a lent output, and the whole answer of document 01.
 ghost use Rattle.std.specs.Prelude.{◌≡◌, true, length};
 ghost use Rattle.grammar.specs.Numbers.{met_with};
@@ -13,7 +14,7 @@ use lexemes::kinds::Kind;
 
 // What becomes of a source: the cases are named as their numbers (grammar::numbers), each with its place and its detail. A detail may be
 // an offset of the source, so it is as wide as a place.
-#[derive(Drop)]
+#[derive(Clone, Copy)]
 pub enum Reading {
     Tree(usize), // the image's length
     Setting,
@@ -126,7 +127,7 @@ pub fn read(setting: u64, source: &[u8], output: &mut [u8]) -> Reading
 }
 
 // What 01 hands back.
-#[derive(Drop)]
+#[derive(Clone, Copy)]
 pub struct Fields {
     pub number: u64,
     pub start: u64,

@@ -1,11 +1,6 @@
 -- Where two sources part: there is one answer, it is `Same` exactly for sources whose kept lexemes are the same, and how the code finds it.
 -- Assumes nothing.
-use mathlib.Core.Path.{◌≡◌, refl, sym, ap, subst, ◌∙◌}
-use mathlib.Core.Bool.{Bool, true, false}
-use mathlib.Core.List.{List, [], ◌∷◌}
-use Prim.Native.Nat.{ℕ, ◌-◌, ◌≤◌, ◌<◌}
-use native.Mathlib.Omega.{arith}
-use lib.ListN.{length, take, drop}
+use Rattle.std.proofs.Common.{◌≡◌, refl, sym, ap, subst, ◌∙◌, Bool, true, false, List, [], ◌∷◌, ℕ, ◌-◌, ◌≤◌, arith, length, take, drop}
 use Rattle.lexemes.specs.declared.Lexeme.{Lexeme}
 use Rattle.lexemes.specs.Kinds.{EOF}
 use Rattle.lexemes.specs.Lexeme.{lexeme}
@@ -14,7 +9,6 @@ use Rattle.lexemes.specs.Texts.{text_of}
 use Rattle.lexemes.specs.Scan.{Says}
 use Rattle.lexemes.specs.Same.{SameLexeme, SameList, none, more, SameLexemes}
 use Rattle.lexemes.proofs.KeptLaws.{Rest, kept_step, kept_once, next_eof, next-some, next_bounds}
-use Rattle.lexemes.proofs.Laws.{lexeme_not_eof}
 use Rattle.same.specs.Parting.{Parts, both_over, on, here, FirstDifference}
 use Rattle.same.specs.declared.Parting.{Parting}
 use Rattle.same.specs.declared.Parting.TheVariants.{Same, Apart}

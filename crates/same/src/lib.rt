@@ -1,3 +1,4 @@
+#![tactic(auto)]
 // Whether two sources have the same kept lexemes, in kind and text, and where they part.
 ghost use Rattle.std.specs.Prelude.{◌≤◌, length};
 ghost use Rattle.lexemes.specs.Same.{SameLexeme};
@@ -15,9 +16,9 @@ pub enum Parting {
 }
 
 // Whether two lexemes agree in kind and text.
-fn same_lexeme(left: &[u8], l: Lexeme, right: &[u8], m: Lexeme) -> bool
-    requires { (l.start ≤ l.end) × (l.end ≤ length left.now) × (m.start ≤ m.end) × (m.end ≤ length right.now) }
-    ensures { Says result (SameLexeme left.now right.now l m) }
+fn same_lexeme(left: &[u8], l: &Lexeme, right: &[u8], m: &Lexeme) -> bool
+    requires { (l.now.start ≤ l.now.end) × (l.now.end ≤ length left.now) × (m.now.start ≤ m.now.end) × (m.now.end ≤ length right.now) }
+    ensures { Says result (SameLexeme left.now right.now l.now m.now) }
 {
     if l.kind != m.kind {
         return false;
@@ -38,7 +39,7 @@ pub fn first_difference(left: &[u8], right: &[u8]) -> Parting
     loop {
         let l = kept::next_kept(left, i);
         let m = kept::next_kept(right, j);
-        if !same_lexeme(left, l, right, m) {
+        if !same_lexeme(left, &l, right, &m) {
             return Parting::Apart(l, m);
         }
         if l.kind == Kind::EOF {

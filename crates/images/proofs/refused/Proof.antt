@@ -1,6 +1,5 @@
 -- `refused` meets its contract.
 -- Assumes nothing.
-use mathlib.Core.Path.{refl}
 use borrow.Author.Rules.{rules}
 use Rattle.images.specs.Inner.{Ends}
 use Rattle.images.proofs.CodeLaws.{ends_as}
@@ -10,35 +9,35 @@ use Rattle.images.proofs.refused.Tie as tie
 -- `refused` meets its contract.
 -- Assumes nothing.
 
-enum_told : tie.Need-enum-told
+enum_told : tie.Need-enum_told-1
 enum_told c = search rules
 
-enum_told_2 : tie.Need-enum-told-2
+enum_told_2 : tie.Need-enum_told-in-Malformed
 enum_told_2 c = search rules
 
-enum_told_3 : tie.Need-enum-told-3
+enum_told_3 : tie.Need-enum_told-in-Missing
 enum_told_3 c = search rules
 
-enum_told_4 : tie.Need-enum-told-4
+enum_told_4 : tie.Need-enum_told-in-Underived
 enum_told_4 c = search rules
 
-enum_told_5 : tie.Need-enum-told-5
+enum_told_5 : tie.Need-enum_told-in-Next
 enum_told_5 c = search rules
 
-returns : tie.Need-returns
-returns c = ends_as c.enum_told.given.1 Ends.unknown
+returns : tie.Need-returns-in-Unknown
+returns c = ends_as c.in-Unknown.is Ends.unknown
 
-returns_2 : tie.Need-returns-2
-returns_2 c = ends_as c.enum-told2.given.1 Ends.malformed
+returns_2 : tie.Need-returns-in-Malformed
+returns_2 c = ends_as c.in-Malformed.is Ends.malformed
 
-returns_3 : tie.Need-returns-3
-returns_3 c = ends_as c.enum-told3.given.1 Ends.missing
+returns_3 : tie.Need-returns-in-Missing
+returns_3 c = ends_as c.in-Missing.is Ends.missing
 
-returns_4 : tie.Need-returns-4
-returns_4 c = ends_as c.enum-told4.given.1 Ends.underived
+returns_4 : tie.Need-returns-in-Underived
+returns_4 c = ends_as c.in-Underived.is Ends.underived
 
-returns_5 : tie.Need-returns-5
-returns_5 c = ends_as c.enum-told5.given.1 Ends.next
+returns_5 : tie.Need-returns-in-Next
+returns_5 c = ends_as c.in-Next.is Ends.next
 
 pub refused_spec : {M : Type 1} → statement M
 refused_spec =

@@ -11,85 +11,85 @@ use Rattle.mass.proofs.list.Tie as tie
 clear_requires : tie.Need-clear-requires
 clear_requires c κs = search rules
 
-back_requires : tie.Need-back-requires
+back_requires : tie.Need-back-answer-requires
 back_requires c κs = search rules
 
-enum_known_answer : tie.Need-enum-known-answer
+enum_known_answer : tie.Need-enum_known-answer
 enum_known_answer c = search rules
 
 listed_requires : tie.Need-listed-requires
 listed_requires c κs =
-    let g = tree_given (reads_as c.before.before.before.answer.given.1 c.before.before.before.before.before.before.before.back.ensures) in
-    (omega (arith, g.0, c.before.before.before.before.before.before.links.given), g.1, zeros_again (length c.before.before.before.before.before.before.before.before.before.before.before.before.before.before.before.before.args.listings.now) c.before.before.before.before.before.before.before.before.before.before.before.clear.ensures)
+    let g = tree_given (reads_as c.in-Tree.is c.back-answer.ensures) in
+    (omega (arith, g.0, c.links-1.given), g.1, zeros_again (length c.args.listings.now) c.clear.ensures)
 
-enum_known_answer_2 : tie.Need-enum-known-answer-2
+enum_known_answer_2 : tie.Need-enum_known-answer-in-Unknown-1
 enum_known_answer_2 c = search rules
 
-enum_known_answer_3 : tie.Need-enum-known-answer-3
+enum_known_answer_3 : tie.Need-enum_known-answer-in-Malformed-1
 enum_known_answer_3 c = search rules
 
-enum_known_answer_4 : tie.Need-enum-known-answer-4
+enum_known_answer_4 : tie.Need-enum_known-answer-in-Children-1
 enum_known_answer_4 c = search rules
 
-enum_known_answer_5 : tie.Need-enum-known-answer-5
+enum_known_answer_5 : tie.Need-enum_known-answer-in-Underived-1
 enum_known_answer_5 c = search rules
 
-enum_known_answer_6 : tie.Need-enum-known-answer-6
+enum_known_answer_6 : tie.Need-enum_known-answer-in-Short-1
 enum_known_answer_6 c = search rules
 
-same_length : tie.Need-same-length
+same_length : tie.Need-shape_of-links-in-Tree
 same_length c = search rules
 
-same_length_2 : tie.Need-same-length-2
+same_length_2 : tie.Need-shape_of-listings-in-Tree
 same_length_2 c = search rules
 
-returns : tie.Need-returns
-returns c = lengths_as c.before.before.before.before.before.before.before.before.before.before.before.links.given (zeros_length _ c.before.before.before.before.before.before.before.before.before.before.before.before.before.before.before.before.clear.ensures) c.before.before.before.before.listed.ensures
+returns : tie.Need-returns-in-Tree
+returns c = lengths_as c.links-1.given (zeros_length _ c.clear.ensures) c.listed.ensures
 
-same_length_3 : tie.Need-same-length-3
+same_length_3 : tie.Need-shape_of-links-in-Unknown
 same_length_3 c = search rules
 
-same_length_4 : tie.Need-same-length-4
+same_length_4 : tie.Need-shape_of-listings-in-Unknown
 same_length_4 c = search rules
 
-returns_2 : tie.Need-returns-2
-returns_2 c = kept (reads_as c.before.answer2.given.1 c.before.before.before.before.before.back.ensures) Kept.unknown c.before.before.before.before.before.before.before.before.before.clear.ensures
+returns_2 : tie.Need-returns-in-Unknown
+returns_2 c = kept (reads_as c.in-Unknown.is c.back-answer.ensures) Kept.unknown c.clear.ensures
 
-same_length_5 : tie.Need-same-length-5
+same_length_5 : tie.Need-shape_of-links-in-Malformed
 same_length_5 c = search rules
 
-same_length_6 : tie.Need-same-length-6
+same_length_6 : tie.Need-shape_of-listings-in-Malformed
 same_length_6 c = search rules
 
-returns_3 : tie.Need-returns-3
-returns_3 c = kept (reads_as c.before.answer3.given.1 c.before.before.before.before.before.back.ensures) Kept.malformed c.before.before.before.before.before.before.before.before.before.clear.ensures
+returns_3 : tie.Need-returns-in-Malformed
+returns_3 c = kept (reads_as c.in-Malformed.is c.back-answer.ensures) Kept.malformed c.clear.ensures
 
-same_length_7 : tie.Need-same-length-7
+same_length_7 : tie.Need-shape_of-links-in-Children
 same_length_7 c = search rules
 
-same_length_8 : tie.Need-same-length-8
+same_length_8 : tie.Need-shape_of-listings-in-Children
 same_length_8 c = search rules
 
-returns_4 : tie.Need-returns-4
-returns_4 c = kept (reads_as c.before.answer4.given.1 c.before.before.before.before.before.back.ensures) Kept.children c.before.before.before.before.before.before.before.before.before.clear.ensures
+returns_4 : tie.Need-returns-in-Children
+returns_4 c = kept (reads_as c.in-Children.is c.back-answer.ensures) Kept.children c.clear.ensures
 
-same_length_9 : tie.Need-same-length-9
+same_length_9 : tie.Need-shape_of-links-in-Underived
 same_length_9 c = search rules
 
-same_length_10 : tie.Need-same-length-10
+same_length_10 : tie.Need-shape_of-listings-in-Underived
 same_length_10 c = search rules
 
-returns_5 : tie.Need-returns-5
-returns_5 c = kept (reads_as c.before.answer5.given.1 c.before.before.before.before.before.back.ensures) Kept.underived c.before.before.before.before.before.before.before.before.before.clear.ensures
+returns_5 : tie.Need-returns-in-Underived
+returns_5 c = kept (reads_as c.in-Underived.is c.back-answer.ensures) Kept.underived c.clear.ensures
 
-same_length_11 : tie.Need-same-length-11
+same_length_11 : tie.Need-shape_of-links-in-Short
 same_length_11 c = search rules
 
-same_length_12 : tie.Need-same-length-12
+same_length_12 : tie.Need-shape_of-listings-in-Short
 same_length_12 c = search rules
 
-returns_6 : tie.Need-returns-6
-returns_6 c = kept_short (reads_as c.before.answer6.given.1 c.before.before.before.before.before.back.ensures) c.before.before.before.before.before.before.before.before.before.clear.ensures
+returns_6 : tie.Need-returns-in-Short
+returns_6 c = kept_short (reads_as c.in-Short.is c.back-answer.ensures) c.clear.ensures
 
 pub list_spec : {M : Type 1} → statement M
 list_spec =

@@ -8,49 +8,49 @@ use Rattle.mass.proofs.ListLaws.{stores}
 use Rattle.mass.proofs.store.Statement.{statement}
 use Rattle.mass.proofs.store.Tie as tie
 
-returns : tie.Need-returns
+returns : tie.Need-returns-then-count-list
 returns c = record { long = refl; stored = λ h. absurd (omega arith) }
 
-mul_i : tie.Need-overflow-mul-i
+mul_i : tie.Need-overflow_mul-i
 mul_i c = search rules
 
-mul_list : tie.Need-overflow-mul-list
+mul_list : tie.Need-offset_bounds-list-i
 mul_list c = search rules
 
-slice_write_list : tie.Need-slice-write-list
+slice_write_list : tie.Need-bounds-list-i
 slice_write_list c = search rules
 
-add_list : tie.Need-overflow-add-list
+add_list : tie.Need-overflow_add-list
 add_list c = search rules
 
-mul_list_2 : tie.Need-overflow-mul-list-2
+mul_list_2 : tie.Need-offset_bounds-list-i-2
 mul_list_2 c = search rules
 
-slice_write_list_2 : tie.Need-slice-write-list-2
+slice_write_list_2 : tie.Need-bounds-list-i-2
 slice_write_list_2 c = simp length-set (omega arith)
 
-add_list_2 : tie.Need-overflow-add-list-2
+add_list_2 : tie.Need-overflow_add-list-2
 add_list_2 c = search rules
 
-mul_list_3 : tie.Need-overflow-mul-list-3
+mul_list_3 : tie.Need-offset_bounds-list-i-3
 mul_list_3 c = search rules
 
-slice_write_list_3 : tie.Need-slice-write-list-3
+slice_write_list_3 : tie.Need-bounds-list-i-3
 slice_write_list_3 c = simp length-set (omega arith)
 
-add_list_3 : tie.Need-overflow-add-list-3
+add_list_3 : tie.Need-overflow_add-list-3
 add_list_3 c = search rules
 
-mul_list_4 : tie.Need-overflow-mul-list-4
+mul_list_4 : tie.Need-offset_bounds-list-i-4
 mul_list_4 c = search rules
 
-slice_write_list_4 : tie.Need-slice-write-list-4
+slice_write_list_4 : tie.Need-bounds-list-i-4
 slice_write_list_4 c = simp length-set (omega arith)
 
-same_length : tie.Need-same-length
+same_length : tie.Need-shape_of-list
 same_length c = search rules
 
-returns_2 : tie.Need-returns-2
+returns_2 : tie.Need-returns
 returns_2 c = stores _ _ _ _ _ _
 
 pub store_spec : {M : Type 1} → statement M

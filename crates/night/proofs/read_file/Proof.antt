@@ -7,7 +7,7 @@ use Rattle.night.proofs.NightLaws.{reads_same}
 use Rattle.night.proofs.read_file.Statement.{statement}
 use Rattle.night.proofs.read_file.Tie as tie
 
-read_requires : tie.Need-read-requires
+read_requires : tie.Need-read-reading-requires
 read_requires c κs = search rules
 
 five_requires : tie.Need-five-requires
@@ -16,17 +16,17 @@ five_requires c κs = search rules
 store_requires : tie.Need-store-requires
 store_requires c κs = search rules
 
-same_length : tie.Need-same-length
+same_length : tie.Need-shape_of-part
 same_length c = search rules
 
-same_length_2 : tie.Need-same-length-2
+same_length_2 : tie.Need-shape_of-place
 same_length_2 c = search rules
 
 returns : tie.Need-returns
 returns c =
-    let read' = c.before.before.before.before.before.before.before.read in
-    let five' = c.before.before.before.before.five in
-    let store' = c.before.before.store in
+    let read' = c.read-reading in
+    let five' = c.five in
+    let store' = c.store in
     reads_same refl refl (sym (ap five store'.ensures ∙ five'.ensures.1)) refl read'.ensures
 
 pub read_file_spec : {M : Type 1} → statement M

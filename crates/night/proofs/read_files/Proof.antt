@@ -8,119 +8,119 @@ use Rattle.night.proofs.NightLaws.{Reached, reached_first, reached_next, reached
 use Rattle.night.proofs.read_files.Statement.{statement}
 use Rattle.night.proofs.read_files.Tie as tie
 
-abbrev invariant_loop : tie.invariant-loop
+abbrev invariant_loop : tie.invariant-loop-i
 invariant_loop setting sources ends output₀ parts answers₀ from₀ part₀ place₀ i₀ output answers from part place i =
     Reached setting sources ends parts output₀ answers₀ output answers from part place i
 
-abbrev decreases_loop : tie.decreases-loop
+abbrev decreases_loop : tie.decreases-loop-i
 decreases_loop setting sources ends output₀ parts answers₀ from₀ part₀ place₀ i₀ output answers from part place i =
     length ends - i
 
-loop_holds : tie.Need-loop-init invariant_loop decreases_loop
-loop_holds c = reached_first c.before.before.before.before.before.requires
+loop_holds : tie.Need-loop-i-init invariant_loop decreases_loop
+loop_holds c = reached_first c.requires
 
-mul_end : tie.Need-overflow-mul-end invariant_loop decreases_loop
+mul_end : tie.Need-offset_bounds-ends-i invariant_loop decreases_loop
 mul_end c = search rules
 
-shared_slice_read_end : tie.Need-shared-slice-read-end invariant_loop decreases_loop
+shared_slice_read_end : tie.Need-bounds-ends-i invariant_loop decreases_loop
 shared_slice_read_end c = search rules
 
-mul_stop : tie.Need-overflow-mul-stop invariant_loop decreases_loop
+mul_stop : tie.Need-offset_bounds-parts-i invariant_loop decreases_loop
 mul_stop c =
-    let r = c.before.before.loop.invariant in
-    let below = c.before.loop-test.true in
+    let r = c.loop-i.invariant in
+    let below = c.loop-i-test.true in
     let h = has_part r below in search rules
 
-shared_slice_read_stop : tie.Need-shared-slice-read-stop invariant_loop decreases_loop
+shared_slice_read_stop : tie.Need-bounds-parts-i invariant_loop decreases_loop
 shared_slice_read_stop c =
-    let r = c.before.before.before.loop.invariant in
-    let below = c.before.before.loop-test.true in
+    let r = c.loop-i.invariant in
+    let below = c.loop-i-test.true in
     let h = has_part r below in search rules
 
-add_next : tie.Need-overflow-add-next invariant_loop decreases_loop
+add_next : tie.Need-overflow_add-next invariant_loop decreases_loop
 add_next c =
-    let r = c.before.before.before.loop.invariant in
-    let below = c.before.before.loop-test.true in
+    let r = c.loop-i.invariant in
+    let below = c.loop-i-test.true in
     omega (arith, place-within r below, r.same_count)
 
-sub_read_file : tie.Need-overflow-sub-read-file invariant_loop decreases_loop
+sub_read_file : tie.Need-slice_bounds-read_file-count invariant_loop decreases_loop
 sub_read_file c =
-    let r = c.before.before.before.loop.invariant in
-    let below = c.before.before.loop-test.true in
+    let r = c.loop-i.invariant in
+    let below = c.loop-i-test.true in
     source-forward r below
 
-part_read_file_start : tie.Need-slice-bounds-read-file-start invariant_loop decreases_loop
+part_read_file_start : tie.Need-slice_bounds-read_file-start invariant_loop decreases_loop
 part_read_file_start c =
-    let r = c.before.before.before.loop.invariant in
-    let below = c.before.before.loop-test.true in
+    let r = c.loop-i.invariant in
+    let below = c.loop-i-test.true in
     let h = source-forward r below in search rules
 
-part_read_file_end : tie.Need-slice-bounds-read-file-end invariant_loop decreases_loop
+part_read_file_end : tie.Need-slice_bounds-read_file-end invariant_loop decreases_loop
 part_read_file_end c =
-    let r = c.before.before.before.loop.invariant in
-    let below = c.before.before.loop-test.true in
+    let r = c.loop-i.invariant in
+    let below = c.loop-i-test.true in
     let h = source-within r below in search rules
 
-sub_read_file_2 : tie.Need-overflow-sub-read-file-2 invariant_loop decreases_loop
+sub_read_file_2 : tie.Need-slice_bounds-read_file-count-in-loop-i invariant_loop decreases_loop
 sub_read_file_2 c =
-    let r = c.before.before.before.before.loop.invariant in
-    let below = c.before.before.before.loop-test.true in
+    let r = c.loop-i.invariant in
+    let below = c.loop-i-test.true in
     part-forward r below
 
-part_read_file_start_2 : tie.Need-slice-bounds-read-file-start-2 invariant_loop decreases_loop
+part_read_file_start_2 : tie.Need-slice_bounds-read_file-start-in-loop-i invariant_loop decreases_loop
 part_read_file_start_2 c =
-    let r = c.before.before.before.before.loop.invariant in
-    let below = c.before.before.before.loop-test.true in
+    let r = c.loop-i.invariant in
+    let below = c.loop-i-test.true in
     let h = part-forward r below in search rules
 
-part_read_file_end_2 : tie.Need-slice-bounds-read-file-end-2 invariant_loop decreases_loop
+part_read_file_end_2 : tie.Need-slice_bounds-read_file-end-in-loop-i invariant_loop decreases_loop
 part_read_file_end_2 c =
-    let r = c.before.before.before.before.loop.invariant in
-    let below = c.before.before.before.loop-test.true in
+    let r = c.loop-i.invariant in
+    let below = c.loop-i-test.true in
     let h = part-within r below in search rules
 
-mul_read_file : tie.Need-overflow-mul-read-file invariant_loop decreases_loop
+mul_read_file : tie.Need-offset_bounds-answers-place invariant_loop decreases_loop
 mul_read_file c =
-    let r = c.before.before.before.before.before.loop.invariant in
-    let below = c.before.before.before.before.loop-test.true in
+    let r = c.loop-i.invariant in
+    let below = c.loop-i-test.true in
     let h = place-within r below in search rules
 
-sub_read_file_3 : tie.Need-overflow-sub-read-file-3 invariant_loop decreases_loop
+sub_read_file_3 : tie.Need-slice_bounds-read_file-count-in-loop-i-2 invariant_loop decreases_loop
 sub_read_file_3 c = search rules
 
-part_read_file_start_3 : tie.Need-slice-bounds-read-file-start-3 invariant_loop decreases_loop
+part_read_file_start_3 : tie.Need-slice_bounds-read_file-start-in-loop-i-2 invariant_loop decreases_loop
 part_read_file_start_3 c = search rules
 
-part_read_file_end_3 : tie.Need-slice-bounds-read-file-end-3 invariant_loop decreases_loop
+part_read_file_end_3 : tie.Need-slice_bounds-read_file-end-in-loop-i-2 invariant_loop decreases_loop
 part_read_file_end_3 c =
-    let r = c.before.before.before.before.before.loop.invariant in
-    let below = c.before.before.before.before.loop-test.true in
+    let r = c.loop-i.invariant in
+    let below = c.loop-i-test.true in
     let h = place-within r below in search rules
 
-read_file_requires : tie.Need-read-file-requires invariant_loop decreases_loop
-read_file_requires c κs = its_five c.before.before.before.before.before.before.loop.invariant c.before.before.before.before.before.loop-test.true
+read_file_requires : tie.Need-read_file-requires invariant_loop decreases_loop
+read_file_requires c κs = its_five c.loop-i.invariant c.loop-i-test.true
 
-add_i : tie.Need-overflow-add-i invariant_loop decreases_loop
+add_i : tie.Need-overflow_add-i invariant_loop decreases_loop
 add_i c = search rules
 
-loop_less : tie.Need-loop-smaller invariant_loop decreases_loop
-loop_less c = omega (arith, c.before.before.before.before.before.before.before.before.before.before.loop-test.true)
+loop_less : tie.Need-loop-i-smaller invariant_loop decreases_loop
+loop_less c = omega (arith, c.loop-i-test.true)
 
-loop_again : tie.Need-loop-preserved invariant_loop decreases_loop
+loop_again : tie.Need-loop-i-preserved invariant_loop decreases_loop
 loop_again c =
-    let r = c.before.before.before.before.before.before.before.before.before.before.before.loop.invariant in
-    let below = c.before.before.before.before.before.before.before.before.before.before.loop-test.true in
-    let read-file' = c.before.before.before.before.read-file in
-    reached_next r below read-file'.new.1.1.0 read-file'.new.1.1.1.0 c.before.before.before.output.given.0 c.before.answers.given.0 read-file'.ensures
+    let r = c.loop-i.invariant in
+    let below = c.loop-i-test.true in
+    let read-file' = c.read_file in
+    reached_next r below read-file'.new.part read-file'.new.place c.output-1.given.0 c.answers-1.given.0 read-file'.ensures
 
-same_length : tie.Need-same-length invariant_loop decreases_loop
-same_length c = c.before.loop.invariant.same_room
+same_length : tie.Need-shape_of-output invariant_loop decreases_loop
+same_length c = c.loop-i.invariant.same_room
 
-same_length_2 : tie.Need-same-length-2 invariant_loop decreases_loop
-same_length_2 c = c.before.loop.invariant.same_count
+same_length_2 : tie.Need-shape_of-answers invariant_loop decreases_loop
+same_length_2 c = c.loop-i.invariant.same_count
 
 returns : tie.Need-returns invariant_loop decreases_loop
-returns c = reached_all c.before.loop.invariant (omega (arith, c.loop-test.false))
+returns c = reached_all c.loop-i.invariant (omega (arith, c.loop-i-test.false))
 
 pub read_files_spec : {M : Type 1} → statement M
 read_files_spec =

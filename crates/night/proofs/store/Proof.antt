@@ -7,41 +7,41 @@ use Rattle.night.proofs.NightLaws.{stored_five}
 use Rattle.night.proofs.store.Statement.{statement}
 use Rattle.night.proofs.store.Tie as tie
 
-array_read_place : tie.Need-array-read-place
+array_read_place : tie.Need-bounds-five-0
 array_read_place c = search rules
 
-slice_write_place : tie.Need-slice-write-place
+slice_write_place : tie.Need-bounds-place-0
 slice_write_place c = search rules
 
-array_read_place_2 : tie.Need-array-read-place-2
+array_read_place_2 : tie.Need-bounds-five-1
 array_read_place_2 c = search rules
 
-slice_write_place_2 : tie.Need-slice-write-place-2
+slice_write_place_2 : tie.Need-bounds-place-1
 slice_write_place_2 c = search rules
 
-array_read_place_3 : tie.Need-array-read-place-3
+array_read_place_3 : tie.Need-bounds-five-2
 array_read_place_3 c = search rules
 
-slice_write_place_3 : tie.Need-slice-write-place-3
+slice_write_place_3 : tie.Need-bounds-place-2
 slice_write_place_3 c = search rules
 
-array_read_place_4 : tie.Need-array-read-place-4
+array_read_place_4 : tie.Need-bounds-five-3
 array_read_place_4 c = search rules
 
-slice_write_place_4 : tie.Need-slice-write-place-4
+slice_write_place_4 : tie.Need-bounds-place-3
 slice_write_place_4 c = search rules
 
-array_read_place_5 : tie.Need-array-read-place-5
+array_read_place_5 : tie.Need-bounds-five-4
 array_read_place_5 c = search rules
 
-slice_write_place_5 : tie.Need-slice-write-place-5
+slice_write_place_5 : tie.Need-bounds-place-4
 slice_write_place_5 c = simp length-set (omega arith)
 
-same_length : tie.Need-same-length
+same_length : tie.Need-shape_of-place
 same_length c = search rules
 
 returns : tie.Need-returns
-returns c = stored_five c.args.place.now c.args.t1 c.requires.1 c.requires.0
+returns c = stored_five c.args.place.now c.args.five c.requires.1 c.requires.0
 
 pub store_spec : {M : Type 1} → statement M
 store_spec =

@@ -9,57 +9,57 @@ use Rattle.reader.proofs.ReaderLaws.{no_detail, depth_else}
 use Rattle.reader.proofs.refused.Statement.{statement}
 use Rattle.reader.proofs.refused.Tie as tie
 
-cast_start : tie.Need-overflow-cast-start
+cast_start : tie.Need-overflow_cast-start
 cast_start c = search rules
 
-cast_end : tie.Need-overflow-cast-end
+cast_end : tie.Need-overflow_cast-end
 cast_end c = search rules
 
-returns : tie.Need-returns
+returns : tie.Need-returns-in-5
 unfolding numbers met_with
 returns c =
-    let r' = c.before.before.before.before.args.r in
-    sym (ap (λ (n : ℕ). refusal n r'.place.start r'.place.end r'.detail) c.match.keys1)
+    let r' = c.args.r in
+    sym (ap (λ (n : ℕ). refusal n r'.place.start r'.place.end r'.detail) c.in-5.is)
 
-returns_2 : tie.Need-returns-2
+returns_2 : tie.Need-returns-in-6
 unfolding numbers met_with
 returns_2 c =
-    let r' = c.before.before.before.before.args.r in
-    sym (ap (λ (n : ℕ). refusal n r'.place.start r'.place.end r'.detail) c.match.keys2)
+    let r' = c.args.r in
+    sym (ap (λ (n : ℕ). refusal n r'.place.start r'.place.end r'.detail) c.in-6.is)
 
-returns_3 : tie.Need-returns-3
+returns_3 : tie.Need-returns-in-7
 unfolding numbers met_with
 returns_3 c =
-    let r' = c.before.before.before.before.args.r in
-    let z = no_detail r'.detail c.before.before.before.before.requires EXPRESSION refl c.match.keys3 in
-    sym (ap (λ (n : ℕ). refusal n r'.place.start r'.place.end r'.detail) c.match.keys3 ∙ ap (λ (x : ℕ). refusal EXPRESSION r'.place.start r'.place.end x) z)
+    let r' = c.args.r in
+    let z = no_detail r'.detail c.requires EXPRESSION refl c.in-7.is in
+    sym (ap (λ (n : ℕ). refusal n r'.place.start r'.place.end r'.detail) c.in-7.is ∙ ap (λ (x : ℕ). refusal EXPRESSION r'.place.start r'.place.end x) z)
 
-returns_4 : tie.Need-returns-4
+returns_4 : tie.Need-returns-in-8
 unfolding numbers met_with
 returns_4 c =
-    let r' = c.before.before.before.before.args.r in
-    sym (ap (λ (n : ℕ). refusal n r'.place.start r'.place.end r'.detail) c.match.keys4)
+    let r' = c.args.r in
+    sym (ap (λ (n : ℕ). refusal n r'.place.start r'.place.end r'.detail) c.in-8.is)
 
-returns_5 : tie.Need-returns-5
+returns_5 : tie.Need-returns-in-9
 unfolding numbers met_with
 returns_5 c =
-    let r' = c.before.before.before.before.args.r in
-    sym (ap (λ (n : ℕ). refusal n r'.place.start r'.place.end r'.detail) c.match.keys5)
+    let r' = c.args.r in
+    sym (ap (λ (n : ℕ). refusal n r'.place.start r'.place.end r'.detail) c.in-9.is)
 
-returns_6 : tie.Need-returns-6
+returns_6 : tie.Need-returns-in-17
 unfolding numbers met_with
 returns_6 c =
-    let r' = c.before.before.before.before.args.r in
-    let z = no_detail r'.detail c.before.before.before.before.requires LARGE refl c.match.keys6 in
-    sym (ap (λ (n : ℕ). refusal n r'.place.start r'.place.end r'.detail) c.match.keys6 ∙ ap (λ (x : ℕ). refusal LARGE r'.place.start r'.place.end x) z)
+    let r' = c.args.r in
+    let z = no_detail r'.detail c.requires LARGE refl c.in-17.is in
+    sym (ap (λ (n : ℕ). refusal n r'.place.start r'.place.end r'.detail) c.in-17.is ∙ ap (λ (x : ℕ). refusal LARGE r'.place.start r'.place.end x) z)
 
-returns_7 : tie.Need-returns-7
+returns_7 : tie.Need-returns-in_default
 unfolding numbers met_with
 returns_7 c =
-    let r' = c.before.before.before.before.args.r in
-    let none = c.match.rest in
-    let z = depth_else r'.detail c.before.before.before.before.requires none.0.0.0.0.0.1 none.0.0.0.0.1 none.0.0.0.1 none.0.0.1 none.0.1 none.1 in
-    sym (ap (λ (n : ℕ). refusal n r'.place.start r'.place.end r'.detail) z ∙ ap (λ (x : ℕ). refusal DEPTH r'.place.start r'.place.end x) (no_detail r'.detail c.before.before.before.before.requires DEPTH refl z))
+    let r' = c.args.r in
+    let none = c.in_default.in_default-own.rest in
+    let z = depth_else r'.detail c.requires none.0.0.0.0.0.1 none.0.0.0.0.1 none.0.0.0.1 none.0.0.1 none.0.1 none.1 in
+    sym (ap (λ (n : ℕ). refusal n r'.place.start r'.place.end r'.detail) z ∙ ap (λ (x : ℕ). refusal DEPTH r'.place.start r'.place.end x) (no_detail r'.detail c.requires DEPTH refl z))
 
 pub refused_spec : {M : Type 1} → statement M
 refused_spec =

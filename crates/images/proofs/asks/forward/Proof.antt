@@ -7,47 +7,47 @@ use Rattle.images.proofs.CodeLaws.{onward_not, onward_more, onward_last}
 use Rattle.images.proofs.asks.forward.Statement.{statement}
 use Rattle.images.proofs.asks.forward.Tie as tie
 
-array_read_if1 : tie.Need-array-read-if1
+array_read_if1 : tie.Need-bounds-v-0
 array_read_if1 c = search rules
 
-returns : tie.Need-returns
+returns : tie.Need-returns-then-v-eq-BACKWARD
 unfolding forward
-returns c = onward_not _ _ c.if1.true
+returns c = onward_not _ _ c.if-v-eq-BACKWARD.true
 
-array_read_if2 : tie.Need-array-read-if2
+array_read_if2 : tie.Need-bounds-v-1
 array_read_if2 c = search rules
 
-returns_2 : tie.Need-returns-2
+returns_2 : tie.Need-returns-then-v-eq-BACKWARD-2
 unfolding forward
-returns_2 c = onward_more _ _ _ c.before.if1.false (onward_not _ _ c.if2.true)
+returns_2 c = onward_more _ _ _ c.if-v-eq-BACKWARD.false (onward_not _ _ c.if-v-eq-BACKWARD-2.true)
 
-array_read_if3 : tie.Need-array-read-if3
+array_read_if3 : tie.Need-bounds-v-2
 array_read_if3 c = search rules
 
-returns_3 : tie.Need-returns-3
+returns_3 : tie.Need-returns-then-v-eq-BACKWARD-3
 unfolding forward
-returns_3 c = onward_more _ _ _ c.before.before.if1.false (onward_more _ _ _ c.before.if2.false (onward_not _ _ c.if3.true))
+returns_3 c = onward_more _ _ _ c.if-v-eq-BACKWARD.false (onward_more _ _ _ c.if-v-eq-BACKWARD-2.false (onward_not _ _ c.if-v-eq-BACKWARD-3.true))
 
-array_read_if4 : tie.Need-array-read-if4
+array_read_if4 : tie.Need-bounds-v-3
 array_read_if4 c = search rules
 
-returns_4 : tie.Need-returns-4
+returns_4 : tie.Need-returns-then-v-eq-BACKWARD-4
 unfolding forward
-returns_4 c = onward_more _ _ _ c.before.before.before.if1.false (onward_more _ _ _ c.before.before.if2.false (onward_more _ _ _ c.before.if3.false (onward_not _ _ c.if4.true)))
+returns_4 c = onward_more _ _ _ c.if-v-eq-BACKWARD.false (onward_more _ _ _ c.if-v-eq-BACKWARD-2.false (onward_more _ _ _ c.if-v-eq-BACKWARD-3.false (onward_not _ _ c.if-v-eq-BACKWARD-4.true)))
 
-array_read_if5 : tie.Need-array-read-if5
+array_read_if5 : tie.Need-bounds-v-4
 array_read_if5 c = search rules
 
-returns_5 : tie.Need-returns-5
+returns_5 : tie.Need-returns-then-v-eq-BACKWARD-5
 unfolding forward
-returns_5 c = onward_more _ _ _ c.before.before.before.before.if1.false (onward_more _ _ _ c.before.before.before.if2.false (onward_more _ _ _ c.before.before.if3.false (onward_more _ _ _ c.before.if4.false (onward_not _ _ c.if5.true))))
+returns_5 c = onward_more _ _ _ c.if-v-eq-BACKWARD.false (onward_more _ _ _ c.if-v-eq-BACKWARD-2.false (onward_more _ _ _ c.if-v-eq-BACKWARD-3.false (onward_more _ _ _ c.if-v-eq-BACKWARD-4.false (onward_not _ _ c.if-v-eq-BACKWARD-5.true))))
 
-array_read_result : tie.Need-array-read-result
+array_read_result : tie.Need-bounds-v-5
 array_read_result c = search rules
 
-returns_6 : tie.Need-returns-6
+returns_6 : tie.Need-returns
 unfolding forward
-returns_6 c = onward_more _ _ _ c.before.before.before.before.if1.false (onward_more _ _ _ c.before.before.before.if2.false (onward_more _ _ _ c.before.before.if3.false (onward_more _ _ _ c.before.if4.false (onward_more _ _ _ c.if5.false (onward_last (get_or c.before.before.before.before.before.args.t1 5 0))))))
+returns_6 c = onward_more _ _ _ c.if-v-eq-BACKWARD.false (onward_more _ _ _ c.if-v-eq-BACKWARD-2.false (onward_more _ _ _ c.if-v-eq-BACKWARD-3.false (onward_more _ _ _ c.if-v-eq-BACKWARD-4.false (onward_more _ _ _ c.if-v-eq-BACKWARD-5.false (onward_last (get_or c.args.v 5 0))))))
 
 pub forward_spec : {M : Type 1} → statement M
 forward_spec =

@@ -1,69 +1,67 @@
 -- `records::worded` meets its contract.
 -- Assumes nothing.
-use mathlib.Core.Path.{refl}
-use Prim.Native.Nat.{◌-◌}
 use native.Mathlib.Omega.{arith}
 use borrow.Author.Rules.{rules}
 use Rattle.images.proofs.CodeLaws.{free_says, number_says, utf8_says, name_says, empty_says, none_says, part_length}
 use Rattle.images.proofs.records.worded.Statement.{statement}
 use Rattle.images.proofs.records.worded.Tie as tie
 
-sub_from : tie.Need-overflow-sub-from
+sub_from : tie.Need-overflow_sub-from
 sub_from c = search rules
 
-sub_is_number : tie.Need-overflow-sub-is-number
+sub_is_number : tie.Need-slice_bounds-is_number-count
 sub_is_number c = search rules
 
-part_is_number_start : tie.Need-slice-bounds-is-number-start
+part_is_number_start : tie.Need-slice_bounds-is_number-start
 part_is_number_start c = search rules
 
-part_is_number_end : tie.Need-slice-bounds-is-number-end
+part_is_number_end : tie.Need-slice_bounds-is_number-end
 part_is_number_end c = search rules
 
-is_number_requires : tie.Need-is-number-requires
+is_number_requires : tie.Need-is_number-requires
 is_number_requires c κs = search rules
 
-sub_is_utf8 : tie.Need-overflow-sub-is-utf8
+sub_is_utf8 : tie.Need-slice_bounds-is_utf8-count
 sub_is_utf8 c = search rules
 
-part_is_utf8_start : tie.Need-slice-bounds-is-utf8-start
+part_is_utf8_start : tie.Need-slice_bounds-is_utf8-start
 part_is_utf8_start c = search rules
 
-part_is_utf8_end : tie.Need-slice-bounds-is-utf8-end
+part_is_utf8_end : tie.Need-slice_bounds-is_utf8-end
 part_is_utf8_end c = search rules
 
-is_utf8_requires : tie.Need-is-utf8-requires
+is_utf8_requires : tie.Need-is_utf8-requires
 is_utf8_requires c κs = search rules
 
-sub_is_name : tie.Need-overflow-sub-is-name
+sub_is_name : tie.Need-slice_bounds-is_name-count
 sub_is_name c = search rules
 
-part_is_name_start : tie.Need-slice-bounds-is-name-start
+part_is_name_start : tie.Need-slice_bounds-is_name-start
 part_is_name_start c = search rules
 
-part_is_name_end : tie.Need-slice-bounds-is-name-end
+part_is_name_end : tie.Need-slice_bounds-is_name-end
 part_is_name_end c = search rules
 
-is_name_requires : tie.Need-is-name-requires
+is_name_requires : tie.Need-is_name-requires
 is_name_requires c κs = search rules
 
-returns : tie.Need-returns
-returns c = free_says c.match.keys1
+returns : tie.Need-returns-in-0
+returns c = free_says c.in-0.is
 
-returns_2 : tie.Need-returns-2
-returns_2 c = number_says c.before.before.match.keys2 c.is_number.ensures
+returns_2 : tie.Need-returns-in-1
+returns_2 c = number_says c.in-1.is c.is_number.ensures
 
-returns_3 : tie.Need-returns-3
-returns_3 c = utf8_says c.before.before.match.keys3 c.is-utf8.ensures
+returns_3 : tie.Need-returns-in-2
+returns_3 c = utf8_says c.in-2.is c.is_utf8.ensures
 
-returns_4 : tie.Need-returns-4
-returns_4 c = name_says c.before.before.match.keys4 c.is_name.ensures
+returns_4 : tie.Need-returns-in-3
+returns_4 c = name_says c.in-3.is c.is_name.ensures
 
-returns_5 : tie.Need-returns-5
-returns_5 c = empty_says _ c.match.keys5 (part_length c.before.before.args.bytes.now c.before.before.args.size c.before.before.args.end c.before.before.requires.0 c.before.before.requires.1)
+returns_5 : tie.Need-returns-in-4
+returns_5 c = empty_says _ c.in-4.is (part_length c.args.bytes.now c.args.size c.args.end c.requires.0 c.requires.1)
 
-returns_6 : tie.Need-returns-6
-returns_6 c = none_says (λ h. omega (arith, c.match.rest))
+returns_6 : tie.Need-returns-in_default
+returns_6 c = none_says (λ h. omega (arith, c.in_default.in_default-own.rest))
 
 pub worded_spec : {M : Type 1} → statement M
 worded_spec =
