@@ -1,10 +1,11 @@
+#![tactic(auto)]
 // All sources of up to three characters of an alphabet that touches every rule: how many there are, and a checksum of all their lexemes, as
 // the judge prints them (vectors/exhaustive.txt). They are counted through, the last character fastest. The sum is FNV-1a with 64 bits over
 // lines `KIND:START:END ...`, a line feed after each; the source with no lexeme is the line `-`.
 ghost use Rattle.std.specs.Prelude.{◌+◌, ◌≤◌, ◌<◌};
 
-use libc::STDOUT_FILENO;
 use sums::fed;
+use system::Output;
 
 const SIZE: usize = 46;
 
@@ -104,20 +105,21 @@ fn fed_source(h: u64, length: usize, n: usize) -> u64 {
 }
 
 // How many sources there are of a length, and their sum.
-fn print_all(length: usize, count: usize) {
+fn print_all(out: &mut Output, length: usize, count: usize) {
     let mut sum = sums::START;
     let mut n = 0;
     while n < count {
         sum = fed_source(sum, length, n);
         n += 1;
     }
-    io::write_all(STDOUT_FILENO, b"lexemes");
-    sums::report(length, count, sum);
+    out.write(b"lexemes");
+    sums::report(out, length, count, sum);
 }
 
-fn main() {
-    print_all(0, 1);
-    print_all(1, 46);
-    print_all(2, 2116);
-    print_all(3, 97336);
+fn main(rt: HostRuntime) {
+    let mut out = Output::new(&rt);
+    print_all(&mut out, 0, 1);
+    print_all(&mut out, 1, 46);
+    print_all(&mut out, 2, 2116);
+    print_all(&mut out, 3, 97336);
 }

@@ -1,3 +1,4 @@
+#![tactic(auto)]
 // What `readtree` prints for the files that the arguments name. Then all sources of up to three lexemes, under each setting: how many there are,
 // and a checksum of all their answers, as the judge prints them (vectors/exhaustive.txt). They are counted through, the last lexeme fastest.
 mod files;
@@ -6,7 +7,7 @@ ghost use Rattle.io.specs.Counts.{IsPrefixLen};
 
 use desk::text::put;
 use desk::{Language, questions};
-use libc::STDOUT_FILENO;
+use system::Output;
 
 // How many lexemes the sources are made of.
 const SIZE: usize = 30;
@@ -75,28 +76,29 @@ fn fed_source(h: u64, setting: u64, length: usize, n: usize) -> u64 {
 }
 
 // How many sources there are of a length, and their sum.
-fn print_sum(setting: u64, length: usize, count: usize) {
+fn print_sum(out: &mut Output, setting: u64, length: usize, count: usize) {
     let mut sum = sums::START;
     let mut n = 0;
     while n < count {
         sum = fed_source(sum, setting, length, n);
         n += 1;
     }
-    io::write_all(STDOUT_FILENO, b"sources ");
-    io::print_decimal(STDOUT_FILENO, setting);
-    sums::report(length, count, sum);
+    out.write(b"sources ");
+    out.write_decimal(setting);
+    sums::report(out, length, count, sum);
 }
 
-fn print_sums(setting: u64) {
-    print_sum(setting, 0, 1);
-    print_sum(setting, 1, 30);
-    print_sum(setting, 2, 900);
-    print_sum(setting, 3, 27_000);
+fn print_sums(out: &mut Output, setting: u64) {
+    print_sum(out, setting, 0, 1);
+    print_sum(out, setting, 1, 30);
+    print_sum(out, setting, 2, 900);
+    print_sum(out, setting, 3, 27_000);
 }
 
-fn main() {
-    files::read_all();
+fn main(rt: HostRuntime) {
+    files::read_all(&rt);
+    let mut out = Output::new(&rt);
     for setting in 0..16 {
-        print_sums(setting);
+        print_sums(&mut out, setting);
     }
 }

@@ -1,6 +1,7 @@
+#![tactic(auto)]
 // What the planner's list costs: the image on standard input is listed once, with just as many links as it needs, and with room for as many listings as
 // an image of its length can have.
-use libc::{STDIN_FILENO, STDOUT_FILENO};
+use system::{Output, Source};
 
 const IMAGE: usize = 524_288;
 
@@ -9,18 +10,19 @@ const LINKS: usize = 349_524;
 // Four numbers for each listing. An object that is listed has 21 bytes at least: five of its own, thirteen of its field, three of what no object inside has.
 const LIST: usize = 99_864;
 
-fn tell(image: &[u8], links: &mut [usize], list: &mut [usize]) {
+fn tell(rt: &HostRuntime, image: &[u8], links: &mut [usize], list: &mut [usize]) {
+    let mut out = Output::new(rt);
     let f = mass::numbers(mass::list(image, links, list));
-    io::print_decimal(STDOUT_FILENO, f.number);
-    io::write_all(STDOUT_FILENO, b" ");
-    io::print_decimal(STDOUT_FILENO, f.offset);
-    io::write_all(STDOUT_FILENO, b" ");
-    io::print_decimal(STDOUT_FILENO, f.count);
-    io::write_all(STDOUT_FILENO, b"\n");
+    out.write_decimal(f.number);
+    out.write(b" ");
+    out.write_decimal(f.offset);
+    out.write(b" ");
+    out.write_decimal(f.count);
+    out.write(b"\n");
 }
 
-fn read(image: &mut [u8], links: &mut [usize], list: &mut [usize]) {
-    let n = io::read_full(STDIN_FILENO, image);
+fn read(rt: &HostRuntime, image: &mut [u8], links: &mut [usize], list: &mut [usize]) {
+    let n = Source::standard_input(rt).read_full(image);
     let needed = n / 3 * 2;
     let room = n / 21 * 4;
     if links.len() < needed {
@@ -29,17 +31,22 @@ fn read(image: &mut [u8], links: &mut [usize], list: &mut [usize]) {
     if list.len() < room {
         return;
     }
-    tell(&image[..n], &mut links[..needed], &mut list[..room]);
+    tell(rt, &image[..n], &mut links[..needed], &mut list[..room]);
 }
 
 // The buffers come as references to arrays: a proof that lent them as slices where they are made would count their elements one by one.
-fn run(image: &mut [u8; IMAGE], links: &mut [usize; LINKS], list: &mut [usize; LIST]) {
-    read(image, links, list);
+fn run(
+    rt: &HostRuntime,
+    image: &mut [u8; IMAGE],
+    links: &mut [usize; LINKS],
+    list: &mut [usize; LIST],
+) {
+    read(rt, image, links, list);
 }
 
-fn main() {
+fn main(rt: HostRuntime) {
     let mut image = [0u8; IMAGE];
     let mut links = [0usize; LINKS];
     let mut list = [0usize; LIST];
-    run(&mut image, &mut links, &mut list);
+    run(&rt, &mut image, &mut links, &mut list);
 }

@@ -1,16 +1,19 @@
+#![tactic(auto)]
 // What reading costs: the source on standard input is read once under setting 0. bench_none does the same but for the reading.
-use libc::STDOUT_FILENO;
+use system::{Output, Source};
 
-fn main() {
+fn main(rt: HostRuntime) {
     let mut source = [0u8; 65_536];
     let mut output = [0u8; 65_536];
-    let n = io::read_full(0, &mut source);
+    let mut input = Source::standard_input(&rt);
+    let n = input.read_full(&mut source);
     // nothing is left to take in, but the compiler cannot know that the output is still clear, nor that nothing reads it
-    io::read_full(0, &mut output);
+    input.read_full(&mut output);
     let f = reader::numbers(reader::read(0, &source[..n], &mut output));
-    io::read_full(0, &mut output);
-    io::print_decimal(STDOUT_FILENO, f.number);
-    io::write_all(STDOUT_FILENO, b" ");
-    io::print_decimal(STDOUT_FILENO, f.length);
-    io::write_all(STDOUT_FILENO, b"\n");
+    input.read_full(&mut output);
+    let mut out = Output::new(&rt);
+    out.write_decimal(f.number);
+    out.write(b" ");
+    out.write_decimal(f.length);
+    out.write(b"\n");
 }

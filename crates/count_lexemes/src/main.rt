@@ -1,8 +1,9 @@
+#![tactic(auto)]
 // How many kept lexemes the source on standard input has: lexing alone, to be measured by bench/lexemes.
 ghost use Rattle.std.specs.Prelude.{◌≤◌, length};
 
 use lexemes::kinds::Kind;
-use libc::STDOUT_FILENO;
+use system::{Output, Source};
 
 fn count(src: &[u8]) -> usize
     ensures { result ≤ length src.now }
@@ -19,9 +20,10 @@ fn count(src: &[u8]) -> usize
     }
 }
 
-fn main() {
+fn main(rt: HostRuntime) {
     let mut source = [0u8; 65_536];
-    let n = io::read_full(0, &mut source);
-    io::print_decimal(STDOUT_FILENO, count(&source[..n]) as u64);
-    io::write_all(STDOUT_FILENO, b"\n");
+    let n = Source::standard_input(&rt).read_full(&mut source);
+    let mut out = Output::new(&rt);
+    out.write_decimal(count(&source[..n]) as u64);
+    out.write(b"\n");
 }

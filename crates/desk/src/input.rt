@@ -1,30 +1,48 @@
-// A file taken whole.
+// A file taken whole, or in parts.
 ghost use Rattle.io.specs.Counts.{IsPrefixLen};
 
-// How many bytes came, up to the file's end or the buffer's; whether none was kept back by a read that failed.
-#[derive(Drop)]
+use std::io::Error;
+use system::Source;
+
+// How many bytes came, up to the file's end or the buffer's; why a read failed, if one did, behind which others may have been kept back.
+#[derive(Clone, Copy)]
 pub struct Taken {
     pub length: usize,
-    pub whole: bool,
+    pub fault: Option<Error>,
 }
 
-pub fn take(fd: i32, buffer: &mut [u8]) -> Taken
+// What one read brings: nothing at the file's end.
+pub fn part(file: &mut Source, buffer: &mut [u8]) -> Taken
+    ensures { IsPrefixLen result.length buffer.new }
+{
+    match file.read(buffer) {
+        Ok(n) => Taken {
+            length: n,
+            fault: None,
+        },
+        Err(error) => Taken {
+            length: 0,
+            fault: Some(error),
+        },
+    }
+}
+
+pub fn take(file: &mut Source, buffer: &mut [u8]) -> Taken
     ensures { IsPrefixLen result.length buffer.new }
 {
     let mut n = 0;
     while n < buffer.len() {
-        let got = libc::read(fd, &mut buffer[n..]);
-        let more = io::count(got, &buffer[n..]);
-        if more == 0 {
+        let got = part(file, &mut buffer[n..]);
+        if got.length == 0 {
             return Taken {
                 length: n,
-                whole: got == 0,
+                fault: got.fault,
             };
         }
-        n += more;
+        n += got.length;
     }
     Taken {
         length: n,
-        whole: true,
+        fault: None,
     }
 }

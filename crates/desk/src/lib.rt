@@ -1,3 +1,4 @@
+#![tactic(auto)]
 // What the desk's programs share.
 mod backs; // an image read back, as the judge asks for it
 pub mod input; // a file taken whole
@@ -12,7 +13,7 @@ pub mod tree; // what `readtree` does
 pub use reader::Fields;
 
 // What a file is written in.
-#[derive(Drop)]
+#[derive(Clone, Copy)]
 pub enum Language {
     Jsonnet(u64), // under a setting
     Json,
@@ -26,8 +27,8 @@ pub fn answer(setting: u64, source: &[u8], output: &mut [u8]) -> Fields {
 
 // The whole answer to a station's text, in document 02's numbers.
 pub fn answer_json(text: &[u8], output: &mut [u8]) -> Fields {
-    let importing = json::read_json(text, output);
-    let f = json::numbers(importing);
+    let importing = json_import::read_json(text, output);
+    let f = json_import::numbers(importing);
     Fields {
         number: f.number,
         start: f.start,

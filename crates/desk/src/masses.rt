@@ -22,9 +22,8 @@ fn put_listings(text: &mut [u8], at: usize, list: &[usize]) -> usize
 }
 
 // How many numbers of a list are listings: none after a refusal.
-fn listed(f: images::Fields, list: &[usize]) -> usize {
-    let count = f.count as usize;
-    if f.number != 0 {
+fn listed(number: u64, count: usize, list: &[usize]) -> usize {
+    if number != 0 {
         return 0;
     }
     if list.len() / 4 < count {
@@ -37,7 +36,7 @@ fn listed(f: images::Fields, list: &[usize]) -> usize {
 fn told(f: images::Fields, links: &[usize], list: &[usize], text: &mut [u8]) -> usize
     ensures { IsPrefixLen result text.new }
 {
-    let end = listed(f, list);
+    let end = listed(f.number, f.count as usize, list);
     if !is_unlinked(links, 0) {
         return put(text, 0, b"dirty\n");
     }

@@ -5,7 +5,6 @@
 ghost use Rattle.std.specs.Prelude.{◌≤◌, length};
 
 use crate::Language;
-use libc::STDERR_FILENO;
 
 // What can be wrong with a word.
 pub const NOTHING: u8 = 0;
@@ -27,7 +26,7 @@ const NO_SETTING: u64 = u64::MAX;
 // Stands for a number where there is none.
 const NO_NUMBER: usize = usize::MAX;
 
-#[derive(Drop)]
+#[derive(Clone, Copy)]
 pub struct Options {
     pub setting: u64,
     pub file: usize, // which word names the last file so far, 0 where none does
@@ -330,31 +329,16 @@ impl Options {
     }
 
     // Says what is wrong.
-    pub fn complain(self, program: &[u8]) {
+    pub fn complain(self, rt: &HostRuntime, program: &[u8]) {
         let fault = self.fault;
-        io::write_all(STDERR_FILENO, program);
+        system::complain(rt, program);
         match fault {
-            SETTING => {
-                io::write_all(STDERR_FILENO, b": -s takes a setting, 0 to 15\n");
-            }
-            OUTPUT => {
-                io::write_all(STDERR_FILENO, b": -o takes the name of a file\n");
-            }
-            IMAGE => {
-                io::write_all(STDERR_FILENO, b": --image takes the name of a file\n");
-            }
-            DEPTH => {
-                io::write_all(STDERR_FILENO, b": --depth takes a number\n");
-            }
-            AT => {
-                io::write_all(STDERR_FILENO, b": --at takes a place, LINE:COLUMN\n");
-            }
-            _ => {
-                io::write_all(
-                    STDERR_FILENO,
-                    b": there is no such option; -h tells which there are\n",
-                );
-            }
+            SETTING => system::complain(rt, b": -s takes a setting, 0 to 15\n"),
+            OUTPUT => system::complain(rt, b": -o takes the name of a file\n"),
+            IMAGE => system::complain(rt, b": --image takes the name of a file\n"),
+            DEPTH => system::complain(rt, b": --depth takes a number\n"),
+            AT => system::complain(rt, b": --at takes a place, LINE:COLUMN\n"),
+            _ => system::complain(rt, b": there is no such option; -h tells which there are\n"),
         }
     }
 }

@@ -71,7 +71,7 @@ const LETTERS: u64 = 0x100_0000_0000_0000;
 const NO_DIGIT: u8 = 16;
 
 // A question as far as it has come.
-#[derive(Drop)]
+#[derive(Clone, Copy)]
 pub struct Question {
     form: u64,
     stage: u8,
@@ -408,16 +408,21 @@ pub fn is_clear(output: &[u8], from: usize) -> bool {
 fn told(f: Fields, output: &[u8], text: &mut [u8]) -> usize
     ensures { IsPrefixLen result text.new }
 {
+    let number = f.number;
+    let start = f.start;
+    let end = f.end;
+    let detail = f.detail;
+    let length = f.length;
     let image = crate::image(f, output);
     if !is_clear(output, image.len()) {
         return put(text, 0, b"dirty\n");
     }
-    let mut n = put_number(text, 0, f.number);
-    n = put_field(text, n, f.start);
-    n = put_field(text, n, f.end);
-    n = put_field(text, n, f.detail);
-    n = put_field(text, n, f.length);
-    if f.number != 0 {
+    let mut n = put_number(text, 0, number);
+    n = put_field(text, n, start);
+    n = put_field(text, n, end);
+    n = put_field(text, n, detail);
+    n = put_field(text, n, length);
+    if number != 0 {
         return put(text, n, b" -\n");
     }
     n = put(text, n, b" ");

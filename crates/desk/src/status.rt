@@ -1,6 +1,10 @@
-// How a program ends. The kit has no exit status. So a program's wrapper, tools/run, gives it `--status` as its first argument, takes the
-// digit that then comes on a descriptor of its own, and ends with it.
+// How a program ends. Run by itself it ends with 0 whatever it found; with `--status` as its first argument, as its wrapper tools/run gives it, it ends with
+// its status.
 ghost use Rattle.std.specs.Prelude.{◌≤◌};
+
+use std::io::{Error, ErrorKind};
+use std::process::ExitCode;
+use system::Output;
 
 // The statuses, the worse the higher.
 pub const GOOD: u8 = 0; // a tree for every source
@@ -9,8 +13,7 @@ pub const REFUSED: u8 = 1; // a refusal
 
 pub const FAILED: u8 = 2; // arguments that ask for nothing, a file that cannot be read, or an answer that cannot be written
 
-// The descriptor that the wrapper listens on.
-const LISTENS: i32 = 3;
+pub const CUT: u8 = 141; // what read the answer reads no further: as a shell tells of a program that ends of it
 
 // Several sources end as the worst of them.
 pub fn worse(a: u8, b: u8) -> u8
@@ -22,51 +25,50 @@ pub fn worse(a: u8, b: u8) -> u8
     a
 }
 
-// A write that fails leaves the system's error number behind, and no later success takes it away. So where writes hand nothing back, the number is
-// set to none before them, and looked at after them.
-pub fn forget_errors() {
-    let mut word = io::buffer();
-    os::arg(0, &mut word);
+// The status of what failed, which is told. What reads no further is told nothing.
+pub fn failed(rt: &HostRuntime, what: &[u8], error: Error) -> u8 {
+    match error.kind() {
+        ErrorKind::BrokenPipe => CUT,
+        _ => {
+            system::fail(rt, what, error);
+            FAILED
+        }
+    }
+}
+
+// A write that fails leaves its error behind, and no later success takes it away. So where writes hand nothing back, the error is set to none before
+// them, and looked at after them.
+pub fn forget_errors(out: &mut Output) {
+    out.forget_errors();
 }
 
 // The status, if all could be written since.
-pub fn if_written(status: u8) -> u8 {
-    if os::errno() == 0 {
-        return status;
+pub fn if_written(rt: &HostRuntime, fault: Option<Error>, status: u8) -> u8 {
+    match fault {
+        None => status,
+        Some(error) => failed(rt, b"standard output", error),
     }
-    os::fail(b"standard output");
-    FAILED
 }
 
-// Whether the wrapper listens.
-fn is_asked() -> bool {
-    let mut word = io::buffer();
-    let n = os::arg(1, &mut word);
+// Whether the status is asked for.
+fn is_asked(rt: &HostRuntime) -> bool {
+    let mut word = system::buffer();
+    let n = system::arg(rt, 1, &mut word);
     check::same(&word[..n], b"--status")
 }
 
 // Where the program's own arguments begin.
-pub fn first_argument() -> usize {
-    if is_asked() {
+pub fn first_argument(rt: &HostRuntime) -> usize {
+    if is_asked(rt) {
         return 2;
     }
     1
 }
 
-// The last thing that a program does.
-pub fn end(status: u8) {
-    if !is_asked() {
-        return;
+// What a program ends with.
+pub fn end(rt: &HostRuntime, status: u8) -> ExitCode {
+    if !is_asked(rt) {
+        return ExitCode::SUCCESS;
     }
-    match status {
-        GOOD => {
-            io::write_all(LISTENS, b"0");
-        }
-        REFUSED => {
-            io::write_all(LISTENS, b"1");
-        }
-        _ => {
-            io::write_all(LISTENS, b"2");
-        }
-    }
+    ExitCode::from(status)
 }

@@ -5,7 +5,9 @@ use crate::input::take;
 use crate::options::Options;
 use crate::text::{put, put_field, put_hex_line};
 use crate::{Fields, Language, options, status};
-use libc::{STDERR_FILENO, STDIN_FILENO, STDOUT_FILENO};
+use std::io::{Result, Write};
+use system::source::create;
+use system::{Output, Source};
 
 // One byte more than a source may have, so that a longer one is seen as longer.
 const SOURCE: usize = 65_001;
@@ -33,11 +35,11 @@ fn refused(f: Fields, text: &mut [u8]) -> usize
     put(text, n, b"\n")
 }
 
-fn accepted(f: Fields, text: &mut [u8]) -> usize
+fn accepted(length: u64, text: &mut [u8]) -> usize
     ensures { IsPrefixLen result text.new }
 {
     let mut n = put(text, 0, b"ok");
-    n = put_field(text, n, f.length);
+    n = put_field(text, n, length);
     put(text, n, b"\n")
 }
 
@@ -48,94 +50,106 @@ fn told(f: Fields, output: &[u8], text: &mut [u8]) -> usize
     if f.number != 0 {
         return refused(f, text);
     }
-    let n = accepted(f, text);
+    let n = accepted(f.length, text);
     put_hex_line(text, n, crate::image(f, output))
 }
 
-// The status of an answer.
-fn status_of(f: Fields) -> u8 {
-    if f.number != 0 {
+// The status of an answer, by its number.
+fn status_of(number: u64) -> u8 {
+    if number != 0 {
         return status::REFUSED;
     }
     status::GOOD
 }
 
 // Prints lines, after which all is as it was, if they can be printed.
-fn print(text: &[u8], status: u8) -> u8 {
-    if io::write_all(STDOUT_FILENO, text) {
-        return status;
-    }
-    os::fail(b"standard output");
-    status::FAILED
+fn print(rt: &HostRuntime, text: &[u8], status: u8) -> u8 {
+    let mut out = Output::new(rt);
+    out.write(text);
+    status::if_written(rt, out.fault(), status)
 }
 
 // Reads all of a file and prints the answer with the image in hex; of a file that cannot be read to its end nothing is told. The status is
 // handed back.
-pub fn readtree(fd: i32, name: &[u8], language: Language) -> u8 {
+pub fn readtree(rt: &HostRuntime, file: &mut Source, name: &[u8], language: Language) -> u8 {
     let mut source = [0u8; SOURCE];
-    let taken = take(fd, &mut source);
-    if !taken.whole {
-        os::fail(name);
+    let taken = take(file, &mut source);
+    if let Some(error) = taken.fault {
+        system::fail(rt, name, error);
         return status::FAILED;
     }
     let n = taken.length;
     let mut output = [0u8; OUTPUT];
     let f = crate::answer_in(language, &source[..n], &mut output);
+    let status = status_of(f.number);
     let mut text = [0u8; TEXT];
     let m = told(f, &output, &mut text);
-    print(&text[..m], status_of(f))
+    print(rt, &text[..m], status)
 }
 
-// Whether the bytes are the file's now.
-fn save(name: &[u8], bytes: &[u8]) -> bool {
-    let fd = os::open_overwrite(name);
-    if fd < 0 {
-        return false;
-    }
-    let written = io::write_all(fd, bytes);
-    let closed = libc::close(fd);
-    written && closed == 0
+// Makes the bytes the file's.
+fn save(rt: &HostRuntime, name: &[u8], bytes: &[u8]) -> Result<()> {
+    let mut file = create(rt, name)?;
+    file.write_all(bytes)
 }
 
-fn save_tree(language: Language, source: &[u8], output: &mut [u8], image: &[u8]) -> u8 {
+fn save_tree(
+    rt: &HostRuntime,
+    language: Language,
+    source: &[u8],
+    output: &mut [u8],
+    image: &[u8],
+) -> u8 {
     let f = crate::answer_in(language, source, output);
     let mut text = [0u8; LINE];
     if f.number != 0 {
         let n = refused(f, &mut text);
-        return print(&text[..n], status::REFUSED);
+        return print(rt, &text[..n], status::REFUSED);
     }
-    if !save(image, crate::image(f, output)) {
-        os::fail(image);
-        return status::FAILED;
+    let length = f.length;
+    if let Err(error) = save(rt, image, crate::image(f, output)) {
+        return status::failed(rt, image, error);
     }
-    let n = accepted(f, &mut text);
-    print(&text[..n], status::GOOD)
+    let n = accepted(length, &mut text);
+    print(rt, &text[..n], status::GOOD)
 }
 
 // The buffer comes as a reference to an array: a proof that lent it as a slice where it is made would count its bytes one by one.
-fn save_with(language: Language, source: &[u8], output: &mut [u8; LARGEST], image: &[u8]) -> u8 {
-    save_tree(language, source, output, image)
+fn save_with(
+    rt: &HostRuntime,
+    language: Language,
+    source: &[u8],
+    output: &mut [u8; LARGEST],
+    image: &[u8],
+) -> u8 {
+    save_tree(rt, language, source, output, image)
 }
 
 // The same with the image's bytes in a file of their own, which a refusal leaves as it was.
-fn readtree_into(fd: i32, name: &[u8], language: Language, image: &[u8]) -> u8 {
+fn readtree_into(
+    rt: &HostRuntime,
+    file: &mut Source,
+    name: &[u8],
+    language: Language,
+    image: &[u8],
+) -> u8 {
     let mut source = [0u8; SOURCE];
-    let taken = take(fd, &mut source);
-    if !taken.whole {
-        os::fail(name);
+    let taken = take(file, &mut source);
+    if let Some(error) = taken.fault {
+        system::fail(rt, name, error);
         return status::FAILED;
     }
     let n = taken.length;
     let mut output = [0u8; LARGEST];
-    save_with(language, &source[..n], &mut output, image)
+    save_with(rt, language, &source[..n], &mut output, image)
 }
 
 // The options that hold behind the last word.
-fn take_words(first: Options) -> Options {
+fn take_words(rt: &HostRuntime, first: Options) -> Options {
     let mut o = first;
-    for i in status::first_argument()..os::arg_count() {
-        let mut word = io::buffer();
-        let n = os::arg(i, &mut word);
+    for i in status::first_argument(rt)..system::arg_count(rt) {
+        let mut word = system::buffer();
+        let n = system::arg(rt, i, &mut word);
         o = o.with(i, &word[..n]);
         if o.fault != options::NOTHING {
             return o;
@@ -144,46 +158,49 @@ fn take_words(first: Options) -> Options {
     o.ended()
 }
 
-fn read(fd: i32, name: &[u8], o: Options) -> u8 {
+fn read(rt: &HostRuntime, file: &mut Source, name: &[u8], o: Options) -> u8 {
     if o.output == 0 {
-        return readtree(fd, name, o.language());
+        return readtree(rt, file, name, o.language());
     }
-    let mut word = io::buffer();
-    let n = os::arg(o.output, &mut word);
+    let mut word = system::buffer();
+    let n = system::arg(rt, o.output, &mut word);
     let from = o.output_from;
     if n < from {
         return status::FAILED;
     }
-    readtree_into(fd, name, o.language(), &word[from..n])
+    readtree_into(rt, file, name, o.language(), &word[from..n])
 }
 
-fn read_file(o: Options) -> u8 {
-    let mut word = io::buffer();
-    let n = os::arg(o.file, &mut word);
+fn read_file(rt: &HostRuntime, o: Options) -> u8 {
+    let mut word = system::buffer();
+    let n = system::arg(rt, o.file, &mut word);
     if o.file == 0 || options::is_standard_input(&word[..n]) {
-        return read(STDIN_FILENO, b"standard input", o);
+        let mut input = Source::standard_input(rt);
+        return read(rt, &mut input, b"standard input", o);
     }
-    let fd = os::open_read(&word[..n]);
-    if fd < 0 {
-        os::fail(&word[..n]);
-        return status::FAILED;
+    match Source::open(rt, &word[..n]) {
+        Ok(file) => {
+            let mut file = file;
+            read(rt, &mut file, &word[..n], o)
+        }
+        Err(error) => {
+            system::fail(rt, &word[..n], error);
+            status::FAILED
+        }
     }
-    let status = read(fd, &word[..n], o);
-    libc::close(fd);
-    status
 }
 
 // Reads the one file that the words name, or standard input, by the options that a program begins with.
-pub fn run(first: Options, program: &[u8]) -> u8 {
-    let o = take_words(first);
+pub fn run(rt: &HostRuntime, first: Options, program: &[u8]) -> u8 {
+    let o = take_words(rt, first);
     if o.fault != options::NOTHING {
-        o.complain(program);
+        o.complain(rt, program);
         return status::FAILED;
     }
     if o.more {
-        io::write_all(STDERR_FILENO, program);
-        io::write_all(STDERR_FILENO, b": one file is read at a time\n");
+        system::complain(rt, program);
+        system::complain(rt, b": one file is read at a time\n");
         return status::FAILED;
     }
-    read_file(o)
+    read_file(rt, o)
 }

@@ -1,8 +1,9 @@
+#![tactic(auto)]
 // Text taken apart: lines, fields with a space between, bytes in hex, as the lists of vectors/ have them; and a count of the lines that agree.
 ghost use Rattle.std.specs.Prelude.{◌≤◌, length};
 ghost use Rattle.io.specs.Counts.{IsPrefixLen};
 
-use libc::STDOUT_FILENO;
+use system::Output;
 
 // Where a run of bytes other than the stop byte ends.
 fn run_end(text: &[u8], from: usize, stop: u8) -> usize
@@ -98,7 +99,7 @@ pub fn unhex(hex: &[u8], out: &mut [u8]) -> usize
 }
 
 // How many lines there were and how many differ; the first that does, counted from 1, or 0.
-#[derive(Drop)]
+#[derive(Clone, Copy)]
 pub struct Tally {
     pub lines: u64,
     pub differences: u64,
@@ -129,17 +130,17 @@ impl Tally {
     }
 
     // `N what, N differences`, and where the first is.
-    pub fn report(self, what: &[u8]) {
-        io::print_decimal(STDOUT_FILENO, self.lines);
-        io::write_all(STDOUT_FILENO, b" ");
-        io::write_all(STDOUT_FILENO, what);
-        io::write_all(STDOUT_FILENO, b", ");
-        io::print_decimal(STDOUT_FILENO, self.differences);
-        io::write_all(STDOUT_FILENO, b" differences\n");
+    pub fn report(self, out: &mut Output, what: &[u8]) {
+        out.write_decimal(self.lines);
+        out.write(b" ");
+        out.write(what);
+        out.write(b", ");
+        out.write_decimal(self.differences);
+        out.write(b" differences\n");
         if self.first > 0 {
-            io::write_all(STDOUT_FILENO, b"first at line ");
-            io::print_decimal(STDOUT_FILENO, self.first);
-            io::write_all(STDOUT_FILENO, b"\n");
+            out.write(b"first at line ");
+            out.write_decimal(self.first);
+            out.write(b"\n");
         }
     }
 }

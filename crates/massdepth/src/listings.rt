@@ -1,11 +1,11 @@
 // The planner's list, as a person reads it: where mass is raised without depth, or depth without mass, or where that is undecided.
-use show::page::say;
+use show::page::{Page, say};
 use show::places::say_found;
 use show::refusals::say_line;
 use show::say::say_characters;
 
 // What is listed, by document 02's number.
-fn say_what(page: &mut [u8], kind: usize) {
+fn say_what(page: &mut Page, kind: usize) {
     match kind {
         1 => say(page, b": mass is raised here, depth is not.\n"),
         2 => say(page, b": depth is raised here, mass is not.\n"),
@@ -14,7 +14,7 @@ fn say_what(page: &mut [u8], kind: usize) {
 }
 
 // `NAME:LINE:COLUMN`.
-fn say_where(page: &mut [u8], name: &[u8], places: &[usize], at: usize) {
+fn say_where(page: &mut Page, name: &[u8], places: &[usize], at: usize) {
     say_characters(page, name);
     say(page, b":");
     say_found(page, places, at);
@@ -22,7 +22,7 @@ fn say_where(page: &mut [u8], name: &[u8], places: &[usize], at: usize) {
 
 // `NAME:LINE:COLUMN: WHAT`, and the line with carets under the field's name.
 pub fn tell(
-    page: &mut [u8],
+    page: &mut Page,
     name: &[u8],
     source: &[u8],
     places: &[usize],
@@ -36,7 +36,7 @@ pub fn tell(
 }
 
 // Of a file in which there is none.
-pub fn tell_none(page: &mut [u8], name: &[u8]) {
+pub fn tell_none(page: &mut Page, name: &[u8]) {
     say_characters(page, name);
     say(page, b": nothing to list\n");
 }

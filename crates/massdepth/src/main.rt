@@ -1,3 +1,4 @@
+#![tactic(auto)]
 // The planner's list of a file: each object that raises mass without depth, or depth without mass, or of which that is undecided, at the field that
 // does so. Arguments: files, and `-s SETTING` for those after it. Ends with 0 if nothing is listed, 1 if something is, 2 for a file that is refused
 // or cannot be read.
@@ -8,8 +9,10 @@ use crate::objects::{Name, computed_name, record_at};
 use desk::input::take;
 use desk::options::Options;
 use desk::{Fields, options, status};
-use libc::{STDERR_FILENO, STDIN_FILENO};
+use show::page::Page;
 use show::refusals::Refusal;
+use std::process::ExitCode;
+use system::Source;
 
 // One byte more than a source may have, so that a longer one is seen as longer.
 const SOURCE: usize = 65_001;
@@ -32,16 +35,16 @@ const NOTHING: u8 = status::GOOD;
 const LISTED: u8 = status::REFUSED;
 
 // The options that hold, and how the files so far have ended.
-#[derive(Drop)]
+#[derive(Clone, Copy)]
 struct Turn {
     options: Options,
     status: u8,
 }
 
-fn complain(name: &[u8], fault: &[u8]) -> u8 {
-    io::write_all(STDERR_FILENO, b"massdepth: ");
-    io::write_all(STDERR_FILENO, name);
-    io::write_all(STDERR_FILENO, fault);
+fn complain(rt: &HostRuntime, name: &[u8], fault: &[u8]) -> u8 {
+    system::complain(rt, b"massdepth: ");
+    system::complain(rt, name);
+    system::complain(rt, fault);
     status::FAILED
 }
 
@@ -61,7 +64,7 @@ fn shown_at(image: &[u8], links: &[usize], list: &[usize], i: usize, r: usize) -
 
 // The listings in their order, which is that of the records.
 fn tell_listings(
-    page: &mut [u8],
+    page: &mut Page,
     name: &[u8],
     source: &[u8],
     image: &[u8],
@@ -93,7 +96,8 @@ fn tell_listings(
 
 // `list` leaves the links zero, so that they are asked for again where there is something to show.
 fn list_image(
-    page: &mut [u8],
+    rt: &HostRuntime,
+    page: &mut Page,
     name: &[u8],
     source: &[u8],
     image: &[u8],
@@ -103,19 +107,19 @@ fn list_image(
 ) -> u8 {
     let answer = mass::list(image, links, list);
     let mass::Answer::Listed(count) = answer else {
-        return complain(name, b" has too many objects to list\n");
+        return complain(rt, name, b" has too many objects to list\n");
     };
     if count == 0 {
         listings::tell_none(page, name);
         return NOTHING;
     }
-    images::back(image, links);
+    let _ = images::back(image, links);
     show::places::find_places(source, places);
     tell_listings(page, name, source, image, places, links, list, count);
     LISTED
 }
 
-fn tell_refused(page: &mut [u8], name: &[u8], f: Fields, source: &[u8]) {
+fn tell_refused(page: &mut Page, name: &[u8], f: Fields, source: &[u8]) {
     let refusal = Refusal {
         number: f.number,
         start: f.start,
@@ -127,7 +131,8 @@ fn tell_refused(page: &mut [u8], name: &[u8], f: Fields, source: &[u8]) {
 }
 
 fn list_source(
-    page: &mut [u8],
+    rt: &HostRuntime,
+    page: &mut Page,
     name: &[u8],
     setting: u64,
     source: &[u8],
@@ -142,6 +147,7 @@ fn list_source(
         return status::FAILED;
     }
     list_image(
+        rt,
         page,
         name,
         source,
@@ -153,7 +159,8 @@ fn list_source(
 }
 
 fn list_from(
-    fd: i32,
+    rt: &HostRuntime,
+    file: &mut Source,
     name: &[u8],
     setting: u64,
     source: &mut [u8],
@@ -162,16 +169,15 @@ fn list_from(
     links: &mut [usize],
     list: &mut [usize],
 ) -> u8 {
-    let taken = take(fd, source);
-    if !taken.whole {
-        os::fail(name);
+    let taken = take(file, source);
+    if let Some(error) = taken.fault {
+        system::fail(rt, name, error);
         return status::FAILED;
     }
     let n = taken.length;
-    status::forget_errors();
-    let mut page = io::buffer();
-    show::page::begin(&mut page, false);
+    let mut page = show::page::begin(rt, false);
     let status = list_source(
+        rt,
         &mut page,
         name,
         setting,
@@ -182,10 +188,11 @@ fn list_from(
         list,
     );
     show::page::flush(&mut page);
-    status::if_written(status)
+    status::if_written(rt, show::page::fault(&page), status)
 }
 
 fn list_file(
+    rt: &HostRuntime,
     name: &[u8],
     setting: u64,
     source: &mut [u8],
@@ -195,8 +202,10 @@ fn list_file(
     list: &mut [usize],
 ) -> u8 {
     if options::is_standard_input(name) {
+        let mut input = Source::standard_input(rt);
         return list_from(
-            STDIN_FILENO,
+            rt,
+            &mut input,
             b"standard input",
             setting,
             source,
@@ -206,18 +215,23 @@ fn list_file(
             list,
         );
     }
-    let fd = os::open_read(name);
-    if fd < 0 {
-        os::fail(name);
-        return status::FAILED;
+    match Source::open(rt, name) {
+        Ok(file) => {
+            let mut file = file;
+            list_from(
+                rt, &mut file, name, setting, source, output, places, links, list,
+            )
+        }
+        Err(error) => {
+            system::fail(rt, name, error);
+            status::FAILED
+        }
     }
-    let status = list_from(fd, name, setting, source, output, places, links, list);
-    libc::close(fd);
-    status
 }
 
 // One argument: how all stands before it, and how after.
 fn take_argument(
+    rt: &HostRuntime,
     i: usize,
     turn: Turn,
     source: &mut [u8],
@@ -226,8 +240,8 @@ fn take_argument(
     links: &mut [usize],
     list: &mut [usize],
 ) -> Turn {
-    let mut word = io::buffer();
-    let n = os::arg(i, &mut word);
+    let mut word = system::buffer();
+    let n = system::arg(rt, i, &mut word);
     let before = turn.options;
     let options = before.with(i, &word[..n]);
     if options.file != i {
@@ -237,7 +251,7 @@ fn take_argument(
         };
     }
     let setting = options.setting;
-    let listed = list_file(&word[..n], setting, source, output, places, links, list);
+    let listed = list_file(rt, &word[..n], setting, source, output, places, links, list);
     Turn {
         options: options,
         status: status::worse(turn.status, listed),
@@ -246,6 +260,7 @@ fn take_argument(
 
 // Behind the last argument: standard input is listed where no file was named.
 fn end_arguments(
+    rt: &HostRuntime,
     turn: Turn,
     source: &mut [u8],
     output: &mut [u8],
@@ -256,30 +271,40 @@ fn end_arguments(
     let before = turn.options;
     let options = before.ended();
     if options.fault != options::NOTHING {
-        options.complain(b"massdepth");
+        options.complain(rt, b"massdepth");
         return status::FAILED;
     }
     if options.file != 0 {
         return turn.status;
     }
-    list_file(b"-", options.setting, source, output, places, links, list)
+    list_file(
+        rt,
+        b"-",
+        options.setting,
+        source,
+        output,
+        places,
+        links,
+        list,
+    )
 }
 
 fn take_arguments(
+    rt: &HostRuntime,
     source: &mut [u8],
     output: &mut [u8],
     places: &mut [usize],
     links: &mut [usize],
     list: &mut [usize],
 ) -> Turn {
-    let count = os::arg_count();
+    let count = system::arg_count(rt);
     let mut turn = Turn {
         options: Options::new(false),
         status: NOTHING,
     };
-    let mut i = status::first_argument();
+    let mut i = status::first_argument(rt);
     while i < count {
-        turn = take_argument(i, turn, source, output, places, links, list);
+        turn = take_argument(rt, i, turn, source, output, places, links, list);
         if turn.options.fault != options::NOTHING {
             return turn;
         }
@@ -290,22 +315,30 @@ fn take_arguments(
 
 // The buffers come as references to arrays: a proof that lent them as slices where they are made would count their elements one by one.
 fn run(
+    rt: &HostRuntime,
     source: &mut [u8; SOURCE],
     output: &mut [u8; OUTPUT],
     places: &mut [usize; PLACES],
     links: &mut [usize; LINKS],
     list: &mut [usize; LIST],
 ) -> u8 {
-    let turn = take_arguments(source, output, places, links, list);
-    end_arguments(turn, source, output, places, links, list)
+    let turn = take_arguments(rt, source, output, places, links, list);
+    end_arguments(rt, turn, source, output, places, links, list)
 }
 
-fn main() {
+fn main(rt: HostRuntime) -> ExitCode {
     let mut source = [0u8; SOURCE];
     let mut output = [0u8; OUTPUT];
     let mut places = [0usize; PLACES];
     let mut links = [0usize; LINKS];
     let mut list = [0usize; LIST];
-    let status = run(&mut source, &mut output, &mut places, &mut links, &mut list);
-    status::end(status);
+    let status = run(
+        &rt,
+        &mut source,
+        &mut output,
+        &mut places,
+        &mut links,
+        &mut list,
+    );
+    status::end(&rt, status)
 }

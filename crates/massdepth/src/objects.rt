@@ -3,7 +3,7 @@ use grammar::tags::Tag;
 use show::records::number;
 
 // Where a field's name stands in the source.
-#[derive(Drop)]
+#[derive(Clone, Copy)]
 pub struct Name {
     pub start: usize,
     pub end: usize,

@@ -1,8 +1,11 @@
+#![tactic(auto)]
 // Reads one file of JSON, or standard input, and prints what `readtree` prints: `ok` with the image's length and the image in hex, or `refused` with
 // number, start, end and detail. Arguments: `-o IMAGE`, a file.
 use desk::options::Options;
 use desk::status;
+use std::process::ExitCode;
 
-fn main() {
-    status::end(desk::tree::run(Options::for_json(), b"readjson"));
+fn main(rt: HostRuntime) -> ExitCode {
+    let status = desk::tree::run(&rt, Options::for_json(), b"readjson");
+    status::end(&rt, status)
 }

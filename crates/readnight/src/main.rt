@@ -1,9 +1,13 @@
+#![tactic(auto)]
 // Reads a night's files and tells of each in a line whether it was read, or why not and where; then how many were.
 // Arguments: a setting, and files.
 use desk::input::{Taken, take};
 use desk::status;
-use libc::{STDERR_FILENO, STDOUT_FILENO};
 use show::refusals::Refusal;
+use std::io::{Error, IsTerminal};
+use std::process::ExitCode;
+use std::time::Clock;
+use system::{Output, Source};
 
 // How many files are read in one call, at most.
 const FILES: usize = 64;
@@ -33,7 +37,7 @@ const ANSWERS: usize = 320;
 const LONG: u8 = 2;
 
 // The files of the call to come, and what became of those before.
-#[derive(Drop)]
+#[derive(Clone, Copy)]
 struct Night {
     setting: u64,
     files: usize,
@@ -41,7 +45,7 @@ struct Night {
     read: u64,
     refused: u64,
     failed: u64, // files that could not be read to their end
-    clock: i64, // the last second seen
+    clock: u64, // the last second seen
     seconds: u8, // how many were, as far as that matters
 }
 
@@ -49,17 +53,16 @@ fn one_more(n: u64) -> u64 {
     n % 0xFFFF_FFFF + 1
 }
 
-fn now() -> i64 {
-    let mut seconds = 0;
-    libc::time(&mut seconds)
-}
-
-fn say(text: &[u8]) -> bool {
-    io::write_all(STDOUT_FILENO, text)
+// The second that the clock is at; a clock that cannot be read stands still.
+fn now(rt: &HostRuntime) -> u64 {
+    match rt.since_1970() {
+        Ok(time) => time.as_secs(),
+        Err(_) => 0,
+    }
 }
 
 impl Night {
-    fn new(setting: u64) -> Self {
+    fn new(rt: &HostRuntime, setting: u64) -> Self {
         Self {
             setting: setting,
             files: 0,
@@ -67,7 +70,7 @@ impl Night {
             read: 0,
             refused: 0,
             failed: 0,
-            clock: now(),
+            clock: now(rt),
             seconds: 0,
         }
     }
@@ -108,8 +111,8 @@ impl Night {
     }
 
     // The clock is looked at.
-    fn with_time(mut self) -> Self {
-        let second = now();
+    fn with_time(mut self, rt: &HostRuntime) -> Self {
+        let second = now(rt);
         let seen = self.seconds;
         if second != self.clock {
             self.clock = second;
@@ -121,22 +124,23 @@ impl Night {
     }
 
     // Whether a person waits.
-    fn is_long(self) -> bool {
-        self.seconds >= LONG && libc::isatty(STDERR_FILENO) == 1
+    fn is_long(self, rt: &HostRuntime) -> bool {
+        self.seconds >= LONG && rt.stderr().is_terminal()
     }
 
-    // `N read, N refused`, and how many could not be read at all; whether that could be written.
-    fn report(self) -> bool {
-        io::print_decimal(STDOUT_FILENO, self.read);
-        say(b" read, ");
-        io::print_decimal(STDOUT_FILENO, self.refused);
-        say(b" refused");
+    // `N read, N refused`, and how many could not be read at all; why that could not be written, if it could not.
+    fn report(self, out: &mut Output) -> Option<Error> {
+        out.write_decimal(self.read);
+        out.write(b" read, ");
+        out.write_decimal(self.refused);
+        out.write(b" refused");
         if self.failed > 0 {
-            say(b", ");
-            io::print_decimal(STDOUT_FILENO, self.failed);
-            say(b" unreadable");
+            out.write(b", ");
+            out.write_decimal(self.failed);
+            out.write(b" unreadable");
         }
-        say(b"\n")
+        out.write(b"\n");
+        out.fault()
     }
 
     fn status(self) -> u8 {
@@ -151,36 +155,35 @@ impl Night {
 }
 
 // On a terminal, once it takes long: how far it has come.
-fn show_progress(n: Night, from: usize, i: usize, count: usize) {
+fn show_progress(rt: &HostRuntime, n: Night, from: usize, i: usize, count: usize) {
     if count <= i {
         return;
     }
     if i < from {
         return;
     }
-    if n.is_long() {
-        io::write_all(STDERR_FILENO, b"\rreadnight: argument ");
-        io::print_decimal(STDERR_FILENO, (i - from + 1) as u64);
-        io::write_all(STDERR_FILENO, b" of ");
-        io::print_decimal(STDERR_FILENO, (count - from) as u64);
+    if n.is_long(rt) {
+        system::complain(rt, b"\rreadnight: argument ");
+        system::complain_number(rt, (i - from + 1) as u64);
+        system::complain(rt, b" of ");
+        system::complain_number(rt, (count - from) as u64);
     }
 }
 
-fn hide_progress(n: Night) {
-    if n.is_long() {
-        io::write_all(STDERR_FILENO, b"\r\x1b[K");
+fn hide_progress(rt: &HostRuntime, n: Night) {
+    if n.is_long(rt) {
+        system::complain(rt, b"\r\x1b[K");
     }
 }
 
 // A file's line: which argument it is, its source and its answer.
-fn tell(n: Night, i: usize, source: &[u8], answer: &[u64]) -> Night {
-    let mut word = io::buffer();
-    let length = os::arg(i, &mut word);
+fn tell(rt: &HostRuntime, n: Night, i: usize, source: &[u8], answer: &[u64]) -> Night {
+    let mut word = system::buffer();
+    let length = system::arg(rt, i, &mut word);
     if answer.len() < 5 {
         return n;
     }
-    let mut page = io::buffer();
-    show::page::begin(&mut page, false);
+    let mut page = show::page::begin(rt, false);
     if answer[0] == 0 {
         show::refusals::tell_read(&mut page, &word[..length]);
         show::page::flush(&mut page);
@@ -200,6 +203,7 @@ fn tell(n: Night, i: usize, source: &[u8], answer: &[u64]) -> Night {
 
 // The lines of a call's files.
 fn tell_all(
+    rt: &HostRuntime,
     first: Night,
     sources: &[u8],
     ends: &[usize],
@@ -223,7 +227,13 @@ fn tell_all(
         if answers.len() / 5 <= i {
             return n;
         }
-        n = tell(n, names[i], &sources[from..end], &answers[i * 5..i * 5 + 5]);
+        n = tell(
+            rt,
+            n,
+            names[i],
+            &sources[from..end],
+            &answers[i * 5..i * 5 + 5],
+        );
         from = end;
         i += 1;
     }
@@ -232,6 +242,7 @@ fn tell_all(
 
 // The call. Its lists always fit: a part is so many times as long as its source.
 fn read_files(
+    rt: &HostRuntime,
     n: Night,
     sources: &[u8],
     lists: &[usize],
@@ -264,11 +275,12 @@ fn read_files(
         &lists[PARTS..PARTS + files],
         &mut answers[..files * 5],
     );
-    hide_progress(n);
+    hide_progress(rt, n);
     if number != night::READ {
         return n.with_failed();
     }
     tell_all(
+        rt,
         n,
         &sources[..used],
         ends,
@@ -278,23 +290,23 @@ fn read_files(
 }
 
 // One file more for the call to come; one that cannot be read to its end is told of and left out.
-fn add_file(n: Night, i: usize, sources: &mut [u8], lists: &mut [usize]) -> Night {
-    let mut word = io::buffer();
-    let length = os::arg(i, &mut word);
+fn add_file(
+    rt: &HostRuntime,
+    n: Night,
+    i: usize,
+    sources: &mut [u8],
+    lists: &mut [usize],
+) -> Night {
+    let mut word = system::buffer();
+    let length = system::arg(rt, i, &mut word);
     let files = n.files;
     let used = n.used;
-    let fd = os::open_read(&word[..length]);
-    if fd < 0 {
-        os::fail(&word[..length]);
-        return n.with_failed();
-    }
     if sources.len() < used {
         return n;
     }
-    let taken = take_source(fd, &mut sources[used..]);
-    libc::close(fd);
-    if !taken.whole {
-        os::fail(&word[..length]);
+    let taken = take_named(rt, &word[..length], &mut sources[used..]);
+    if let Some(error) = taken.fault {
+        system::fail(rt, &word[..length], error);
         return n.with_failed();
     }
     let end = used % SOURCES + taken.length % SOURCES;
@@ -311,14 +323,29 @@ fn add_file(n: Night, i: usize, sources: &mut [u8], lists: &mut [usize]) -> Nigh
 }
 
 // A source, and of a longer one enough to see that it is too long.
-fn take_source(fd: i32, rest: &mut [u8]) -> Taken {
+fn take_source(file: &mut Source, rest: &mut [u8]) -> Taken {
     if rest.len() < SOURCE {
-        return take(fd, rest);
+        return take(file, rest);
     }
-    take(fd, &mut rest[..SOURCE])
+    take(file, &mut rest[..SOURCE])
+}
+
+// That of a file by its name.
+fn take_named(rt: &HostRuntime, name: &[u8], rest: &mut [u8]) -> Taken {
+    match Source::open(rt, name) {
+        Ok(file) => {
+            let mut file = file;
+            take_source(&mut file, rest)
+        }
+        Err(error) => Taken {
+            length: 0,
+            fault: Some(error),
+        },
+    }
 }
 
 fn take_argument(
+    rt: &HostRuntime,
     n: Night,
     i: usize,
     sources: &mut [u8],
@@ -327,13 +354,14 @@ fn take_argument(
     answers: &mut [u64],
 ) -> Night {
     if n.is_full() {
-        let told = read_files(n, sources, lists, output, answers);
-        return add_file(told.emptied(), i, sources, lists);
+        let told = read_files(rt, n, sources, lists, output, answers);
+        return add_file(rt, told.emptied(), i, sources, lists);
     }
-    add_file(n, i, sources, lists)
+    add_file(rt, n, i, sources, lists)
 }
 
 fn take_arguments(
+    rt: &HostRuntime,
     first: Night,
     from: usize,
     sources: &mut [u8],
@@ -341,20 +369,21 @@ fn take_arguments(
     output: &mut [u8],
     answers: &mut [u64],
 ) -> Night {
-    let count = os::arg_count();
+    let count = system::arg_count(rt);
     let mut n = first;
     let mut i = from;
     while i < count {
-        n = take_argument(n, i, sources, lists, output, answers);
-        n = n.with_time();
-        show_progress(n, from, i, count);
+        n = take_argument(rt, n, i, sources, lists, output, answers);
+        n = n.with_time(rt);
+        show_progress(rt, n, from, i, count);
         i += 1;
     }
-    read_files(n, sources, lists, output, answers)
+    read_files(rt, n, sources, lists, output, answers)
 }
 
 // The buffers come as references to arrays: a proof that lent them as slices where they are made would count their elements one by one.
 fn read_all(
+    rt: &HostRuntime,
     setting: u64,
     from: usize,
     sources: &mut [u8; SOURCES],
@@ -362,39 +391,44 @@ fn read_all(
     output: &mut [u8; OUTPUT],
     answers: &mut [u64; ANSWERS],
 ) -> Night {
-    take_arguments(Night::new(setting), from, sources, lists, output, answers)
+    take_arguments(
+        rt,
+        Night::new(rt, setting),
+        from,
+        sources,
+        lists,
+        output,
+        answers,
+    )
 }
 
 // The setting is the first argument.
-fn setting_of(i: usize) -> u64 {
-    let mut word = io::buffer();
-    let n = os::arg(i, &mut word);
+fn setting_of(rt: &HostRuntime, i: usize) -> u64 {
+    let mut word = system::buffer();
+    let n = system::arg(rt, i, &mut word);
     lists::number(&word[..n], false) as u64
 }
 
-fn main() {
+fn main(rt: HostRuntime) -> ExitCode {
     let mut sources = [0u8; SOURCES];
     let mut lists = [0usize; LISTS];
     let mut output = [0u8; OUTPUT];
     let mut answers = [0u64; ANSWERS];
-    let first = status::first_argument();
-    if os::arg_count() <= first {
-        io::write_all(STDERR_FILENO, b"readnight: a setting is wanted\n");
-        status::end(status::FAILED);
-        return;
+    let first = status::first_argument(&rt);
+    if system::arg_count(&rt) <= first {
+        system::complain(&rt, b"readnight: a setting is wanted\n");
+        return status::end(&rt, status::FAILED);
     }
     let n = read_all(
-        setting_of(first),
+        &rt,
+        setting_of(&rt, first),
         first + 1,
         &mut sources,
         &mut lists,
         &mut output,
         &mut answers,
     );
-    if !n.report() {
-        os::fail(b"standard output");
-        status::end(status::FAILED);
-        return;
-    }
-    status::end(n.status());
+    let mut out = Output::new(&rt);
+    let fault = n.report(&mut out);
+    status::end(&rt, status::if_written(&rt, fault, n.status()))
 }

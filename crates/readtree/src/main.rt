@@ -1,8 +1,11 @@
+#![tactic(auto)]
 // Reads one file, or standard input, and prints `ok` with the image's length and the image in hex, or `refused` with number, start, end
 // and detail. Arguments: `-s SETTING`, `-o IMAGE`, a file.
 use desk::options::Options;
 use desk::status;
+use std::process::ExitCode;
 
-fn main() {
-    status::end(desk::tree::run(Options::new(true), b"readtree"));
+fn main(rt: HostRuntime) -> ExitCode {
+    let status = desk::tree::run(&rt, Options::new(true), b"readtree");
+    status::end(&rt, status)
 }

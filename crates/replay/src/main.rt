@@ -1,12 +1,20 @@
+#![tactic(auto)]
 // Answers the judge's questions, a line each of the files that the arguments name, or of standard input where there is none: to `SETTING OUTLEN HEXSOURCE` by a line
 // `NUMBER START END DETAIL LENGTH HEXIMAGE`, to `night SETTING ENDS OUTENDS OUTLEN ANSWERLEN HEXSOURCES` by a line `NUMBER ANSWERS HEXOUTPUT`, to
 // `back HEXIMAGE` by a line `NUMBER OFFSET RECORDS PARTS COALESCES`, to `mass LISTLEN HEXIMAGE` by a line `NUMBER OFFSET COUNT LIST`, to `json OUTLEN HEXTEXT` as to
 // a source, and by `bad` to a line that is none.
+use desk::input::part;
 use desk::questions::Question;
 use desk::{questions, status};
-use libc::{STDIN_FILENO, STDOUT_FILENO};
+use std::io::Error;
+use std::process::ExitCode;
+use system::{Output, Source};
+
+// How many bytes are read at a time.
+const BYTES: usize = 65_536;
 
 fn reply(
+    out: &mut Output,
     q: Question,
     source: &[u8],
     lists: &mut [usize],
@@ -16,11 +24,12 @@ fn reply(
     text: &mut [u8],
 ) {
     let n = questions::answer(q, source, lists, output, answers, links, text);
-    io::write_all(STDOUT_FILENO, &text[..n]);
+    out.write(&text[..n]);
 }
 
 // Answers each question that ends in these bytes; the one that has not ended is handed back.
 fn reply_all(
+    out: &mut Output,
     first: Question,
     bytes: &[u8],
     source: &mut [u8],
@@ -36,7 +45,7 @@ fn reply_all(
         let b = bytes[i];
         i += 1;
         if b == b'\n' {
-            reply(q, source, lists, output, answers, links, text);
+            reply(out, q, source, lists, output, answers, links, text);
             q = Question::new();
         } else {
             q = q.with(b, source, lists);
@@ -45,15 +54,17 @@ fn reply_all(
     q
 }
 
-// Where a turn has come to, and whether there may be more to read.
-#[derive(Drop)]
+// Where a turn has come to, whether there may be more to read, and why a read failed.
+#[derive(Clone, Copy)]
 struct Turn {
     question: Question,
     more: bool,
+    fault: Option<Error>,
 }
 
 fn take_turn(
-    fd: i32,
+    file: &mut Source,
+    out: &mut Output,
     q: Question,
     source: &mut [u8],
     lists: &mut [usize],
@@ -62,49 +73,90 @@ fn take_turn(
     links: &mut [usize],
     text: &mut [u8],
 ) -> Turn {
-    let mut bytes = io::large_buffer();
-    let got = libc::read(fd, &mut bytes);
-    if got <= 0 {
+    let mut bytes = [0u8; BYTES];
+    let got = part(file, &mut bytes);
+    let n = got.length;
+    if n == 0 {
         // a last line may lack its end
         if q.is_begun() {
-            reply(q, source, lists, output, answers, links, text);
+            reply(out, q, source, lists, output, answers, links, text);
         }
         return Turn {
             question: q,
             more: false,
+            fault: got.fault,
         };
     }
-    let n = io::count(got, &bytes);
-    let next = reply_all(q, &bytes[..n], source, lists, output, answers, links, text);
+    let next = reply_all(
+        out,
+        q,
+        &bytes[..n],
+        source,
+        lists,
+        output,
+        answers,
+        links,
+        text,
+    );
     Turn {
         question: next,
         more: true,
+        fault: None,
     }
 }
 
-// A proved loop has to end, so it counts its turns down, from a number that no run uses up.
+// A proved loop has to end, so it counts its turns down, from a number that no run uses up. Why a read failed is handed back.
 fn serve(
-    fd: i32,
+    file: &mut Source,
+    out: &mut Output,
     source: &mut [u8],
     lists: &mut [usize],
     output: &mut [u8],
     answers: &mut [u64],
     links: &mut [usize],
     text: &mut [u8],
-) {
+) -> Option<Error> {
     let mut q = Question::new();
     let mut turns = u64::MAX;
     while turns > 0 {
-        let t = take_turn(fd, q, source, lists, output, answers, links, text);
+        let t = take_turn(file, out, q, source, lists, output, answers, links, text);
         if !t.more {
-            return;
+            return t.fault;
         }
         q = t.question;
         turns -= 1;
     }
+    None
+}
+
+// Answers all questions of a file. Its status tells whether all could be read, and all answers written.
+fn serve_whole(
+    rt: &HostRuntime,
+    out: &mut Output,
+    file: &mut Source,
+    name: &[u8],
+    source: &mut [u8],
+    lists: &mut [usize],
+    output: &mut [u8],
+    answers: &mut [u64],
+    links: &mut [usize],
+    text: &mut [u8],
+) -> u8 {
+    status::forget_errors(out);
+    let unread = serve(file, out, source, lists, output, answers, links, text);
+    let status = status::if_written(rt, out.fault(), status::GOOD);
+    match unread {
+        None => status,
+        Some(error) => {
+            system::fail(rt, name, error);
+            status::FAILED
+        }
+    }
 }
 
 fn serve_file(
+    rt: &HostRuntime,
+    out: &mut Output,
     i: usize,
     source: &mut [u8],
     lists: &mut [usize],
@@ -113,21 +165,34 @@ fn serve_file(
     links: &mut [usize],
     text: &mut [u8],
 ) -> u8 {
-    let mut word = io::buffer();
-    let n = os::arg(i, &mut word);
-    let fd = os::open_read(&word[..n]);
-    if fd < 0 {
-        os::fail(&word[..n]);
-        return status::FAILED;
+    let mut word = system::buffer();
+    let n = system::arg(rt, i, &mut word);
+    match Source::open(rt, &word[..n]) {
+        Ok(file) => {
+            let mut file = file;
+            serve_whole(
+                rt,
+                out,
+                &mut file,
+                &word[..n],
+                source,
+                lists,
+                output,
+                answers,
+                links,
+                text,
+            )
+        }
+        Err(error) => {
+            system::fail(rt, &word[..n], error);
+            status::FAILED
+        }
     }
-    status::forget_errors();
-    serve(fd, source, lists, output, answers, links, text);
-    let status = status::if_written(status::GOOD);
-    libc::close(fd);
-    status
 }
 
 fn serve_files(
+    rt: &HostRuntime,
+    out: &mut Output,
     first: usize,
     source: &mut [u8],
     lists: &mut [usize],
@@ -136,11 +201,11 @@ fn serve_files(
     links: &mut [usize],
     text: &mut [u8],
 ) -> u8 {
-    let count = os::arg_count();
+    let count = system::arg_count(rt);
     let mut worst = status::GOOD;
     let mut i = first;
     while i < count {
-        let status = serve_file(i, source, lists, output, answers, links, text);
+        let status = serve_file(rt, out, i, source, lists, output, answers, links, text);
         worst = status::worse(worst, status);
         i += 1;
     }
@@ -149,6 +214,7 @@ fn serve_files(
 
 // The buffers come as references to arrays: a proof that lent them as slices where they are made would count their bytes one by one.
 fn serve_with(
+    rt: &HostRuntime,
     source: &mut [u8; questions::SOURCE],
     lists: &mut [usize; questions::LISTS],
     output: &mut [u8; questions::OUTPUT],
@@ -156,16 +222,29 @@ fn serve_with(
     links: &mut [usize; questions::LINKS],
     text: &mut [u8; questions::TEXT],
 ) -> u8 {
-    let first = status::first_argument();
-    if first < os::arg_count() {
-        return serve_files(first, source, lists, output, answers, links, text);
+    let mut out = Output::new(rt);
+    let first = status::first_argument(rt);
+    if first < system::arg_count(rt) {
+        return serve_files(
+            rt, &mut out, first, source, lists, output, answers, links, text,
+        );
     }
-    status::forget_errors();
-    serve(STDIN_FILENO, source, lists, output, answers, links, text);
-    status::if_written(status::GOOD)
+    let mut input = Source::standard_input(rt);
+    serve_whole(
+        rt,
+        &mut out,
+        &mut input,
+        b"standard input",
+        source,
+        lists,
+        output,
+        answers,
+        links,
+        text,
+    )
 }
 
-fn main() {
+fn main(rt: HostRuntime) -> ExitCode {
     let mut source = [0u8; questions::SOURCE];
     let mut lists = [0usize; questions::LISTS];
     let mut output = [0u8; questions::OUTPUT];
@@ -173,6 +252,7 @@ fn main() {
     let mut links = [0usize; questions::LINKS];
     let mut text = [0u8; questions::TEXT];
     let status = serve_with(
+        &rt,
         &mut source,
         &mut lists,
         &mut output,
@@ -180,5 +260,5 @@ fn main() {
         &mut links,
         &mut text,
     );
-    status::end(status);
+    status::end(&rt, status)
 }

@@ -1,13 +1,15 @@
+#![tactic(auto)]
 // Replays vectors/blocks.txt, what the judge says of texts that start with `|||`: lines `HEX KIND END HEXTEXT`, the text, the kind and
 // the end of its lexeme, and what a good block decodes to.
 use blocks::Block;
 use lists::Tally;
 use strings::Decoded;
+use system::{Output, Source};
 
 // Room for the longest text of the list, in bytes.
 const ROOM: usize = 256;
 
-fn kind_of(block: Block) -> u32 {
+fn kind_of(block: &Block) -> u32 {
     match block {
         Block::Good(_) => 50,
         Block::UnexpectedEnd(_) => 51,
@@ -17,13 +19,13 @@ fn kind_of(block: Block) -> u32 {
     }
 }
 
-fn end_of(block: Block) -> usize {
+fn end_of(block: &Block) -> usize {
     match block {
-        Block::Good(end) => end,
-        Block::UnexpectedEnd(end) => end,
-        Block::MissingNewLine(end) => end,
-        Block::MissingTermination(end) => end,
-        Block::MissingIndent(end) => end,
+        Block::Good(end) => *end,
+        Block::UnexpectedEnd(end) => *end,
+        Block::MissingNewLine(end) => *end,
+        Block::MissingTermination(end) => *end,
+        Block::MissingIndent(end) => *end,
     }
 }
 
@@ -51,10 +53,10 @@ fn line_agrees(line: &[u8]) -> bool {
     let source = &bytes[..n];
     let kind = lists::number(lists::field(line, 1), false);
     let block = blocks::block_at(source, 3);
-    if kind_of(block) != kind {
+    if kind_of(&block) != kind {
         return false;
     }
-    if end_of(block) != lists::number(lists::field(line, 2), false) as usize {
+    if end_of(&block) != lists::number(lists::field(line, 2), false) as usize {
         return false;
     }
     text_agrees(source, kind, lists::field(line, 3))
@@ -71,8 +73,9 @@ fn replay(text: &[u8]) -> Tally {
     tally
 }
 
-fn main() {
+fn main(rt: HostRuntime) {
     let mut text = [0u8; 262_144];
-    let n = io::read_full(0, &mut text);
-    replay(&text[..n]).report(b"blocks");
+    let n = Source::standard_input(&rt).read_full(&mut text);
+    let tally = replay(&text[..n]);
+    tally.report(&mut Output::new(&rt), b"blocks");
 }

@@ -1,13 +1,18 @@
+#![tactic(auto)]
 // Replays vectors/lexemes.txt, what the judge says of sources: lines `HEX KIND:START:END ...`, all lexemes of the source, blanks and
 // comments among them, or `-` where there are none.
 use lexemes::Lexeme;
 use lists::Tally;
+use system::{Output, Source};
 
 // Room for the longest source of the list, in bytes.
 const ROOM: usize = 8192;
 
+// Room for the whole list.
+const TEXT: usize = 524_288;
+
 // A number of a word, and the place after the byte behind it.
-#[derive(Drop)]
+#[derive(Clone, Copy)]
 struct Number {
     value: usize,
     next: usize,
@@ -27,7 +32,7 @@ fn number_at(word: &[u8], from: usize) -> Number {
     Number { value, next: i }
 }
 
-fn lexeme_agrees(word: &[u8], l: Lexeme) -> bool {
+fn lexeme_agrees(word: &[u8], l: &Lexeme) -> bool {
     let kind = number_at(word, 0);
     if kind.value != l.kind as usize {
         return false;
@@ -49,7 +54,7 @@ fn source_agrees(source: &[u8], line: &[u8]) -> bool {
     let mut n = 1;
     while at < source.len() {
         let l = lexemes::lexer::lexeme_at(source, at);
-        if !lexeme_agrees(lists::field(line, n), l) {
+        if !lexeme_agrees(lists::field(line, n), &l) {
             return false;
         }
         at = l.end;
@@ -75,8 +80,14 @@ fn replay(text: &[u8]) -> Tally {
     tally
 }
 
-fn main() {
-    let mut text = [0u8; 524_288];
-    let n = io::read_full(0, &mut text);
-    replay(&text[..n]).report(b"sources");
+// The buffer comes as a reference to an array: a proof that lent it as a slice where it is made would count its bytes one by one.
+fn run(rt: &HostRuntime, text: &mut [u8; TEXT]) {
+    let n = Source::standard_input(rt).read_full(text);
+    let tally = replay(&text[..n]);
+    tally.report(&mut Output::new(rt), b"sources");
+}
+
+fn main(rt: HostRuntime) {
+    let mut text = [0u8; TEXT];
+    run(&rt, &mut text);
 }

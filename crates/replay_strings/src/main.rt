@@ -1,8 +1,10 @@
+#![tactic(auto)]
 // Replays vectors/strings.txt, what the judge says of strings: lines `MODE INPUT ANSWER`. Modes: q the inside of a quoted literal,
 // d and s of a verbatim one, c a code point; each answered by the bytes meant or `refused`, for q with where the first bad escape begins;
 // u, how many bytes are UTF-8.
 use lists::Tally;
 use strings::Decoded;
+use system::{Output, Source};
 
 // Room for the longest input of the list, in bytes.
 const ROOM: usize = 256;
@@ -80,8 +82,9 @@ fn replay(text: &[u8]) -> Tally {
     tally
 }
 
-fn main() {
+fn main(rt: HostRuntime) {
     let mut text = [0u8; 262_144];
-    let n = io::read_full(0, &mut text);
-    replay(&text[..n]).report(b"strings");
+    let n = Source::standard_input(&rt).read_full(&mut text);
+    let tally = replay(&text[..n]);
+    tally.report(&mut Output::new(&rt), b"strings");
 }

@@ -1,16 +1,19 @@
+#![tactic(auto)]
 // Says of two files whether their kept lexemes agree in kind and text, so that they differ in white space and comments only; and if they do not,
 // where they part. Arguments: two files. Ends as `cmp` does: 0 the same, 1 not the same, 2 not compared.
 use desk::input::take;
 use desk::{options, status};
 use lexemes::Lexeme;
-use libc::{STDERR_FILENO, STDIN_FILENO, STDOUT_FILENO};
 use same::Parting;
+use std::io::Error;
+use std::process::ExitCode;
+use system::Output;
 
 // One byte more than a source may have, so that a longer one is seen as longer.
 const SOURCE: usize = 65_001;
 
 // How many bytes of a file were taken, and whether they can be compared: what stands against it has been said.
-#[derive(Drop)]
+#[derive(Clone, Copy)]
 struct Source {
     length: usize,
     good: bool,
@@ -23,21 +26,21 @@ fn bad() -> Source {
     }
 }
 
-fn complain(name: &[u8], fault: &[u8]) -> Source {
-    io::write_all(STDERR_FILENO, b"sametree: ");
-    io::write_all(STDERR_FILENO, name);
-    io::write_all(STDERR_FILENO, fault);
+fn complain(rt: &HostRuntime, name: &[u8], fault: &[u8]) -> Source {
+    system::complain(rt, b"sametree: ");
+    system::complain(rt, name);
+    system::complain(rt, fault);
     bad()
 }
 
 // What is promised of the same lexemes is promised of sources within the limits.
-fn judge(name: &[u8], source: &[u8]) -> Source {
+fn judge(rt: &HostRuntime, name: &[u8], source: &[u8]) -> Source {
     let n = source.len();
     if n >= SOURCE {
-        return complain(name, b" is longer than 65,000 bytes\n");
+        return complain(rt, name, b" is longer than 65,000 bytes\n");
     }
     if strings::utf8::valid_to(source) < n {
-        return complain(name, b" is not UTF-8\n");
+        return complain(rt, name, b" is not UTF-8\n");
     }
     Source {
         length: n,
@@ -45,117 +48,153 @@ fn judge(name: &[u8], source: &[u8]) -> Source {
     }
 }
 
-fn take_from(fd: i32, name: &[u8], source: &mut [u8]) -> Source {
-    let taken = take(fd, source);
-    if !taken.whole {
-        os::fail(name);
+fn take_from(
+    rt: &HostRuntime,
+    file: &mut system::Source,
+    name: &[u8],
+    source: &mut [u8],
+) -> Source {
+    let taken = take(file, source);
+    if let Some(error) = taken.fault {
+        system::fail(rt, name, error);
         return bad();
     }
     let n = taken.length;
-    judge(name, &source[..n])
+    judge(rt, name, &source[..n])
 }
 
-fn take_file(name: &[u8], source: &mut [u8]) -> Source {
+fn take_file(rt: &HostRuntime, name: &[u8], source: &mut [u8]) -> Source {
     if options::is_standard_input(name) {
-        return take_from(STDIN_FILENO, b"standard input", source);
+        let mut input = system::Source::standard_input(rt);
+        return take_from(rt, &mut input, b"standard input", source);
     }
-    let fd = os::open_read(name);
-    if fd < 0 {
-        os::fail(name);
-        return bad();
+    match system::Source::open(rt, name) {
+        Ok(file) => {
+            let mut file = file;
+            take_from(rt, &mut file, name, source)
+        }
+        Err(error) => {
+            system::fail(rt, name, error);
+            bad()
+        }
     }
-    let taken = take_from(fd, name, source);
-    libc::close(fd);
-    taken
+}
+
+// What a comparison ends with, and why it could not be written.
+#[derive(Clone, Copy)]
+struct Found {
+    status: u8,
+    fault: Option<Error>,
 }
 
 // Where the files part, by both names.
-fn tell(a: &[u8], left: &[u8], l: Lexeme, b: &[u8], right: &[u8], m: Lexeme) -> u8 {
-    let mut page = io::buffer();
-    show::page::begin(&mut page, false);
+fn tell(
+    rt: &HostRuntime,
+    a: &[u8],
+    left: &[u8],
+    l: Lexeme,
+    b: &[u8],
+    right: &[u8],
+    m: Lexeme,
+) -> Found {
+    let mut page = show::page::begin(rt, false);
     show::differences::tell_first(&mut page, a, left, l.start, l.end);
     show::differences::tell_second(&mut page, b, right, m.start, m.end);
     show::page::flush(&mut page);
-    1
+    Found {
+        status: 1,
+        fault: show::page::fault(&page),
+    }
 }
 
-fn compare(a: &[u8], left: &[u8], b: &[u8], right: &[u8]) -> u8 {
+fn tell_same(rt: &HostRuntime) -> Found {
+    let mut out = Output::new(rt);
+    out.write(b"same\n");
+    Found {
+        status: 0,
+        fault: out.fault(),
+    }
+}
+
+fn compare(rt: &HostRuntime, a: &[u8], left: &[u8], b: &[u8], right: &[u8]) -> Found {
     let parting = same::first_difference(left, right);
     match parting {
-        Parting::Same => {
-            io::write_all(STDOUT_FILENO, b"same\n");
-            0
-        }
-        Parting::Apart(l, m) => tell(a, left, l, b, right, m),
+        Parting::Same => tell_same(rt),
+        Parting::Apart(l, m) => tell(rt, a, left, l, b, right, m),
     }
 }
 
 // What was taken into each buffer.
-fn compare_taken(a: &[u8], left: &[u8], n: usize, b: &[u8], right: &[u8], m: usize) -> u8 {
+fn compare_taken(
+    rt: &HostRuntime,
+    a: &[u8],
+    left: &[u8],
+    n: usize,
+    b: &[u8],
+    right: &[u8],
+    m: usize,
+) -> u8 {
     if left.len() < n {
         return status::FAILED;
     }
     if right.len() < m {
         return status::FAILED;
     }
-    compare(a, &left[..n], b, &right[..m])
+    let found = compare(rt, a, &left[..n], b, &right[..m]);
+    status::if_written(rt, found.fault, found.status)
 }
 
-fn compare_files(a: &[u8], left: &mut [u8], b: &[u8], right: &mut [u8]) -> u8 {
-    let x = take_file(a, left);
-    let y = take_file(b, right);
+fn compare_files(rt: &HostRuntime, a: &[u8], left: &mut [u8], b: &[u8], right: &mut [u8]) -> u8 {
+    let x = take_file(rt, a, left);
+    let y = take_file(rt, b, right);
     if !x.good {
         return status::FAILED;
     }
     if !y.good {
         return status::FAILED;
     }
-    status::forget_errors();
-    let found = compare_taken(a, left, x.length, b, right, y.length);
-    status::if_written(found)
+    compare_taken(rt, a, left, x.length, b, right, y.length)
 }
 
 // Whether the arguments are two files, with nothing before them but perhaps `--`.
-fn are_two_files() -> bool {
-    let first = status::first_argument();
-    let count = os::arg_count();
+fn are_two_files(rt: &HostRuntime) -> bool {
+    let first = status::first_argument(rt);
+    let count = system::arg_count(rt);
     if count < first {
         return false;
     }
-    let mut word = io::buffer();
-    let n = os::arg(first, &mut word);
+    let mut word = system::buffer();
+    let n = system::arg(rt, first, &mut word);
     if check::same(&word[..n], b"--") {
         return count - first == 3;
     }
     count - first == 2
 }
 
-fn needs_two_files() -> u8 {
-    io::write_all(
-        STDERR_FILENO,
-        b"sametree: two files are compared; -h tells how\n",
-    );
+fn needs_two_files(rt: &HostRuntime) -> u8 {
+    system::complain(rt, b"sametree: two files are compared; -h tells how\n");
     status::FAILED
 }
 
 // The buffers come as references to arrays: a proof that lent them as slices where they are made would count their bytes one by one.
-fn run(left: &mut [u8; SOURCE], right: &mut [u8; SOURCE]) -> u8 {
-    let count = os::arg_count();
-    if !are_two_files() {
-        return needs_two_files();
+fn run(rt: &HostRuntime, left: &mut [u8; SOURCE], right: &mut [u8; SOURCE]) -> u8 {
+    let count = system::arg_count(rt);
+    if !are_two_files(rt) {
+        return needs_two_files(rt);
     }
     if count < 2 {
-        return needs_two_files();
+        return needs_two_files(rt);
     }
-    let mut a = io::buffer();
-    let n = os::arg(count - 2, &mut a);
-    let mut b = io::buffer();
-    let m = os::arg(count - 1, &mut b);
-    compare_files(&a[..n], left, &b[..m], right)
+    let mut a = system::buffer();
+    let n = system::arg(rt, count - 2, &mut a);
+    let mut b = system::buffer();
+    let m = system::arg(rt, count - 1, &mut b);
+    compare_files(rt, &a[..n], left, &b[..m], right)
 }
 
-fn main() {
+fn main(rt: HostRuntime) -> ExitCode {
     let mut left = [0u8; SOURCE];
     let mut right = [0u8; SOURCE];
-    status::end(run(&mut left, &mut right));
+    let status = run(&rt, &mut left, &mut right);
+    status::end(&rt, status)
 }

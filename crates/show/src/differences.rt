@@ -1,11 +1,11 @@
 // Two sources that part, as a person reads it: what stands in each at the place, and its line.
-use crate::page::say;
+use crate::page::{Page, say};
 use crate::places::say_place;
 use crate::refusals::say_line;
 use crate::say::say_characters;
 use crate::texts::say_text;
 
-fn say_here(page: &mut [u8], source: &[u8], start: usize, end: usize) {
+fn say_here(page: &mut Page, source: &[u8], start: usize, end: usize) {
     if end <= start {
         say(page, b"nothing more");
         return;
@@ -15,7 +15,7 @@ fn say_here(page: &mut [u8], source: &[u8], start: usize, end: usize) {
     }
 }
 
-fn say_name(page: &mut [u8], name: &[u8], source: &[u8], start: usize) {
+fn say_name(page: &mut Page, name: &[u8], source: &[u8], start: usize) {
     say_characters(page, name);
     say(page, b":");
     say_place(page, source, start);
@@ -24,7 +24,7 @@ fn say_name(page: &mut [u8], name: &[u8], source: &[u8], start: usize) {
 
 // A place of a source under its name, what stands there between words, and its line with carets.
 fn point(
-    page: &mut [u8],
+    page: &mut Page,
     name: &[u8],
     source: &[u8],
     start: usize,
@@ -40,11 +40,11 @@ fn point(
 }
 
 // Where one of the two parts from the other.
-pub fn tell_first(page: &mut [u8], name: &[u8], source: &[u8], start: usize, end: usize) {
+pub fn tell_first(page: &mut Page, name: &[u8], source: &[u8], start: usize, end: usize) {
     point(page, name, source, start, end, b"", b" stands here,\n");
 }
 
 // Where the other one does.
-pub fn tell_second(page: &mut [u8], name: &[u8], source: &[u8], start: usize, end: usize) {
+pub fn tell_second(page: &mut Page, name: &[u8], source: &[u8], start: usize, end: usize) {
     point(page, name, source, start, end, b"and ", b" here.\n");
 }

@@ -1,5 +1,5 @@
 // A bad escape of a string, told from its backslash on: what is wrong with it, and what stands there.
-use crate::page::say;
+use crate::page::{Page, say};
 use crate::say::character_end;
 use crate::texts::say_text;
 
@@ -35,7 +35,7 @@ fn digits_end(escape: &[u8]) -> usize {
 }
 
 // Four digits are bad where they spell a half: from D800 to DBFF it is the high one.
-fn say_half(page: &mut [u8], escape: &[u8]) {
+fn say_half(page: &mut Page, escape: &[u8]) {
     match byte_at(escape, 3) {
         b'C'..=b'F' => say(page, b"the low half of a surrogate pair stands alone"),
         b'c'..=b'f' => say(page, b"the low half of a surrogate pair stands alone"),
@@ -46,7 +46,7 @@ fn say_half(page: &mut [u8], escape: &[u8]) {
     }
 }
 
-fn say_wrong(page: &mut [u8], escape: &[u8], digits: usize) {
+fn say_wrong(page: &mut Page, escape: &[u8], digits: usize) {
     match byte_at(escape, 1) {
         b'x' => say(page, b"an escape \\x has fewer than two hex digits"),
         b'u' => {
@@ -74,7 +74,7 @@ fn shown_end(escape: &[u8], digits: usize) -> usize {
     }
 }
 
-pub fn say_escape(page: &mut [u8], escape: &[u8]) {
+pub fn say_escape(page: &mut Page, escape: &[u8]) {
     let digits = digits_end(escape);
     say_wrong(page, escape, digits);
     let end = shown_end(escape, digits);

@@ -1,3 +1,4 @@
+#![tactic(auto)]
 // What a person reads: a refusal as a sentence with its place, and what trees are shown with.
 mod bad_blocks; // text blocks with a line at fault
 pub mod differences; // two sources that part

@@ -1,50 +1,42 @@
-// What is written goes to a page that the caller lends, and from it to standard output when it is full. The page's first two bytes tell where
-// the next one goes, the third whether there are colours.
+// What is written goes to a page, and from it to standard output when it is full.
 ghost use Rattle.std.specs.Prelude.{◌+◌, ◌≤◌, length};
 
-use crate::records::{byte, number, wide};
-use libc::STDOUT_FILENO;
+use std::io::Error;
+use system::Output;
 
-// Where its text begins.
-const TOP: usize = 3;
+// How many bytes a page has room for.
+const SIZE: usize = 4096;
 
-fn set_next(page: &mut [u8], at: usize) {
-    if page.len() < TOP {
-        return;
-    }
-    page[0] = (at / 256 % 256) as u8;
-    page[1] = (at % 256) as u8;
+#[derive(Drop)]
+pub struct Page {
+    out: Output,
+    colours: bool, // whether there are any
+    next: usize, // where the next text goes
+    text: [u8; SIZE],
 }
 
 // An empty page, with colours or without.
-pub fn begin(page: &mut [u8], colours: bool) {
-    set_next(page, TOP);
-    if page.len() < TOP {
-        return;
+pub fn begin(rt: &HostRuntime, colours: bool) -> Page {
+    Page {
+        out: Output::new(rt),
+        colours,
+        next: 0,
+        text: [0; SIZE],
     }
-    if colours {
-        page[2] = 1;
-        return;
-    }
-    page[2] = 0;
+}
+
+// Why the last write failed that did, of all since the page began.
+pub fn fault(page: &Page) -> Option<Error> {
+    page.out.fault()
 }
 
 // All that is written so far goes out, and the page is empty.
-pub fn flush(page: &mut [u8]) {
-    let next = number(page, 0);
-    if TOP < next {
-        write(page, next);
+pub fn flush(page: &mut Page) {
+    let next = page.next;
+    if next <= page.text.len() {
+        page.out.write(&page.text[..next]);
     }
-    set_next(page, TOP);
-}
-
-fn write(page: &[u8], next: usize) {
-    if next < TOP {
-        return;
-    }
-    if next <= page.len() {
-        io::write_all(STDOUT_FILENO, &page[TOP..next]);
-    }
+    page.next = 0;
 }
 
 fn copy(page: &mut [u8], at: usize, text: &[u8])
@@ -58,48 +50,34 @@ fn copy(page: &mut [u8], at: usize, text: &[u8])
 }
 
 // A text for which the page has no room behind what is written: it goes onto the empty page, or out by itself where it is longer than that.
-fn turn(page: &mut [u8], text: &[u8]) {
+fn turn(page: &mut Page, text: &[u8]) {
     flush(page);
-    if page.len() < TOP {
+    if page.text.len() < text.len() {
+        page.out.write(text);
         return;
     }
-    if page.len() - TOP < text.len() {
-        io::write_all(STDOUT_FILENO, text);
-        return;
-    }
-    copy(page, TOP, text);
-    set_next(page, TOP + text.len());
+    copy(&mut page.text, 0, text);
+    page.next = text.len();
 }
 
 // A text behind what is written.
-pub fn say(page: &mut [u8], text: &[u8]) {
-    if page.len() < TOP {
+pub fn say(page: &mut Page, text: &[u8]) {
+    let next = page.next;
+    let size = page.text.len();
+    if size < next {
         return;
     }
-    let next = wide(page[0]) * 256 + wide(page[1]);
-    if page.len() < next {
-        return;
-    }
-    if page.len() - next < text.len() {
+    if size - next < text.len() {
         turn(page, text);
         return;
     }
-    copy(page, next, text);
-    set_next(page, next + text.len());
+    copy(&mut page.text, next, text);
+    page.next = next + text.len();
 }
 
 // A text of one byte.
-pub fn say_byte(page: &mut [u8], b: u8) {
-    if page.len() < TOP {
-        return;
-    }
-    let next = wide(page[0]) * 256 + wide(page[1]);
-    if page.len() <= next {
-        turn(page, &[b]);
-        return;
-    }
-    copy(page, next, &[b]);
-    set_next(page, next + 1);
+pub fn say_byte(page: &mut Page, b: u8) {
+    say(page, &[b]);
 }
 
 // Colours: what a fault is marked with, texts, names, the names of files, places, and none.
@@ -115,7 +93,7 @@ pub const PLACE: u8 = 4;
 
 const NONE: u8 = 5;
 
-fn say_colour(page: &mut [u8], colour: u8) {
+fn say_colour(page: &mut Page, colour: u8) {
     say(page, &[0x1B, b'[']);
     match colour {
         FAULT => say(page, b"1;31m"),
@@ -128,13 +106,13 @@ fn say_colour(page: &mut [u8], colour: u8) {
 }
 
 // A colour from here on, where there are colours.
-pub fn paint(page: &mut [u8], colour: u8) {
-    if byte(page, 2) != 0 {
+pub fn paint(page: &mut Page, colour: u8) {
+    if page.colours {
         say_colour(page, colour);
     }
 }
 
 // No colour from here on.
-pub fn plain(page: &mut [u8]) {
+pub fn plain(page: &mut Page) {
     paint(page, NONE);
 }

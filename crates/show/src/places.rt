@@ -1,7 +1,7 @@
 // Places in a source as a person counts them.
 ghost use Rattle.std.specs.Prelude.{◌≡◌, ◌≤◌, length};
 
-use crate::page::say;
+use crate::page::{Page, say};
 use crate::say::{is_inside, put_before, put_number};
 use std::num::wrapping_add_usize;
 
@@ -55,7 +55,7 @@ fn put_place(text: &mut [u8; 48], place: usize) -> usize
 }
 
 // `LINE:COLUMN`.
-pub fn say_place(page: &mut [u8], source: &[u8], at: usize) {
+pub fn say_place(page: &mut Page, source: &[u8], at: usize) {
     let mut text = [0u8; 48];
     let from = put_place(&mut text, place_of(source, at));
     say(page, &text[from..]);
@@ -113,14 +113,14 @@ fn put_found(text: &mut [u8; 48], places: &[usize], at: usize) -> usize
     put_place(text, places[at])
 }
 
-pub fn say_found(page: &mut [u8], places: &[usize], at: usize) {
+pub fn say_found(page: &mut Page, places: &[usize], at: usize) {
     let mut text = [0u8; 48];
     let from = put_found(&mut text, places, at);
     say(page, &text[from..]);
 }
 
 // The same behind ` at `.
-pub fn say_at(page: &mut [u8], places: &[usize], at: usize) {
+pub fn say_at(page: &mut Page, places: &[usize], at: usize) {
     let mut text = [0u8; 48];
     let found = put_found(&mut text, places, at);
     let from = put_before(&mut text, found, b" at ");

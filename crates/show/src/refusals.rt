@@ -3,7 +3,7 @@ ghost use Rattle.std.specs.Prelude.{◌≤◌, length};
 
 use crate::bad_blocks::line_at_fault;
 use crate::escapes::say_escape;
-use crate::page::{FAULT, paint, plain, say};
+use crate::page::{FAULT, Page, paint, plain, say};
 use crate::places::say_place;
 use crate::say::{
     character_end, columns, is_inside, one_more, say_characters, say_hex, say_number, say_times,
@@ -19,7 +19,7 @@ const BEFORE: usize = 50;
 const AFTER: usize = 30;
 
 // A refusal in document 01's numbers.
-#[derive(Drop)]
+#[derive(Clone, Copy)]
 pub struct Refusal {
     pub number: u64,
     pub start: u64,
@@ -28,7 +28,7 @@ pub struct Refusal {
     pub length: u64,
 }
 
-fn say_kind(page: &mut [u8], kind: u8) {
+fn say_kind(page: &mut Page, kind: u8) {
     match kind {
         Kind::EOF => say(page, b"the end of the file"),
         Kind::IDENT => say(page, b"a name"),
@@ -46,13 +46,13 @@ fn say_kind(page: &mut [u8], kind: u8) {
     }
 }
 
-fn say_wanted(page: &mut [u8], kind: u8, comma: bool) {
+fn say_wanted(page: &mut Page, kind: u8, comma: bool) {
     say_cut(page, comma, b"`,` or ");
     say_kind(page, kind);
     say(page, b" is wanted");
 }
 
-fn say_bad_lexeme(page: &mut [u8], kind: u8) {
+fn say_bad_lexeme(page: &mut Page, kind: u8) {
     match kind {
         Kind::ERROR_FLOAT_JUNK_AFTER_POINT => say(page, b"a number has no digit after its point"),
         Kind::ERROR_FLOAT_JUNK_AFTER_EXPONENT => say(
@@ -96,7 +96,7 @@ fn say_bad_lexeme(page: &mut [u8], kind: u8) {
     }
 }
 
-fn say_misplaced(page: &mut [u8], detail: u8) {
+fn say_misplaced(page: &mut Page, detail: u8) {
     match detail {
         1 => say(page, b"an argument without a name follows one with a name"),
         2 => say(
@@ -115,7 +115,7 @@ fn say_misplaced(page: &mut [u8], detail: u8) {
 }
 
 // What is wrong, in words.
-fn say_fault(page: &mut [u8], number: u8, detail: u8, comma: bool) {
+fn say_fault(page: &mut Page, number: u8, detail: u8, comma: bool) {
     match number {
         Number::ENCODING => say(page, b"the bytes are not UTF-8"),
         Number::LEXEME => say_bad_lexeme(page, detail),
@@ -137,20 +137,20 @@ fn say_fault(page: &mut [u8], number: u8, detail: u8, comma: bool) {
     }
 }
 
-fn say_byte_there(page: &mut [u8], b: u8) {
+fn say_byte_there(page: &mut Page, b: u8) {
     say(page, b"; the byte 0x");
     say_hex(page, b as u32, 2);
     say(page, b" stands there");
 }
 
-fn say_text_there(page: &mut [u8], text: &[u8]) {
+fn say_text_there(page: &mut Page, text: &[u8]) {
     say(page, b"; ");
     say_text(page, b"`", text);
     say(page, b" stands there");
 }
 
 // What stands at the place.
-fn say_there(page: &mut [u8], number: u8, source: &[u8], start: usize, end: usize) {
+fn say_there(page: &mut Page, number: u8, source: &[u8], start: usize, end: usize) {
     if source.len() <= start {
         say(page, b"; nothing more stands there");
         return;
@@ -230,13 +230,13 @@ fn is_cut_after(source: &[u8], to: usize) -> bool {
     false
 }
 
-fn say_cut(page: &mut [u8], is_cut: bool, mark: &[u8]) {
+fn say_cut(page: &mut Page, is_cut: bool, mark: &[u8]) {
     if is_cut {
         say(page, mark);
     }
 }
 
-fn say_carets(page: &mut [u8], n: usize) {
+fn say_carets(page: &mut Page, n: usize) {
     paint(page, FAULT);
     say_times(page, b"^", n);
     plain(page);
@@ -260,7 +260,7 @@ fn marked(source: &[u8], start: usize, end: usize, to: usize) -> usize {
 }
 
 // The shown part of a line.
-fn say_shown(page: &mut [u8], source: &[u8], from: usize, to: usize)
+fn say_shown(page: &mut Page, source: &[u8], from: usize, to: usize)
     requires { (from ≤ to) × (to ≤ length source.now) }
 {
     say(page, b"    ");
@@ -271,7 +271,7 @@ fn say_shown(page: &mut [u8], source: &[u8], from: usize, to: usize)
 }
 
 // The line below it: so many columns up to the place, and carets.
-fn say_marks(page: &mut [u8], is_cut: bool, before: usize, count: usize) {
+fn say_marks(page: &mut Page, is_cut: bool, before: usize, count: usize) {
     say(page, b"    ");
     say_cut(page, is_cut, b"   ");
     say_times(page, b" ", before);
@@ -280,7 +280,7 @@ fn say_marks(page: &mut [u8], is_cut: bool, before: usize, count: usize) {
 }
 
 // The line, and carets under the place.
-pub fn say_line(page: &mut [u8], source: &[u8], start: usize, end: usize) {
+pub fn say_line(page: &mut Page, source: &[u8], start: usize, end: usize) {
     if source.len() < start {
         return;
     }
@@ -316,10 +316,10 @@ fn watched(number: u8, start: usize) -> usize {
 }
 
 // The sentence of a refusal that has a place.
-fn say_sentence(page: &mut [u8], number: u8, f: Refusal, source: &[u8]) {
+fn say_sentence(page: &mut Page, number: u8, f: Refusal, source: &[u8]) {
     let start = f.start as usize;
     let end = f.end as usize;
-    let mut notes = io::buffer();
+    let mut notes = system::buffer();
     let open = note(source, watched(number, start), &mut notes);
     let detail = small(f.detail);
     say_place(page, source, start);
@@ -345,7 +345,7 @@ fn has_bad_line(kind: u8) -> bool {
 }
 
 // The line of a bad text block that is at fault.
-fn tell_bad_line(page: &mut [u8], name: &[u8], start: usize, source: &[u8]) {
+fn tell_bad_line(page: &mut Page, name: &[u8], start: usize, source: &[u8]) {
     let at = line_at_fault(source, start);
     say_characters(page, name);
     say(page, b":");
@@ -355,7 +355,7 @@ fn tell_bad_line(page: &mut [u8], name: &[u8], start: usize, source: &[u8]) {
 }
 
 // The line that it is about; where the bytes are not UTF-8, the line up to there.
-fn tell_place(page: &mut [u8], number: u8, f: Refusal, source: &[u8]) {
+fn tell_place(page: &mut Page, number: u8, f: Refusal, source: &[u8]) {
     let start = f.start as usize;
     let end = f.end as usize;
     if number != Number::ENCODING {
@@ -367,15 +367,15 @@ fn tell_place(page: &mut [u8], number: u8, f: Refusal, source: &[u8]) {
     }
 }
 
-fn say_escape_at(page: &mut [u8], source: &[u8], at: usize) {
+fn say_escape_at(page: &mut Page, source: &[u8], at: usize) {
     if at < source.len() {
         say_escape(page, &source[at..]);
     }
 }
 
 // The sentence of a bad escape, at its backslash.
-fn say_bad_escape(page: &mut [u8], start: usize, at: usize, source: &[u8]) {
-    let mut notes = io::buffer();
+fn say_bad_escape(page: &mut Page, start: usize, at: usize, source: &[u8]) {
+    let mut notes = system::buffer();
     let open = note(source, start, &mut notes);
     say_place(page, source, at);
     say(page, b": ");
@@ -384,13 +384,13 @@ fn say_bad_escape(page: &mut [u8], start: usize, at: usize, source: &[u8]) {
     say(page, b".\n");
 }
 
-fn say_room(page: &mut [u8], length: usize) {
+fn say_room(page: &mut Page, length: usize) {
     say(page, b" the tree takes ");
     say_number(page, length);
     say(page, b" bytes, more than there is room for.\n");
 }
 
-fn say_told(page: &mut [u8], number: u8, f: Refusal, source: &[u8]) {
+fn say_told(page: &mut Page, number: u8, f: Refusal, source: &[u8]) {
     match number {
         Number::SETTING => say(page, b" the setting is above 15.\n"),
         Number::LONG => say(
@@ -413,7 +413,7 @@ fn has_place(number: u8) -> bool {
 }
 
 // A refusal of a file under its name, as one line; whether it has a place.
-pub fn tell_in_a_line(page: &mut [u8], name: &[u8], f: Refusal, source: &[u8]) -> bool {
+pub fn tell_in_a_line(page: &mut Page, name: &[u8], f: Refusal, source: &[u8]) -> bool {
     say_characters(page, name);
     say(page, b":");
     let number = small(f.number);
@@ -422,13 +422,13 @@ pub fn tell_in_a_line(page: &mut [u8], name: &[u8], f: Refusal, source: &[u8]) -
 }
 
 // A file that is read, under its name, as one line.
-pub fn tell_read(page: &mut [u8], name: &[u8]) {
+pub fn tell_read(page: &mut Page, name: &[u8]) {
     say_characters(page, name);
     say(page, b": ok\n");
 }
 
 // Of a bad text block also the line that is at fault.
-fn tell_lexeme(page: &mut [u8], name: &[u8], f: Refusal, source: &[u8]) {
+fn tell_lexeme(page: &mut Page, name: &[u8], f: Refusal, source: &[u8]) {
     let start = f.start as usize;
     say_line(page, source, start, f.end as usize);
     if has_bad_line(small(f.detail)) {
@@ -437,7 +437,7 @@ fn tell_lexeme(page: &mut [u8], name: &[u8], f: Refusal, source: &[u8]) {
 }
 
 // A refusal with the line of the source that it is about; a bad escape is marked at its backslash.
-pub fn tell(page: &mut [u8], name: &[u8], f: Refusal, source: &[u8]) {
+pub fn tell(page: &mut Page, name: &[u8], f: Refusal, source: &[u8]) {
     if !tell_in_a_line(page, name, f, source) {
         return;
     }

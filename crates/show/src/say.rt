@@ -1,7 +1,7 @@
 // What is written: words, numbers, and characters as a person reads them.
 ghost use Rattle.std.specs.Prelude.{◌≡◌, ◌<◌, ◌≤◌, length};
 
-use crate::page::say;
+use crate::page::{Page, say};
 use crate::unseen::{code_of, is_unseen, say_code_point};
 
 // How deep lines are indented; beyond that a line begins with its depth.
@@ -46,7 +46,7 @@ pub(crate) fn put_number(text: &mut [u8; 48], from: usize, n: usize) -> usize
 }
 
 // The digits of a number.
-pub fn say_number(page: &mut [u8], n: usize) {
+pub fn say_number(page: &mut Page, n: usize) {
     let mut text = [0u8; 48];
     let from = put_number(&mut text, ROOM, n);
     say(page, &text[from..]);
@@ -60,7 +60,7 @@ fn one_less(n: usize) -> usize {
 }
 
 // `, 1 thing` or `, 2 things`, of the word for several.
-pub fn say_count(page: &mut [u8], n: usize, things: &[u8]) {
+pub fn say_count(page: &mut Page, n: usize, things: &[u8]) {
     let mut text = [0u8; 48];
     let from = put_number(&mut text, ROOM, n);
     let start = put_before(&mut text, from, b", ");
@@ -73,18 +73,18 @@ pub fn say_count(page: &mut [u8], n: usize, things: &[u8]) {
 }
 
 // One of some words, counted from 0.
-pub fn say_word(page: &mut [u8], words: &[u8], n: u8) {
+pub fn say_word(page: &mut Page, words: &[u8], n: u8) {
     say(page, lists::field(words, n as usize));
 }
 
-pub fn say_hex(page: &mut [u8], n: u32, width: usize) {
+pub fn say_hex(page: &mut Page, n: u32, width: usize) {
     let mut digits = [0u8; 16];
     let k = io::hex(n as u64, width, &mut digits);
     say(page, &digits[..k]);
 }
 
 // The same text again and again.
-pub fn say_times(page: &mut [u8], text: &[u8], n: usize) {
+pub fn say_times(page: &mut Page, text: &[u8], n: usize) {
     let mut left = n;
     while left > 0 {
         say(page, text);
@@ -101,14 +101,14 @@ pub fn front(text: &[u8], n: usize) -> &[u8] {
 }
 
 // The start of a line that stands too deep to be indented whole.
-fn say_depth(page: &mut [u8], depth: usize) {
+fn say_depth(page: &mut Page, depth: usize) {
     say(page, b"                                                [");
     say_number(page, depth);
     say(page, b"] ");
 }
 
 // The start of a line that stands so deep.
-pub fn indent(page: &mut [u8], depth: usize) {
+pub fn indent(page: &mut Page, depth: usize) {
     if depth > INDENTED {
         say_depth(page, depth);
         return;
@@ -189,7 +189,7 @@ pub fn character_end(text: &[u8], at: usize) -> usize
 }
 
 // A character below 128 that cannot be seen: it is shown by the picture that Unicode has for it.
-fn say_control(page: &mut [u8], b: u8) {
+fn say_control(page: &mut Page, b: u8) {
     if b < 0x20 {
         say(page, &[0xE2, 0x90, 0x80 + b]);
         return;
@@ -198,7 +198,7 @@ fn say_control(page: &mut [u8], b: u8) {
 }
 
 // One character, shown so that none moves the cursor; its end is handed back.
-fn say_character(page: &mut [u8], text: &[u8], at: usize) -> usize
+fn say_character(page: &mut Page, text: &[u8], at: usize) -> usize
     requires { at < length text.now }
     ensures { (at < result) × (result ≤ length text.now) }
 {
@@ -237,7 +237,7 @@ fn seen_end(text: &[u8], from: usize) -> usize
 }
 
 // A text whole.
-pub fn say_characters(page: &mut [u8], text: &[u8]) {
+pub fn say_characters(page: &mut Page, text: &[u8]) {
     let mut i = 0;
     while i < text.len() {
         let end = seen_end(text, i);

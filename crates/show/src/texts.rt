@@ -2,7 +2,7 @@
 // the middle is, and how much that is is said.
 ghost use Rattle.std.specs.Prelude.{◌<◌, ◌≤◌, length};
 
-use crate::page::{say, say_byte};
+use crate::page::{Page, say, say_byte};
 use crate::say::{character_end, front, indent, is_inside, one_more, say_characters, say_number};
 use crate::unseen::{code_of, is_unseen, say_escape_of};
 
@@ -78,7 +78,7 @@ fn plain_end(text: &[u8], from: usize) -> usize
 }
 
 // One of the others below 128.
-fn say_escaped_byte(page: &mut [u8], b: u8) {
+fn say_escaped_byte(page: &mut Page, b: u8) {
     match b {
         b'"' => say(page, b"\\\""),
         b'\\' => say(page, b"\\\\"),
@@ -90,7 +90,7 @@ fn say_escaped_byte(page: &mut [u8], b: u8) {
 }
 
 // One character that is not plain; its end is handed back.
-fn say_escaped(page: &mut [u8], text: &[u8], at: usize) -> usize
+fn say_escaped(page: &mut Page, text: &[u8], at: usize) -> usize
     requires { at < length text.now }
     ensures { (at < result) × (result ≤ length text.now) }
 {
@@ -111,7 +111,7 @@ fn say_escaped(page: &mut [u8], text: &[u8], at: usize) -> usize
 }
 
 // A text whole, between quotes.
-fn quote(page: &mut [u8], text: &[u8]) {
+fn quote(page: &mut Page, text: &[u8]) {
     say_byte(page, b'"');
     let mut i = 0;
     while i < text.len() {
@@ -126,7 +126,7 @@ fn quote(page: &mut [u8], text: &[u8]) {
 }
 
 // A long line between quotes: the middle is left out.
-fn quote_ends(page: &mut [u8], line: &[u8]) {
+fn quote_ends(page: &mut Page, line: &[u8]) {
     let from = ahead(line, FRONT);
     let to = behind(line, BACK);
     if to <= from {
@@ -145,7 +145,7 @@ fn quote_ends(page: &mut [u8], line: &[u8]) {
 }
 
 // A line between quotes; of a long one the middle is left out. One that has no more bytes than are shown of a long one is whole.
-pub fn say_quoted(page: &mut [u8], line: &[u8]) {
+pub fn say_quoted(page: &mut Page, line: &[u8]) {
     if line.len() <= FRONT + BACK {
         quote(page, line);
         return;
@@ -210,7 +210,7 @@ fn is_open(text: &[u8]) -> bool {
     text[text.len() - 1] != b'\n'
 }
 
-fn say_end(page: &mut [u8], is_open: bool) {
+fn say_end(page: &mut Page, is_open: bool) {
     if is_open {
         say(page, b" and no line feed\n");
         return;
@@ -219,7 +219,7 @@ fn say_end(page: &mut [u8], is_open: bool) {
 }
 
 // The lines of a text, a line each; the last one tells that no LF follows it.
-pub fn show_lines(page: &mut [u8], text: &[u8], depth: usize) {
+pub fn show_lines(page: &mut Page, text: &[u8], depth: usize) {
     let mut i = 0;
     while i < text.len() {
         let end = line_end(text, i);
@@ -237,7 +237,7 @@ const START: usize = 40;
 const END: usize = 20;
 
 // How much of it is left out, if any.
-fn say_left_out(page: &mut [u8], n: usize) {
+fn say_left_out(page: &mut Page, n: usize) {
     if n == 0 {
         return;
     }
@@ -247,7 +247,7 @@ fn say_left_out(page: &mut [u8], n: usize) {
 }
 
 // What is shown of a long one, and how many bytes are not.
-fn say_shortened(page: &mut [u8], text: &[u8]) -> usize {
+fn say_shortened(page: &mut Page, text: &[u8]) -> usize {
     let from = ahead(text, START);
     let to = behind(text, END);
     if to <= from {
@@ -261,7 +261,7 @@ fn say_shortened(page: &mut [u8], text: &[u8]) -> usize {
 }
 
 // A name; of a long one the middle is left out, and how much that is is said.
-pub fn say_name(page: &mut [u8], text: &[u8]) {
+pub fn say_name(page: &mut Page, text: &[u8]) {
     if text.len() <= START + END {
         say_characters(page, text);
         return;
@@ -271,7 +271,7 @@ pub fn say_name(page: &mut [u8], text: &[u8]) {
 }
 
 // A name or a lexeme between marks.
-pub fn say_text(page: &mut [u8], mark: &[u8], text: &[u8]) {
+pub fn say_text(page: &mut Page, mark: &[u8], text: &[u8]) {
     say(page, mark);
     let n = say_shortened(page, text);
     say(page, mark);

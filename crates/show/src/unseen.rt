@@ -1,7 +1,7 @@
 // Characters that cannot be seen, or that move the others: they are named by their code points, and never go to a terminal as they are.
 ghost use Rattle.std.specs.Prelude.{◌≤◌};
 
-use crate::page::say;
+use crate::page::{Page, say};
 use crate::say::say_hex;
 
 // The six bits that a byte inside a character carries.
@@ -75,7 +75,7 @@ pub fn is_unseen(code: u32) -> bool {
 }
 
 // As an escape in a text: `\u202e`, and `\u{e0001}` where four digits do not do.
-pub fn say_escape_of(page: &mut [u8], code: u32) {
+pub fn say_escape_of(page: &mut Page, code: u32) {
     say(page, b"\\u");
     if code <= 0xFFFF {
         say_hex(page, code, 4);
@@ -87,7 +87,7 @@ pub fn say_escape_of(page: &mut [u8], code: u32) {
 }
 
 // As it is shown in a line of the source, or in a name: `<U+202e>`.
-pub fn say_code_point(page: &mut [u8], code: u32) {
+pub fn say_code_point(page: &mut Page, code: u32) {
     say(page, b"<U+");
     say_hex(page, code, 4);
     say(page, b">");

@@ -1,5 +1,5 @@
 // What stands open before a place of a refused source, told from the kept lexemes before it: brackets, and which member of an object it is.
-use crate::page::say;
+use crate::page::{Page, say};
 use crate::places::say_place;
 use crate::records::{byte, number};
 use crate::say::one_more;
@@ -156,9 +156,10 @@ pub fn note(source: &[u8], to: usize, notes: &mut [u8]) -> usize {
         if l.end <= at {
             return n;
         }
-        n = noted(notes, n, last, l);
-        last = l.kind;
+        let kind = l.kind;
         at = l.end;
+        n = noted(notes, n, last, l);
+        last = kind;
     }
     n
 }
@@ -184,7 +185,7 @@ pub fn takes_comma(source: &[u8], notes: &[u8], n: usize, wanted: u8) -> bool {
 }
 
 // A field, if the member that starts at a place is one with a fixed name: whether it is.
-fn say_field(page: &mut [u8], source: &[u8], at: usize) -> bool {
+fn say_field(page: &mut Page, source: &[u8], at: usize) -> bool {
     let l = next_kept(source, at);
     if !ends_operand(l.kind) {
         return false;
@@ -202,7 +203,7 @@ fn say_field(page: &mut [u8], source: &[u8], at: usize) -> bool {
 }
 
 // `, in the [ at LINE:COLUMN, in the field NAME at LINE:COLUMN`: the bracket that was opened last, and the innermost field.
-pub fn say_within(page: &mut [u8], source: &[u8], notes: &[u8], n: usize) {
+pub fn say_within(page: &mut Page, source: &[u8], notes: &[u8], n: usize) {
     if n == 0 {
         return;
     }

@@ -1,11 +1,14 @@
+#![tactic(auto)]
 // Shows files to a person: an accepted one as an indented tree, a refused one as a sentence with its place.
 // Arguments: files, and the options that desk/src/options.rt tells of.
 use desk::input::take;
 use desk::options::Options;
 use desk::{Fields, options, status};
 use images::Answer;
-use libc::STDIN_FILENO;
+use show::page::Page;
 use show::refusals::Refusal;
+use std::process::ExitCode;
+use system::Source;
 
 mod stations; // what is wrong with a station's text
 
@@ -24,13 +27,13 @@ const RECORDS: usize = 174_762;
 const PLACES: usize = 65_002;
 
 // The options that hold, and how the files so far have ended.
-#[derive(Drop)]
+#[derive(Clone, Copy)]
 struct Turn {
     options: Options,
     status: u8,
 }
 
-fn tell(page: &mut [u8], name: &[u8], options: Options, f: Fields, source: &[u8]) {
+fn tell(page: &mut Page, name: &[u8], options: Options, f: Fields, source: &[u8]) {
     let refusal = Refusal {
         number: f.number,
         start: f.start,
@@ -47,7 +50,7 @@ fn tell(page: &mut [u8], name: &[u8], options: Options, f: Fields, source: &[u8]
 
 // The tree of an image, or its records around a place of the source, which is so long, with the places that its spans tell of.
 fn show_records(
-    page: &mut [u8],
+    page: &mut Page,
     name: &[u8],
     options: Options,
     image: &[u8],
@@ -69,7 +72,7 @@ fn show_records(
 }
 
 // Which file a tree is of, where there are several.
-fn tell_name(page: &mut [u8], name: &[u8], options: Options) {
+fn tell_name(page: &mut Page, name: &[u8], options: Options) {
     if !options.several {
         return;
     }
@@ -78,7 +81,7 @@ fn tell_name(page: &mut [u8], name: &[u8], options: Options) {
 
 // An image, under its name where there are several files.
 fn show_image(
-    page: &mut [u8],
+    page: &mut Page,
     name: &[u8],
     options: Options,
     image: &[u8],
@@ -101,7 +104,7 @@ fn show_image(
 }
 
 fn show_source(
-    page: &mut [u8],
+    page: &mut Page,
     name: &[u8],
     options: Options,
     source: &[u8],
@@ -129,8 +132,9 @@ fn show_source(
 }
 
 fn show_source_from(
-    page: &mut [u8],
-    fd: i32,
+    rt: &HostRuntime,
+    page: &mut Page,
+    file: &mut Source,
     name: &[u8],
     options: Options,
     source: &mut [u8],
@@ -139,13 +143,12 @@ fn show_source_from(
     links: &mut [usize],
     stack: &mut [usize],
 ) -> u8 {
-    let taken = take(fd, source);
-    if !taken.whole {
-        os::fail(name);
+    let taken = take(file, source);
+    if let Some(error) = taken.fault {
+        system::fail(rt, name, error);
         return status::FAILED;
     }
     let n = taken.length;
-    status::forget_errors();
     let status = show_source(
         page,
         name,
@@ -157,13 +160,14 @@ fn show_source_from(
         stack,
     );
     show::page::flush(page);
-    status::if_written(status)
+    status::if_written(rt, show::page::fault(page), status)
 }
 
 // An image's spans are told as bytes of the source that it came from.
 fn show_image_from(
-    page: &mut [u8],
-    fd: i32,
+    rt: &HostRuntime,
+    page: &mut Page,
+    file: &mut Source,
     name: &[u8],
     options: Options,
     buffer: &mut [u8],
@@ -171,17 +175,16 @@ fn show_image_from(
     links: &mut [usize],
     stack: &mut [usize],
 ) -> u8 {
-    let taken = take(fd, buffer);
-    if !taken.whole {
-        os::fail(name);
+    let taken = take(file, buffer);
+    if let Some(error) = taken.fault {
+        system::fail(rt, name, error);
         return status::FAILED;
     }
     let n = taken.length;
-    status::forget_errors();
     if n == buffer.len() {
         trees::unread::tell(page, name, 24, n as u64);
         show::page::flush(page);
-        return status::if_written(status::REFUSED);
+        return status::if_written(rt, show::page::fault(page), status::REFUSED);
     }
     let status = show_image(
         page,
@@ -194,12 +197,13 @@ fn show_image_from(
         stack,
     );
     show::page::flush(page);
-    status::if_written(status)
+    status::if_written(rt, show::page::fault(page), status)
 }
 
 fn show_from(
-    page: &mut [u8],
-    fd: i32,
+    rt: &HostRuntime,
+    page: &mut Page,
+    file: &mut Source,
     name: &[u8],
     options: Options,
     source: &mut [u8],
@@ -209,14 +213,15 @@ fn show_from(
     stack: &mut [usize],
 ) -> u8 {
     if options.image {
-        return show_image_from(page, fd, name, options, output, places, links, stack);
+        return show_image_from(rt, page, file, name, options, output, places, links, stack);
     }
     show_source_from(
-        page, fd, name, options, source, output, places, links, stack,
+        rt, page, file, name, options, source, output, places, links, stack,
     )
 }
 
 fn show_file(
+    rt: &HostRuntime,
     name: &[u8],
     options: Options,
     source: &mut [u8],
@@ -225,12 +230,13 @@ fn show_file(
     links: &mut [usize],
     stack: &mut [usize],
 ) -> u8 {
-    let mut page = io::buffer();
-    show::page::begin(&mut page, options.colours);
+    let mut page = show::page::begin(rt, options.colours);
     if options::is_standard_input(name) {
+        let mut input = Source::standard_input(rt);
         return show_from(
+            rt,
             &mut page,
-            STDIN_FILENO,
+            &mut input,
             b"standard input",
             options,
             source,
@@ -240,20 +246,23 @@ fn show_file(
             stack,
         );
     }
-    let fd = os::open_read(name);
-    if fd < 0 {
-        os::fail(name);
-        return status::FAILED;
+    match Source::open(rt, name) {
+        Ok(file) => {
+            let mut file = file;
+            show_from(
+                rt, &mut page, &mut file, name, options, source, output, places, links, stack,
+            )
+        }
+        Err(error) => {
+            system::fail(rt, name, error);
+            status::FAILED
+        }
     }
-    let status = show_from(
-        &mut page, fd, name, options, source, output, places, links, stack,
-    );
-    libc::close(fd);
-    status
 }
 
 // One argument: how all stands before it, and how after.
 fn take_argument(
+    rt: &HostRuntime,
     i: usize,
     turn: Turn,
     source: &mut [u8],
@@ -262,8 +271,8 @@ fn take_argument(
     links: &mut [usize],
     stack: &mut [usize],
 ) -> Turn {
-    let mut word = io::buffer();
-    let n = os::arg(i, &mut word);
+    let mut word = system::buffer();
+    let n = system::arg(rt, i, &mut word);
     let before = turn.options;
     let options = before.with(i, &word[..n]);
     if options.file != i {
@@ -272,7 +281,16 @@ fn take_argument(
             status: turn.status,
         };
     }
-    let shown = show_file(&word[..n], options, source, output, places, links, stack);
+    let shown = show_file(
+        rt,
+        &word[..n],
+        options,
+        source,
+        output,
+        places,
+        links,
+        stack,
+    );
     Turn {
         options: options,
         status: status::worse(turn.status, shown),
@@ -281,6 +299,7 @@ fn take_argument(
 
 // Behind the last argument: standard input is shown where no file was named.
 fn end_arguments(
+    rt: &HostRuntime,
     turn: Turn,
     source: &mut [u8],
     output: &mut [u8],
@@ -291,28 +310,28 @@ fn end_arguments(
     let before = turn.options;
     let options = before.ended();
     if options.fault != options::NOTHING {
-        options.complain(b"showtree");
+        options.complain(rt, b"showtree");
         return status::FAILED;
     }
     if options.file != 0 {
         return turn.status;
     }
-    show_file(b"-", options, source, output, places, links, stack)
+    show_file(rt, b"-", options, source, output, places, links, stack)
 }
 
-fn with_argument(options: Options, i: usize) -> Options {
-    let mut word = io::buffer();
-    let n = os::arg(i, &mut word);
+fn with_argument(rt: &HostRuntime, options: Options, i: usize) -> Options {
+    let mut word = system::buffer();
+    let n = system::arg(rt, i, &mut word);
     options.with(i, &word[..n])
 }
 
 // Whether more than one file is named.
-fn are_several() -> bool {
-    let count = os::arg_count();
+fn are_several(rt: &HostRuntime) -> bool {
+    let count = system::arg_count(rt);
     let mut options = Options::for_trees(false);
-    let mut i = status::first_argument();
+    let mut i = status::first_argument(rt);
     while i < count {
-        options = with_argument(options, i);
+        options = with_argument(rt, options, i);
         if options.more {
             return true;
         }
@@ -322,25 +341,26 @@ fn are_several() -> bool {
 }
 
 // How all stands before the first argument.
-fn first_turn() -> Turn {
+fn first_turn(rt: &HostRuntime) -> Turn {
     Turn {
-        options: Options::for_trees(are_several()),
+        options: Options::for_trees(are_several(rt)),
         status: status::GOOD,
     }
 }
 
 fn take_arguments(
+    rt: &HostRuntime,
     source: &mut [u8],
     output: &mut [u8],
     places: &mut [usize],
     links: &mut [usize],
     stack: &mut [usize],
 ) -> Turn {
-    let count = os::arg_count();
-    let mut turn = first_turn();
-    let mut i = status::first_argument();
+    let count = system::arg_count(rt);
+    let mut turn = first_turn(rt);
+    let mut i = status::first_argument(rt);
     while i < count {
-        turn = take_argument(i, turn, source, output, places, links, stack);
+        turn = take_argument(rt, i, turn, source, output, places, links, stack);
         if turn.options.fault != options::NOTHING {
             return turn;
         }
@@ -351,28 +371,30 @@ fn take_arguments(
 
 // The buffers come as references to arrays: a proof that lent them as slices where they are made would count their elements one by one.
 fn run(
+    rt: &HostRuntime,
     source: &mut [u8; SOURCE],
     output: &mut [u8; OUTPUT],
     places: &mut [usize; PLACES],
     links: &mut [usize; LINKS],
     stack: &mut [usize; RECORDS],
 ) -> u8 {
-    let turn = take_arguments(source, output, places, links, stack);
-    end_arguments(turn, source, output, places, links, stack)
+    let turn = take_arguments(rt, source, output, places, links, stack);
+    end_arguments(rt, turn, source, output, places, links, stack)
 }
 
-fn main() {
+fn main(rt: HostRuntime) -> ExitCode {
     let mut source = [0u8; SOURCE];
     let mut output = [0u8; OUTPUT];
     let mut places = [0usize; PLACES];
     let mut links = [0usize; LINKS];
     let mut stack = [0usize; RECORDS];
     let status = run(
+        &rt,
         &mut source,
         &mut output,
         &mut places,
         &mut links,
         &mut stack,
     );
-    status::end(status);
+    status::end(&rt, status)
 }

@@ -1,5 +1,5 @@
 // A station's text that is refused, as a sentence with its line. What is wrong with the bytes, the length, a number or the room is told as of a source.
-use show::page::say;
+use show::page::{Page, say};
 use show::places::say_place;
 use show::refusals::{Refusal, say_line};
 use show::say::{character_end, one_more, say_characters};
@@ -53,7 +53,7 @@ fn is_behind_comma(text: &[u8], at: usize) -> bool {
 }
 
 // What a string does not go on with.
-fn say_in_string(page: &mut [u8], b: u8) {
+fn say_in_string(page: &mut Page, b: u8) {
     if b < b' ' {
         say(
             page,
@@ -68,7 +68,7 @@ fn say_in_string(page: &mut [u8], b: u8) {
 }
 
 // What no JSON text goes on with.
-fn say_not_json(page: &mut [u8], text: &[u8], at: usize) {
+fn say_not_json(page: &mut Page, text: &[u8], at: usize) {
     let inside = is_in_string(text, at);
     if text.len() <= at {
         if inside {
@@ -90,7 +90,7 @@ fn say_not_json(page: &mut [u8], text: &[u8], at: usize) {
     }
 }
 
-fn say_fault(page: &mut [u8], f: Refusal, text: &[u8]) {
+fn say_fault(page: &mut Page, f: Refusal, text: &[u8]) {
     if f.number == NOT_JSON {
         say_not_json(page, text, f.start as usize);
         return;
@@ -99,7 +99,7 @@ fn say_fault(page: &mut [u8], f: Refusal, text: &[u8]) {
 }
 
 // The sentence, and the line with a caret under the place.
-fn tell_at(page: &mut [u8], name: &[u8], f: Refusal, text: &[u8]) {
+fn tell_at(page: &mut Page, name: &[u8], f: Refusal, text: &[u8]) {
     let at = f.start as usize;
     say_characters(page, name);
     say(page, b":");
@@ -110,7 +110,7 @@ fn tell_at(page: &mut [u8], name: &[u8], f: Refusal, text: &[u8]) {
     say_line(page, text, at, one_more(at));
 }
 
-pub fn tell(page: &mut [u8], name: &[u8], f: Refusal, text: &[u8]) {
+pub fn tell(page: &mut Page, name: &[u8], f: Refusal, text: &[u8]) {
     if f.number == NOT_JSON || f.number == DEEP {
         tell_at(page, name, f, text);
         return;

@@ -1,5 +1,6 @@
+#![tactic(auto)]
 // The sums of vectors/exhaustive.txt: FNV-1a with 64 bits over answer lines.
-use libc::STDOUT_FILENO;
+use system::Output;
 
 // The sum of nothing.
 pub const START: u64 = 0xCBF2_9CE4_8422_2325;
@@ -30,12 +31,12 @@ pub fn fed_all(h: u64, text: &[u8]) -> u64 {
 }
 
 // ` LENGTH COUNT SUM`, and the line's end.
-pub fn report(length: usize, count: usize, sum: u64) {
-    io::write_all(STDOUT_FILENO, b" ");
-    io::print_decimal(STDOUT_FILENO, length as u64);
-    io::write_all(STDOUT_FILENO, b" ");
-    io::print_decimal(STDOUT_FILENO, count as u64);
-    io::write_all(STDOUT_FILENO, b" ");
-    io::print_hex(STDOUT_FILENO, sum, 16);
-    io::write_all(STDOUT_FILENO, b"\n");
+pub fn report(out: &mut Output, length: usize, count: usize, sum: u64) {
+    out.write(b" ");
+    out.write_decimal(length as u64);
+    out.write(b" ");
+    out.write_decimal(count as u64);
+    out.write(b" ");
+    out.write_hex(sum, 16);
+    out.write(b"\n");
 }

@@ -3,7 +3,7 @@ use crate::lines::say_step;
 use crate::links::{first_of, payload_of, tag_of};
 use crate::tree::{is_step, say_whole};
 use grammar::tags::Tag;
-use show::page::say;
+use show::page::{Page, say};
 use show::records::number;
 use show::say::{one_more, say_characters};
 
@@ -49,7 +49,7 @@ fn later(last: usize, r: usize, holds: bool) -> usize {
     last
 }
 
-fn say_found(page: &mut [u8], image: &[u8], places: &[usize], links: &[usize], r: usize) {
+fn say_found(page: &mut Page, image: &[u8], places: &[usize], links: &[usize], r: usize) {
     let tag = tag_of(image, links, r);
     if tag != Tag::INFIX && is_step(image, links, r, tag) {
         say(page, b"then ");
@@ -63,7 +63,7 @@ fn say_found(page: &mut [u8], image: &[u8], places: &[usize], links: &[usize], r
 // one that begins at it or before it and one that ends behind it. Whether there are any. A record comes after those below it, so the last records that
 // begin and end so tell whether they stand below.
 pub fn show(
-    page: &mut [u8],
+    page: &mut Page,
     image: &[u8],
     places: &[usize],
     links: &[usize],
@@ -92,7 +92,7 @@ pub fn show(
     found
 }
 
-pub fn tell_none(page: &mut [u8], name: &[u8]) {
+pub fn tell_none(page: &mut Page, name: &[u8]) {
     say_characters(page, name);
     say(
         page,

@@ -1,3 +1,4 @@
+#![tactic(auto)]
 // A tree as a person reads it: the records of an image that was read back as indented lines.
 pub mod around; // the records around a place
 mod lines; // a record as a line

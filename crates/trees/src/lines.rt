@@ -2,34 +2,34 @@
 use crate::links::{first_child, first_of, payload_of, tag_of};
 use crate::paths::{begins_run, is_name, is_named_part, say_letters, say_part_name, say_path};
 use grammar::tags::Tag;
-use show::page::{NAME, PLACE, TEXT, paint, plain, say};
+use show::page::{NAME, PLACE, Page, TEXT, paint, plain, say};
 use show::records::{byte, number, rest};
 use show::say::{say_count, say_word};
 use show::texts::{has_lines, lines, say_quoted};
 
 // ` at` the place where the span begins that stands at a place of the payload.
-fn say_at(page: &mut [u8], p: &[u8], at: usize, places: &[usize]) {
+fn say_at(page: &mut Page, p: &[u8], at: usize, places: &[usize]) {
     paint(page, PLACE);
     show::places::say_at(page, places, number(p, at));
     plain(page);
 }
 
 // Words where a flag is set.
-fn say_if(page: &mut [u8], flag: u8, words: &[u8]) {
+fn say_if(page: &mut Page, flag: u8, words: &[u8]) {
     if flag != 0 {
         say(page, words);
     }
 }
 
 // A name in its colour.
-fn say_coloured(page: &mut [u8], name: &[u8]) {
+fn say_coloured(page: &mut Page, name: &[u8]) {
     paint(page, NAME);
     say_letters(page, name);
     plain(page);
 }
 
 // A text of several lines by their count: they follow it line by line.
-fn say_string(page: &mut [u8], p: &[u8], several: bool) {
+fn say_string(page: &mut Page, p: &[u8], several: bool) {
     if several {
         say(page, b"string");
         say_count(page, lines(p), b" lines");
@@ -47,7 +47,7 @@ pub fn is_several(tag: u8, p: &[u8]) -> bool {
 }
 
 // A record that has no children; whether it is a text of several lines.
-pub fn say_leaf(page: &mut [u8], tag: u8, p: &[u8], several: bool, places: &[usize]) {
+pub fn say_leaf(page: &mut Page, tag: u8, p: &[u8], several: bool, places: &[usize]) {
     match tag {
         Tag::IDENTITY => {
             say_word(page, b"self super $", byte(p, 0));
@@ -68,7 +68,7 @@ pub fn say_leaf(page: &mut [u8], tag: u8, p: &[u8], several: bool, places: &[usi
     }
 }
 
-fn say_collection(page: &mut [u8], tag: u8, p: &[u8]) {
+fn say_collection(page: &mut Page, tag: u8, p: &[u8]) {
     match tag {
         Tag::ARRAY => {
             say(page, b"array");
@@ -91,7 +91,7 @@ fn say_collection(page: &mut [u8], tag: u8, p: &[u8]) {
 }
 
 // An infix operator, by its byte: seven of them to a row.
-fn say_operator(page: &mut [u8], operator: u8) {
+fn say_operator(page: &mut Page, operator: u8) {
     match operator / 7 {
         0 => say_word(page, b"* / % + - << >>", operator),
         1 => say_word(page, b"< > <= >= & | ^", operator % 7),
@@ -100,7 +100,7 @@ fn say_operator(page: &mut [u8], operator: u8) {
 }
 
 // An operator and its place; an infix record from before request 8 has none.
-fn say_infix(page: &mut [u8], p: &[u8], places: &[usize]) {
+fn say_infix(page: &mut Page, p: &[u8], places: &[usize]) {
     paint(page, NAME);
     say_operator(page, byte(p, 0));
     plain(page);
@@ -109,7 +109,7 @@ fn say_infix(page: &mut [u8], p: &[u8], places: &[usize]) {
     }
 }
 
-fn say_phrase(page: &mut [u8], tag: u8, p: &[u8], places: &[usize]) {
+fn say_phrase(page: &mut Page, tag: u8, p: &[u8], places: &[usize]) {
     match tag {
         Tag::PREFIX => {
             say(page, b"prefix ");
@@ -136,7 +136,7 @@ fn say_phrase(page: &mut [u8], tag: u8, p: &[u8], places: &[usize]) {
 }
 
 // What is called, indexed, sliced or extended, where it is a path: it stands on the line, and in parentheses where these began a new run.
-fn say_base(page: &mut [u8], image: &[u8], links: &[usize], r: usize) {
+fn say_base(page: &mut Page, image: &[u8], links: &[usize], r: usize) {
     let base = first_child(links, r);
     let closed = tag_of(image, links, base) == Tag::INDEX_PART && begins_run(image, links, r);
     paint(page, NAME);
@@ -146,20 +146,20 @@ fn say_base(page: &mut [u8], image: &[u8], links: &[usize], r: usize) {
     plain(page);
 }
 
-fn say_named_count(page: &mut [u8], n: usize) {
+fn say_named_count(page: &mut Page, n: usize) {
     if n > 0 {
         say_count(page, n, b" named arguments");
     }
 }
 
-fn say_arguments(page: &mut [u8], p: &[u8]) {
+fn say_arguments(page: &mut Page, p: &[u8]) {
     say_count(page, number(p, 5), b" arguments");
     say_named_count(page, number(p, 7));
     say_if(page, byte(p, 4), b", tailstrict");
 }
 
 // One of a slice's parts, where it is there.
-fn say_part(page: &mut [u8], flag: u8, word: &[u8], p: &[u8], at: usize, places: &[usize]) {
+fn say_part(page: &mut Page, flag: u8, word: &[u8], p: &[u8], at: usize, places: &[usize]) {
     if flag == 0 {
         return;
     }
@@ -167,7 +167,7 @@ fn say_part(page: &mut [u8], flag: u8, word: &[u8], p: &[u8], at: usize, places:
     say_at(page, p, at, places);
 }
 
-fn say_bounds(page: &mut [u8], p: &[u8], places: &[usize]) {
+fn say_bounds(page: &mut Page, p: &[u8], places: &[usize]) {
     let there = byte(p, 0);
     say_part(page, there % 2, b", start", p, 1, places);
     say_part(page, there / 2 % 2, b", end", p, 5, places);
@@ -175,7 +175,7 @@ fn say_bounds(page: &mut [u8], p: &[u8], places: &[usize]) {
 }
 
 // An index behind its base: `.name`, or what stands between brackets below it.
-fn say_index(page: &mut [u8], image: &[u8], links: &[usize], r: usize, p: &[u8]) {
+fn say_index(page: &mut Page, image: &[u8], links: &[usize], r: usize, p: &[u8]) {
     if is_named_part(image, links, r) {
         say_part_name(page, image, links, r);
         return;
@@ -185,7 +185,7 @@ fn say_index(page: &mut [u8], image: &[u8], links: &[usize], r: usize, p: &[u8])
 }
 
 // `index` and its path, or the path and what follows it.
-fn say_whole_index(page: &mut [u8], image: &[u8], links: &[usize], r: usize, p: &[u8]) {
+fn say_whole_index(page: &mut Page, image: &[u8], links: &[usize], r: usize, p: &[u8]) {
     say(page, b"index ");
     if is_named_part(image, links, r) {
         paint(page, NAME);
@@ -198,7 +198,7 @@ fn say_whole_index(page: &mut [u8], image: &[u8], links: &[usize], r: usize, p: 
 }
 
 // What stands behind a path on its line.
-fn say_suffix(page: &mut [u8], image: &[u8], links: &[usize], r: usize, places: &[usize]) {
+fn say_suffix(page: &mut Page, image: &[u8], links: &[usize], r: usize, places: &[usize]) {
     let p = payload_of(image, links, r);
     match tag_of(image, links, r) {
         Tag::CALL => {
@@ -224,7 +224,7 @@ fn say_suffix(page: &mut [u8], image: &[u8], links: &[usize], r: usize, places: 
 }
 
 // The same where its base, which is no path, stands before it; and a further operator of a chain.
-pub fn say_step(page: &mut [u8], image: &[u8], links: &[usize], r: usize, places: &[usize]) {
+pub fn say_step(page: &mut Page, image: &[u8], links: &[usize], r: usize, places: &[usize]) {
     let p = payload_of(image, links, r);
     match tag_of(image, links, r) {
         Tag::CALL => {
@@ -248,7 +248,7 @@ pub fn say_step(page: &mut [u8], image: &[u8], links: &[usize], r: usize, places
     }
 }
 
-fn say_control(page: &mut [u8], tag: u8, p: &[u8], places: &[usize]) {
+fn say_control(page: &mut Page, tag: u8, p: &[u8], places: &[usize]) {
     match tag {
         Tag::NAMED_ARGUMENT => {
             say(page, b"named argument ");
@@ -267,7 +267,7 @@ fn say_control(page: &mut [u8], tag: u8, p: &[u8], places: &[usize]) {
 }
 
 // The name that a pattern is, on the line of what it belongs to.
-fn say_pattern_name(page: &mut [u8], image: &[u8], links: &[usize], r: usize, places: &[usize]) {
+fn say_pattern_name(page: &mut Page, image: &[u8], links: &[usize], r: usize, places: &[usize]) {
     let pattern = first_child(links, r);
     if tag_of(image, links, pattern) != Tag::NAME_PATTERN {
         return;
@@ -278,7 +278,7 @@ fn say_pattern_name(page: &mut [u8], image: &[u8], links: &[usize], r: usize, pl
     say_at(page, p, 0, places);
 }
 
-fn say_bound(page: &mut [u8], image: &[u8], links: &[usize], r: usize, places: &[usize]) {
+fn say_bound(page: &mut Page, image: &[u8], links: &[usize], r: usize, places: &[usize]) {
     let p = payload_of(image, links, r);
     match tag_of(image, links, r) {
         Tag::BIND => {
@@ -302,7 +302,7 @@ fn say_bound(page: &mut [u8], image: &[u8], links: &[usize], r: usize, places: &
 }
 
 // What a pattern does with the rest.
-fn say_rest(page: &mut [u8], what: u8, name: &[u8]) {
+fn say_rest(page: &mut Page, what: u8, name: &[u8]) {
     match what {
         0 => {}
         1 => say(page, b", the rest dropped"),
@@ -313,7 +313,7 @@ fn say_rest(page: &mut [u8], what: u8, name: &[u8]) {
     }
 }
 
-fn say_pattern_field(page: &mut [u8], p: &[u8], places: &[usize]) {
+fn say_pattern_field(page: &mut Page, p: &[u8], places: &[usize]) {
     say(page, b"pattern field ");
     say_coloured(page, rest(p, 6));
     say_if(page, byte(p, 0), b", its own pattern");
@@ -323,7 +323,7 @@ fn say_pattern_field(page: &mut [u8], p: &[u8], places: &[usize]) {
     }
 }
 
-fn say_pattern(page: &mut [u8], tag: u8, p: &[u8], places: &[usize]) {
+fn say_pattern(page: &mut Page, tag: u8, p: &[u8], places: &[usize]) {
     match tag {
         Tag::NAME_PATTERN => {
             say(page, b"name ");
@@ -346,7 +346,7 @@ fn say_pattern(page: &mut [u8], tag: u8, p: &[u8], places: &[usize]) {
     }
 }
 
-fn say_visibility(page: &mut [u8], visibility: u8) {
+fn say_visibility(page: &mut Page, visibility: u8) {
     match visibility {
         0 => {}
         1 => say(page, b", hidden"),
@@ -354,7 +354,7 @@ fn say_visibility(page: &mut [u8], visibility: u8) {
     }
 }
 
-fn say_field_name(page: &mut [u8], name: &[u8]) {
+fn say_field_name(page: &mut Page, name: &[u8]) {
     if is_name(name) {
         say_letters(page, name);
         return;
@@ -363,7 +363,7 @@ fn say_field_name(page: &mut [u8], name: &[u8]) {
 }
 
 // A field's name where it is fixed: the first record of its tree.
-fn say_fixed(page: &mut [u8], image: &[u8], links: &[usize], r: usize, p: &[u8]) {
+fn say_fixed(page: &mut Page, image: &[u8], links: &[usize], r: usize, p: &[u8]) {
     if byte(p, 4) != 0 {
         say(page, b"[..]");
         return;
@@ -371,7 +371,7 @@ fn say_fixed(page: &mut [u8], image: &[u8], links: &[usize], r: usize, p: &[u8])
     say_field_name(page, payload_of(image, links, first_of(links, r)));
 }
 
-fn say_label(page: &mut [u8], image: &[u8], links: &[usize], r: usize, p: &[u8]) {
+fn say_label(page: &mut Page, image: &[u8], links: &[usize], r: usize, p: &[u8]) {
     say(page, b"field ");
     paint(page, NAME);
     say_fixed(page, image, links, r, p);
@@ -379,7 +379,7 @@ fn say_label(page: &mut [u8], image: &[u8], links: &[usize], r: usize, p: &[u8])
 }
 
 // What a field is besides.
-fn say_marks(page: &mut [u8], p: &[u8]) {
+fn say_marks(page: &mut Page, p: &[u8]) {
     say_if(page, byte(p, 5), b", added with +");
     say_visibility(page, byte(p, 9));
     if byte(p, 6) != 0 {
@@ -393,7 +393,7 @@ fn is_plain_field(p: &[u8]) -> bool {
     byte(p, 5) == 0 && byte(p, 6) == 0 && byte(p, 9) == 0
 }
 
-fn say_field(page: &mut [u8], image: &[u8], links: &[usize], r: usize, p: &[u8], places: &[usize]) {
+fn say_field(page: &mut Page, image: &[u8], links: &[usize], r: usize, p: &[u8], places: &[usize]) {
     say_label(page, image, links, r, p);
     say_at(page, p, 0, places);
     if !is_plain_field(p) {
@@ -401,7 +401,7 @@ fn say_field(page: &mut [u8], image: &[u8], links: &[usize], r: usize, p: &[u8],
     }
 }
 
-fn say_member(page: &mut [u8], tag: u8, p: &[u8], places: &[usize]) {
+fn say_member(page: &mut Page, tag: u8, p: &[u8], places: &[usize]) {
     match tag {
         Tag::ASSERT => {
             say(page, b"assert");
@@ -423,7 +423,7 @@ fn say_member(page: &mut [u8], tag: u8, p: &[u8], places: &[usize]) {
 
 // The line of a record, with the children that stand on it.
 pub fn say_record(
-    page: &mut [u8],
+    page: &mut Page,
     image: &[u8],
     links: &[usize],
     r: usize,

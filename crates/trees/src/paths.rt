@@ -3,7 +3,7 @@ ghost use Rattle.std.specs.Prelude.{◌≤◌};
 
 use crate::links::{payload_of, tag_of};
 use grammar::tags::Tag;
-use show::page::say;
+use show::page::{Page, say};
 use show::records::{byte, rest};
 use show::say::{one_more, say_times, say_word};
 use show::texts::say_name;
@@ -39,7 +39,7 @@ pub fn is_name(text: &[u8]) -> bool {
 const SHORT: usize = 40;
 
 // A name. One of letters has nothing that cannot be seen, so it goes out as it is.
-pub fn say_letters(page: &mut [u8], name: &[u8]) {
+pub fn say_letters(page: &mut Page, name: &[u8]) {
     if name.len() <= SHORT && is_name(name) {
         say(page, name);
         return;
@@ -117,13 +117,13 @@ fn runs(image: &[u8], links: &[usize], head: usize, n: usize) -> usize {
     count
 }
 
-fn say_where(page: &mut [u8], holds: bool, mark: &[u8]) {
+fn say_where(page: &mut Page, holds: bool, mark: &[u8]) {
     if holds {
         say(page, mark);
     }
 }
 
-fn say_head(page: &mut [u8], image: &[u8], links: &[usize], head: usize) {
+fn say_head(page: &mut Page, image: &[u8], links: &[usize], head: usize) {
     let p = payload_of(image, links, head);
     if tag_of(image, links, head) == Tag::IDENTITY {
         say_word(page, b"self super $", byte(p, 0));
@@ -133,7 +133,7 @@ fn say_head(page: &mut [u8], image: &[u8], links: &[usize], head: usize) {
 }
 
 // `.name` or `?.name`, by the part's record.
-pub fn say_part_name(page: &mut [u8], image: &[u8], links: &[usize], r: usize) {
+pub fn say_part_name(page: &mut Page, image: &[u8], links: &[usize], r: usize) {
     say_where(page, byte(payload_of(image, links, r), 5) != 0, b"?");
     say(page, b".");
     if r > 0 {
@@ -142,7 +142,7 @@ pub fn say_part_name(page: &mut [u8], image: &[u8], links: &[usize], r: usize) {
 }
 
 // The path that ends with a record.
-pub fn say_path(page: &mut [u8], image: &[u8], links: &[usize], r: usize) {
+pub fn say_path(page: &mut Page, image: &[u8], links: &[usize], r: usize) {
     let n = parts(image, links, r);
     if n == PARTS {
         return;

@@ -2,7 +2,7 @@
 use crate::lines::say_leaf;
 use crate::links::{below, first_of, payload_of, tag_of};
 use grammar::tags::Tag;
-use show::page::say;
+use show::page::{Page, say};
 use show::records::number;
 use show::say::indent;
 use show::texts::{has_lines, say_name, say_quoted};
@@ -47,7 +47,7 @@ pub fn is_row(image: &[u8], links: &[usize], r: usize) -> bool {
 }
 
 // A value without a word before it, where its form tells what it is.
-fn say_small(page: &mut [u8], image: &[u8], places: &[usize], links: &[usize], r: usize) {
+fn say_small(page: &mut Page, image: &[u8], places: &[usize], links: &[usize], r: usize) {
     let tag = tag_of(image, links, r);
     let p = payload_of(image, links, r);
     match tag {
@@ -58,7 +58,7 @@ fn say_small(page: &mut [u8], image: &[u8], places: &[usize], links: &[usize], r
 }
 
 // What stands behind a value: nothing behind the last, a new line where the line is full.
-fn say_gap(page: &mut [u8], is_last: bool, is_full: bool, depth: usize) {
+fn say_gap(page: &mut Page, is_last: bool, is_full: bool, depth: usize) {
     if is_last {
         say(page, b"\n");
         return;
@@ -88,7 +88,7 @@ fn filled(used: usize, is_full: bool, size: usize) -> usize {
 // Few elements stand on the array's own line.
 const FEW: usize = 6;
 
-fn say_start(page: &mut [u8], count: usize, depth: usize) {
+fn say_start(page: &mut Page, count: usize, depth: usize) {
     if count <= FEW {
         say(page, b": ");
         return;
@@ -99,7 +99,7 @@ fn say_start(page: &mut [u8], count: usize, depth: usize) {
 
 // The elements, so many to a line.
 pub fn show_row(
-    page: &mut [u8],
+    page: &mut Page,
     image: &[u8],
     places: &[usize],
     links: &[usize],

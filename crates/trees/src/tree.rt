@@ -6,7 +6,7 @@ use crate::links::{first_child, first_of, payload_of, tag_of};
 use crate::paths::{is_named_part, is_path};
 use crate::rows::{is_row, show_row};
 use grammar::tags::Tag;
-use show::page::{FILE, paint, plain, say, say_byte};
+use show::page::{FILE, Page, paint, plain, say, say_byte};
 use show::records::byte;
 use show::say::{indent, one_more, say_characters};
 use show::texts::{has_lines, show_lines};
@@ -236,7 +236,7 @@ fn push_children(
 }
 
 // The word that a line begins with.
-fn say_joint(page: &mut [u8], how: u8) {
+fn say_joint(page: &mut Page, how: u8) {
     if how == IN {
         say(page, b"in ");
         return;
@@ -245,14 +245,14 @@ fn say_joint(page: &mut [u8], how: u8) {
 }
 
 // The same where there is one.
-fn say_beginning(page: &mut [u8], how: u8) {
+fn say_beginning(page: &mut Page, how: u8) {
     if how != PLAIN {
         say_joint(page, how);
     }
 }
 
 // The value that stands on a record's line.
-fn say_value(page: &mut [u8], image: &[u8], places: &[usize], links: &[usize], r: usize) {
+fn say_value(page: &mut Page, image: &[u8], places: &[usize], links: &[usize], r: usize) {
     say(page, b": ");
     say_leaf(
         page,
@@ -265,7 +265,7 @@ fn say_value(page: &mut [u8], image: &[u8], places: &[usize], links: &[usize], r
 
 // A record with the value that stands on its line; whether it has a last child that does.
 fn say_with_value(
-    page: &mut [u8],
+    page: &mut Page,
     image: &[u8],
     places: &[usize],
     links: &[usize],
@@ -287,7 +287,7 @@ fn say_with_value(
 }
 
 // The same of a record by itself.
-pub fn say_whole(page: &mut [u8], image: &[u8], places: &[usize], links: &[usize], r: usize) {
+pub fn say_whole(page: &mut Page, image: &[u8], places: &[usize], links: &[usize], r: usize) {
     let tag = tag_of(image, links, r);
     let p = payload_of(image, links, r);
     let last = has_last(image, links, r, tag, p);
@@ -296,7 +296,7 @@ pub fn say_whole(page: &mut [u8], image: &[u8], places: &[usize], links: &[usize
 
 // A record's line without its end: what it does to what stands above it, or the record.
 fn say_line(
-    page: &mut [u8],
+    page: &mut Page,
     image: &[u8],
     places: &[usize],
     links: &[usize],
@@ -316,7 +316,7 @@ fn say_line(
 }
 
 // The lines of a text behind its record's line, or dots where they stand too deep.
-fn show_text(page: &mut [u8], p: &[u8], depth: usize, most: usize) {
+fn show_text(page: &mut Page, p: &[u8], depth: usize, most: usize) {
     if most < depth {
         say(page, b" ...\n");
         return;
@@ -327,7 +327,7 @@ fn show_text(page: &mut [u8], p: &[u8], depth: usize, most: usize) {
 
 // A record without children: its line, and behind it a text's own lines.
 fn show_leaf(
-    page: &mut [u8],
+    page: &mut Page,
     places: &[usize],
     tag: u8,
     p: &[u8],
@@ -348,7 +348,7 @@ fn show_leaf(
 
 // The elements of an array of small values behind its line, several to a line, or dots where they stand too deep.
 fn show_elements(
-    page: &mut [u8],
+    page: &mut Page,
     image: &[u8],
     places: &[usize],
     links: &[usize],
@@ -374,7 +374,7 @@ fn is_too_deep(stack: &[usize], before: usize, top: usize, most: usize) -> bool 
     depth_of(stack[top - 1]) > most
 }
 
-fn say_line_end(page: &mut [u8], dots: bool) {
+fn say_line_end(page: &mut Page, dots: bool) {
     if dots {
         say(page, b" ...\n");
         return;
@@ -384,7 +384,7 @@ fn say_line_end(page: &mut [u8], dots: bool) {
 
 // A record's line and what belongs to it, and its children on the stack.
 fn show_record(
-    page: &mut [u8],
+    page: &mut Page,
     image: &[u8],
     places: &[usize],
     links: &[usize],
@@ -412,7 +412,7 @@ fn show_record(
 
 // The next of the stack: a record is shown, or first what it is applied to; or it is too deep.
 fn show_next(
-    page: &mut [u8],
+    page: &mut Page,
     image: &[u8],
     places: &[usize],
     links: &[usize],
@@ -448,7 +448,7 @@ fn show_next(
 
 // The tree of an image that was read back: so many records, each with its links. The root is the last. Lines deeper than `most` are left out.
 pub fn show(
-    page: &mut [u8],
+    page: &mut Page,
     image: &[u8],
     places: &[usize],
     links: &[usize],
@@ -476,7 +476,7 @@ pub fn show(
 }
 
 // The name of the file whose tree follows.
-pub fn tell_name(page: &mut [u8], name: &[u8]) {
+pub fn tell_name(page: &mut Page, name: &[u8]) {
     paint(page, FILE);
     say_characters(page, name);
     say(page, b":");

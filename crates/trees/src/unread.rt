@@ -1,8 +1,8 @@
 // Why an image is not shown.
-use show::page::say;
+use show::page::{Page, say};
 use show::say::{say_characters, say_number};
 
-fn say_why(page: &mut [u8], number: u64) {
+fn say_why(page: &mut Page, number: u64) {
     match number {
         13 => say(page, b"no record has this tag"),
         14 => say(
@@ -22,7 +22,7 @@ fn say_why(page: &mut [u8], number: u64) {
 }
 
 // `NAME: byte OFFSET: WHY.`, by document 02's number.
-pub fn tell(page: &mut [u8], name: &[u8], number: u64, offset: u64) {
+pub fn tell(page: &mut Page, name: &[u8], number: u64, offset: u64) {
     say_characters(page, name);
     say(page, b": byte ");
     say_number(page, offset as usize);
