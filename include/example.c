@@ -1,6 +1,6 @@
 /* Reads one source and prints its image in hex, or why there is none.
-       rt staticlib matigelo
-       cc -Iinclude include/example.c target/staticlib/libmatigelo.a -o example
+       (cd crates/matigelo && rt lib)
+       cc -Iinclude include/example.c crates/matigelo/out/libmatigelo.a -o example
        printf -- '-a*b' | ./example
    prints what readtree prints. An argument is the setting, 0 without one. */
 #include <inttypes.h>

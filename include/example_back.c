@@ -1,7 +1,7 @@
 /* Reads an image back and prints a line for each record: its number, its tag, and the numbers of its children, the
    last first.
-       rt staticlib matigelo
-       cc -Iinclude include/example_back.c target/staticlib/libmatigelo.a -o example_back
+       (cd crates/matigelo && rt lib)
+       cc -Iinclude include/example_back.c crates/matigelo/out/libmatigelo.a -o example_back
        printf '\6\0\5\0\1\0\2a\14\0\1\1' | ./example_back
    prints the tree of `-a`. */
 #include <inttypes.h>

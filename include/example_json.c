@@ -1,6 +1,6 @@
 /* Reads one JSON text and prints its image in hex, or why there is none.
-       rt staticlib matigelo
-       cc -Iinclude include/example_json.c target/staticlib/libmatigelo.a -o example_json
+       (cd crates/matigelo && rt lib)
+       cc -Iinclude include/example_json.c crates/matigelo/out/libmatigelo.a -o example_json
        printf '{"level": -1.5}' | ./example_json
    prints what readjson prints. */
 #include <inttypes.h>

@@ -1,6 +1,6 @@
 /* Lists the objects of an image that raise mass without depth, or depth without mass, a line for each: the object's offset, and the field's place.
-       rt staticlib matigelo
-       cc -Iinclude include/example_mass.c target/staticlib/libmatigelo.a -o example_mass
+       (cd crates/matigelo && rt lib)
+       cc -Iinclude include/example_mass.c crates/matigelo/out/libmatigelo.a -o example_mass
        ./readtree -o image FILE && ./example_mass <image */
 #include <inttypes.h>
 #include <stdio.h>

@@ -1,4 +1,4 @@
-/* The reader of Jsonnet sources, for C. `rt staticlib matigelo` writes target/staticlib/libmatigelo.a, for x86-64 Linux, to link with the
+/* The reader of Jsonnet sources, for C. `rt lib` in crates/matigelo writes out/libmatigelo.a there, for x86-64 Linux, to link with the
    program. It allocates nothing and keeps nothing between calls, so several threads may call it at once. */
 #ifndef MATIGELO_H
 #define MATIGELO_H

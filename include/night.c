@@ -1,6 +1,6 @@
 /* Reads the files that are named in one call and prints a line for each.
-       rt staticlib matigelo
-       cc -Iinclude include/night.c target/staticlib/libmatigelo.a -o night
+       (cd crates/matigelo && rt lib)
+       cc -Iinclude include/night.c crates/matigelo/out/libmatigelo.a -o night
        ./night FILE..
    Each file gets a part of the output that holds every image of it, 16 bytes for each of its own. */
 #include <inttypes.h>

@@ -30,8 +30,8 @@ A station's text, JSON (RFC 8259), is read to the same tree.
 
 Every answer is the proved reader's (crates/matigelo). The shared library is made by `bindings/test`, or by hand:
 
-    rt staticlib matigelo
-    cc -shared -o target/bindings/libmatigelo.so -Wl,--whole-archive target/staticlib/libmatigelo.a -Wl,--no-whole-archive
+    (cd crates/matigelo && rt lib)
+    cc -shared -o target/bindings/libmatigelo.so -Wl,--whole-archive crates/matigelo/out/libmatigelo.a -Wl,--no-whole-archive
 
 MATIGELO_LIB names another file. Reading a source recurses: a thread of your own needs 512 KiB of stack (threading.stack_size).
 """
