@@ -12,8 +12,9 @@ use lib.ListN.{take, get_or}
 use lib.Seq.{take_all}
 use Rattle.numerals.specs.Value.{LIMIT, is_digit, spelled, AtLeast}
 use Rattle.numerals.specs.Inner.{limit_digits, Reaches, Misses, Ordered, equal, above, below, Led, Compares, Pushes, pushed, Says, Decides}
-use Rattle.numerals.specs.declared.Order.{Order}
-use Rattle.numerals.specs.declared.Order.TheVariants.{Equal, Above, Below}
+use Rattle.std.specs.declared.cmp.Ordering.{Ordering}
+use Rattle.std.specs.Ordering.{MatchOrdering}
+use Rattle.std.specs.declared.cmp.Ordering.TheVariants.{Less, Equal, Greater}
 use Rattle.numerals.specs.declared.Lead.{Lead}
 use Rattle.numerals.proofs.Powers.{power-next, power-some, many, few, none}
 use Rattle.numerals.proofs.Spellings.{worth, limit-length, limit-spelled, limit_last, limit-digit, limit-next, limit_cut, is_digit_lem, pushed_none}
@@ -66,38 +67,44 @@ limit_reaches : (n k : ℕ) → k ≡ 309 → n ≡ LIMIT → Reaches n k
 limit_reaches n k h e =
     record { reached = λ up down u. subst (λ (i : ℕ). LIMIT * 10 ^ down ≤ n * 10 ^ i) (omega arith) (subst (λ (x : ℕ). LIMIT * 10 ^ down ≤ x * 10 ^ down) (sym e) (omega arith)) }
 
-pub compares_above : (k b : ℕ) → Compares Above k b Above
+pub compares_above : (k b : ℕ) → Compares Greater k b Greater
 compares_above k b = record { compares = λ n t o. by o }
   where
-    by : {n : ℕ} → Ordered n k Above → Ordered (n * 10 + (b - 48)) (k + 1) Above
+    by : {n : ℕ} → Ordered n k Greater → Ordered (n * 10 + (b - 48)) (k + 1) Greater
     by (above a) = above (still_above (b - 48) a)
 
-pub compares_below : (k b : ℕ) → Compares Below k b Below
+pub compares_below : (k b : ℕ) → Compares Less k b Less
 compares_below k b = record { compares = λ n t o. by (worth b t) o }
   where
-    by : {n : ℕ} → (48 ≤ b) × (b ≤ 57) → Ordered n k Below → Ordered (n * 10 + (b - 48)) (k + 1) Below
+    by : {n : ℕ} → (48 ≤ b) × (b ≤ 57) → Ordered n k Less → Ordered (n * 10 + (b - 48)) (k + 1) Less
     by w (below a) = below (still_below (b - 48) (omega (arith, w.0, w.1)) a)
 
-pub compares_past : (k b : ℕ) → 309 ≤ k → Compares Equal k b Above
+-- What is above or below stays so.
+pub compares_decided : (o : Ordering) (k b : ℕ) → (o ≡ Equal → ⊥) → Compares o k b o
+compares_decided Less k b n = compares_below k b
+compares_decided Equal k b n = absurd (n refl)
+compares_decided Greater k b n = compares_above k b
+
+pub compares_past : (k b : ℕ) → 309 ≤ k → Compares Equal k b Greater
 compares_past k b h = record { compares = λ n t o. by o }
   where
-    by : {n : ℕ} → Ordered n k Equal → Ordered (n * 10 + (b - 48)) (k + 1) Above
+    by : {n : ℕ} → Ordered n k Equal → Ordered (n * 10 + (b - 48)) (k + 1) Greater
     by {n} (equal l e) = above (still_above (b - 48) (limit_reaches n k (omega arith) (is_limit n k h e)))
 
 module _ (k b : ℕ) (h : k < 309) where
   abbrev next : ℕ
   next = get_or limit_digits k 0
 
-  pub compares_more : next < b → Compares Equal k b Above
+  pub compares_more : next < b → Compares Equal k b Greater
   compares_more less = record { compares = λ n t o. by (worth b t) o }
     where
-      by : {n : ℕ} → (48 ≤ b) × (b ≤ 57) → Ordered n k Equal → Ordered (n * 10 + (b - 48)) (k + 1) Above
+      by : {n : ℕ} → (48 ≤ b) × (b ≤ 57) → Ordered n k Equal → Ordered (n * 10 + (b - 48)) (k + 1) Greater
       by {n} w (equal l e) = above (goes_above (n * 10 + (b - 48)) (k + 1) (308 - k) (omega arith) (omega (arith, limit-next k h, w.0, w.1, (worth next (limit-digit k h)).0)))
 
-  pub compares_less : b < next → Compares Equal k b Below
+  pub compares_less : b < next → Compares Equal k b Less
   compares_less less = record { compares = λ n t o. by (worth b t) o }
     where
-      by : {n : ℕ} → (48 ≤ b) × (b ≤ 57) → Ordered n k Equal → Ordered (n * 10 + (b - 48)) (k + 1) Below
+      by : {n : ℕ} → (48 ≤ b) × (b ≤ 57) → Ordered n k Equal → Ordered (n * 10 + (b - 48)) (k + 1) Less
       by {n} w (equal l e) = below (goes_below (n * 10 + (b - 48)) (k + 1) (308 - k) (omega arith) (omega (arith, limit-next k h, w.0, w.1, (worth next (limit-digit k h)).0)))
 
   pub compares_same : next ≡ b → Compares Equal k b Equal
@@ -106,6 +113,12 @@ module _ (k b : ℕ) (h : k < 309) where
       by : {n : ℕ} → Ordered n k Equal → Ordered (n * 10 + (b - 48)) (k + 1) Equal
       by {n} (equal l e) =
           equal (omega arith) (ap (λ (m : ℕ). m * 10 + (b - 48)) e ∙ ap (λ (d : ℕ). spelled 0 (take k limit_digits) * 10 + (d - 48)) (sym same) ∙ sym (limit-next k h))
+
+-- The limit's next digit, compared with this one.
+pub compares_ranked : (k b : ℕ) (h : k < 309) (r : Ordering) → MatchOrdering r (b < next k b h) (b ≡ next k b h) (next k b h < b) → Compares Equal k b r
+compares_ranked k b h Less m = compares_less k b h m
+compares_ranked k b h Equal m = compares_same k b h (sym m)
+compares_ranked k b h Greater m = compares_more k b h m
 
 -- ── What is kept of the digits ────────────────────────────────────────────────────────────────────
 
@@ -127,7 +140,7 @@ module _ (l : Lead) (b : ℕ) where
         grows = omega arith;
       }
 
-  pub pushes_digit : (o : Order) → 48 ≤ b → b ≤ 57 → (l.count + (b - 48) ≡ 0 → ⊥) → Compares l.order l.count b o
+  pub pushes_digit : (o : Ordering) → 48 ≤ b → b ≤ 57 → (l.count + (b - 48) ≡ 0 → ⊥) → Compares l.order l.count b o
       → Pushes l b (record { count = l.count + 1; order = o })
   pushes_digit o low high some c =
       record { step = λ n g. subst (λ (m : ℕ). Led m (record { count = l.count + 1; order = o })) (sym (pushed_is n)) (stepped n g); grows = omega arith }
@@ -157,10 +170,10 @@ module _ (l : Lead) (b : ℕ) where
 -- ── In the end ────────────────────────────────────────────────────────────────────────────────────
 
 module _ (n k up down : ℕ) (e : k + up ≡ 309 + down) where
-  pub above_reaches : Ordered n k Above → AtLeast n up down
+  pub above_reaches : Ordered n k Greater → AtLeast n up down
   above_reaches (above a) = a.reached up down e
 
-  pub below_misses : Ordered n k Below → AtLeast n up down → ⊥
+  pub below_misses : Ordered n k Less → AtLeast n up down → ⊥
   below_misses (below a) h = omega (arith, a.missed up down e, h, add-mul n 1 (10 ^ up), power-some up)
 
   pub equal_reaches : 309 ≤ k → Ordered n k Equal → AtLeast n up down
@@ -212,15 +225,15 @@ module _ (l : Lead) (size down : ℕ) where
       }
 
   module _ (e : size ≡ 309 + down) where
-    pub decides_above : l.order ≡ Above → Decides l size down true
-    decides_above q = decided (λ n up over g h. above_reaches n l.count up (down + over) h (subst (λ (o : Order). Ordered n l.count o) q g.order)) e
+    pub decides_above : l.order ≡ Greater → Decides l size down true
+    decides_above q = decided (λ n up over g h. above_reaches n l.count up (down + over) h (subst (λ (o : Ordering). Ordered n l.count o) q g.order)) e
 
-    pub decides_below : l.order ≡ Below → Decides l size down false
-    decides_below q = decided (λ n up over g h. below_misses n l.count up (down + over) h (subst (λ (o : Order). Ordered n l.count o) q g.order)) e
+    pub decides_below : l.order ≡ Less → Decides l size down false
+    decides_below q = decided (λ n up over g h. below_misses n l.count up (down + over) h (subst (λ (o : Ordering). Ordered n l.count o) q g.order)) e
 
     pub decides_equal : l.order ≡ Equal → Decides l size down (leb 309 l.count)
     decides_equal q = decided (λ n up over g h. by n up over h (leb 309 l.count) (leb→le 309 l.count) (λ t. nleb→lt 309 l.count t)
-        (subst (λ (o : Order). Ordered n l.count o) q g.order)) e
+        (subst (λ (o : Ordering). Ordered n l.count o) q g.order)) e
       where
         by : (n up over : ℕ) → l.count + up ≡ 309 + (down + over) → (r : Bool) → (T r → 309 ≤ l.count) → (T (not r) → l.count < 309) → Ordered n l.count Equal
             → Says r (AtLeast n up (down + over))

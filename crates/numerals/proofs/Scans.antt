@@ -10,7 +10,10 @@ use native.Mathlib.Numerals.{add-one}
 use lib.Dec.{T, eqb, eqb→eq, eqb_refl, ltb, leb-zero, leb-suc-suc}
 use lib.ListN.{length, take, drop, get_or, drop_of_length-le}
 use lib.Seq.{take-suc, drop-cons}
-use Rattle.numerals.specs.Value.{before, behind, has}
+use Rattle.std.specs.Prelude.{count_by}
+use Rattle.std.proofs.lemmas.List.Sums.{sum_by-cons}
+use Rattle.std.specs.Char.{is_ascii_digit}
+use Rattle.numerals.specs.Value.{is_digit, digits, before, behind, has}
 use Rattle.numerals.specs.Inner.{Found, Past}
 
 is_eqb : (b x : ℕ) → b ≡ x → T (eqb b x)
@@ -140,3 +143,13 @@ found_between x y (b ∷ t) = by (eqb b x || eqb b y) (found_between x y t)
         → 1 ≤ length (cond p t (behind x y t)) → length (cond p [] (b ∷ before x y t)) + length (cond p t (behind x y t)) < suc (length t)
     by true h k = omega arith
     by false h k = omega (arith, h k)
+
+-- A chain's count of the digits.
+pub counted : (t : List ℕ) → count_by is_ascii_digit t ≡ digits t
+unfolding digits
+counted [] = refl
+counted (b ∷ t) = sum_by-cons (λ (x : ℕ). cond (is_ascii_digit x) 1 0) b t ∙ by (is_digit b) (counted t)
+  where
+    by : (p : Bool) → count_by is_ascii_digit t ≡ digits t → cond p 1 0 + count_by is_ascii_digit t ≡ cond p (1 + digits t) (digits t)
+    by true h = ap (λ (n : ℕ). 1 + n) h
+    by false h = omega (arith, h)

@@ -4,8 +4,8 @@ use Rattle.std.specs.Prelude.{◌≡◌, Bool, true, false, cond, List, [], ◌�
 use Prim.Native.Char.{code}
 use Prim.Native.String.{String, [] as nil, ◌∷◌ as ◌then◌}
 use Rattle.numerals.specs.Value.{LIMIT, is_digit, spelled, before, behind, AtLeast}
-use Rattle.numerals.specs.declared.Order.{Order}
-use Rattle.numerals.specs.declared.Order.TheVariants.{Equal, Above, Below}
+use Rattle.std.specs.declared.cmp.Ordering.{Ordering}
+use Rattle.std.specs.declared.cmp.Ordering.TheVariants.{Less, Equal, Greater}
 use Rattle.numerals.specs.declared.Lead.{Lead}
 
 abbrev pub ascii : String → List ℕ
@@ -26,10 +26,10 @@ pub record Misses (n k : ℕ) : Type 0 where
   pub missed : (up down : ℕ) → k + up ≡ 309 + down → (n + 1) * 10 ^ up ≤ LIMIT * 10 ^ down
 
 -- How k digits, which spell n, stand to the limit's first ones.
-pub data Ordered (n k : ℕ) : Order → Type 0 where
+pub data Ordered (n k : ℕ) : Ordering → Type 0 where
   equal : k ≤ 309 → n ≡ spelled 0 (take k limit_digits) → Ordered n k Equal
-  above : Reaches n k → Ordered n k Above
-  below : Misses n k → Ordered n k Below
+  above : Reaches n k → Ordered n k Greater
+  below : Misses n k → Ordered n k Less
 
 -- What is kept of the digits so far, which spell n: how many there are from the first that is not 0 on, and how these stand to the limit's.
 pub record Led (n : ℕ) (l : Lead) : Type 0 where
@@ -41,7 +41,7 @@ pub record Led (n : ℕ) (l : Lead) : Type 0 where
 abbrev pub pushed : ℕ → ℕ → ℕ
 pushed n b = cond (is_digit b) (n * 10 + (b - code "0")) n
 
-pub record Compares (o : Order) (k b : ℕ) (r : Order) : Type 0 where
+pub record Compares (o : Ordering) (k b : ℕ) (r : Ordering) : Type 0 where
   pub compares : (n : ℕ) → T (is_digit b) → Ordered n k o → Ordered (n * 10 + (b - code "0")) (k + 1) r
 
 pub record Pushes (l : Lead) (b : ℕ) (r : Lead) : Type 0 where

@@ -6,13 +6,18 @@ use mathlib.Core.Logic.{inl, inr}
 use Prim.Native.Nat.{ℕ, zero, suc, ◌+◌, ◌-◌, ◌*◌, ◌≤◌, ◌<◌}
 use native.Mathlib.Omega.{arith}
 use native.Mathlib.Decide.{dec_lt}
-use lib.ListN.{length, get_or, drop, length-drop, get_or-eq_default}
+use lib.ListN.{length, get_or, take, drop, length-drop, get_or-eq_default, drop_of_length-le}
+use lib.Dec.{eqb}
+use mathlib.Core.Bool.{Bool, true, false}
+use Rattle.std.specs.List.{starts_with}
+use Rattle.std.proofs.lemmas.List.{take_rest}
+use Rattle.std.proofs.lemmas.Slice.Eq.{starts_is}
+use Rattle.std.proofs.lemmas.Bool.Decides.{Decides-eqb}
 use lib.Seq.{drop-drop, get_or-drop}
 use Rattle.strings.specs.Utf8.{In, Scalar}
 use Rattle.strings.specs.Literals.{Hex, digit, upper, lower, Four, four, Low, low, Letter, backslash, double, single, backspace, form_feed, line_feed, return, tab, Escape, letter, unit, pair, two}
-use Rattle.strings.specs.Inner.{Digit, Spelled, Halved, Meant, EscapeAt, code, broken}
-use Rattle.strings.specs.Inner as inner
-use Rattle.strings.specs.declared.string.Escaped.TheVariants.{Code, Broken}
+use Rattle.std.specs.Prelude.{Some, None}
+use Rattle.strings.specs.Inner.{Spelled, Halved, EscapeTo, EscapeAt}
 
 -- ---- hex digits
 
@@ -42,14 +47,6 @@ no_hex b f g h v (digit x) = f x
 no_hex b f g h v (upper x) = g x
 no_hex b f g h v (lower x) = h x
 
-pub digit_is : {b r : ℕ} → Digit b r → r ≤ 15 → Hex b r
-digit_is (inner.Digit.is h) g = h
-digit_is (inner.Digit.none h) g = absurd (omega arith)
-
-pub digit_none : {b r : ℕ} → Digit b r → 15 < r → (v : ℕ) → Hex b v → ⊥
-digit_none (inner.Digit.is h) g v x = omega (arith, hex_small h)
-digit_none (inner.Digit.none h) g v x = h v x
-
 -- ---- four of them
 
 pub four_small : {s r : List ℕ} {n : ℕ} → Four s n r → n < 0x10000
@@ -64,12 +61,12 @@ four_rest (four a b c d) = refl
 pub four_once : {s r q : List ℕ} {n m : ℕ} → Four s n r → Four s m q → (n ≡ m) × (r ≡ q)
 four_once (four a b c d) (four e f g h) = (omega (arith, hex_once a e, hex_once b f, hex_once c g, hex_once d h), refl)
 
-pub four_is : (s : List ℕ) {v w x y : ℕ} → Hex (get_or s 0 0) v → Hex (get_or s 1 0) w → Hex (get_or s 2 0) x → Hex (get_or s 3 0) y → Spelled s (v * 0x1000 + w * 0x100 + x * 0x10 + y)
+pub four_is : (s : List ℕ) {v w x y : ℕ} → Hex (get_or s 0 0) v → Hex (get_or s 1 0) w → Hex (get_or s 2 0) x → Hex (get_or s 3 0) y → Spelled s (Some (v * 0x1000 + w * 0x100 + x * 0x10 + y))
 four_is [] p q r t = absurd (omega (arith, hex_byte t))
 four_is (a ∷ []) p q r t = absurd (omega (arith, hex_byte t))
 four_is (a ∷ b ∷ []) p q r t = absurd (omega (arith, hex_byte t))
 four_is (a ∷ b ∷ c ∷ []) p q r t = absurd (omega (arith, hex_byte t))
-four_is (a ∷ b ∷ c ∷ d ∷ s) p q r t = inner.Spelled.is (four p q r t)
+four_is (a ∷ b ∷ c ∷ d ∷ s) p q r t = (_, four p q r t)
 
 -- each of the first four bytes is a digit
 pub four_digits : {s r : List ℕ} {n : ℕ} → Four s n r → (k : ℕ) → k < 4 → (v : ℕ) × Hex (get_or s k 0) v
@@ -79,20 +76,8 @@ four_digits (four a b c d) (suc (suc zero)) h = (_, c)
 four_digits (four a b c d) (suc (suc (suc zero))) h = (_, d)
 four_digits (four a b c d) (suc (suc (suc (suc k)))) h = absurd (omega arith)
 
-pub not_four : (s : List ℕ) (k : ℕ) → k < 4 → ((v : ℕ) → Hex (get_or s k 0) v → ⊥) → Spelled s 0x10000
-not_four s k h f = inner.Spelled.none (λ n r x. let d = four_digits x k h in f d.0 d.1)
-
-pub spelled_is : {s : List ℕ} {n : ℕ} → Spelled s n → n < 0x10000 → (r : List ℕ) × Four s n r
-spelled_is (inner.Spelled.is h) g = (_, h)
-spelled_is (inner.Spelled.none h) g = absurd (omega arith)
-
-pub spelled_none : {s : List ℕ} {n : ℕ} → Spelled s n → 0xFFFF < n → (m : ℕ) (r : List ℕ) → Four s m r → ⊥
-spelled_none (inner.Spelled.is h) g m r x = omega (arith, four_small h)
-spelled_none (inner.Spelled.none h) g m r x = h m r x
-
-pub spelled_else : {s r : List ℕ} {n lo : ℕ} → Spelled s n → (In 0xDC00 0xDFFF n → ⊥) → Four s lo r → In 0xDC00 0xDFFF lo → ⊥
-spelled_else (inner.Spelled.is f) h x l = h (omega (arith, (four_once f x).0))
-spelled_else (inner.Spelled.none f) h x l = f _ _ x
+pub not_four : (s : List ℕ) (k : ℕ) → k < 4 → ((v : ℕ) → Hex (get_or s k 0) v → ⊥) → Spelled s None
+not_four s k h f = λ n r x. let d = four_digits x k h in f d.0 d.1
 
 -- ---- a low half
 
@@ -105,26 +90,17 @@ low_long (low f g) = omega (arith, four_long f)
 low_rest : {s r : List ℕ} {n : ℕ} → Low s n r → r ≡ drop 6 s
 low_rest (low f g) = four_rest f
 
-pub low_is : (s : List ℕ) {lo : ℕ} → get_or s 0 0 ≡ 0x5C → get_or s 1 0 ≡ 0x75 → Spelled (drop 2 s) lo → In 0xDC00 0xDFFF lo → Halved s lo
+low_begins : {s r : List ℕ} {lo : ℕ} → Low s lo r → (q : List ℕ) × (s ≡ 0x5C ∷ 0x75 ∷ q)
+low_begins (low {s = s} f g) = (s, refl)
+
+pub low_is : (s : List ℕ) {lo : ℕ} → get_or s 0 0 ≡ 0x5C → get_or s 1 0 ≡ 0x75 → Spelled (drop 2 s) (Some lo) → In 0xDC00 0xDFFF lo → Halved s (Some lo)
 low_is [] e f g h = absurd (omega arith)
 low_is (a ∷ []) e f g h = absurd (omega arith)
-low_is (a ∷ b ∷ s) e f g h = rw (e, f) (inner.Halved.is (low (spelled_is g (omega arith)).1 h))
+low_is (a ∷ b ∷ s) e f g h = rw (e, f) (g.0, low g.1 h)
 
 -- what a low half shows of its bytes
 pub low_bytes : {s r : List ℕ} {lo : ℕ} → Low s lo r → (get_or s 0 0 ≡ 0x5C) × (get_or s 1 0 ≡ 0x75) × Four (drop 2 s) lo r × In 0xDC00 0xDFFF lo
 low_bytes (low f g) = (refl, refl, f, g)
-
-pub halved_small : {s : List ℕ} {lo : ℕ} → Halved s lo → lo ≤ 0xDFFF
-halved_small (inner.Halved.is h) = (low_bytes h).3.1
-halved_small (inner.Halved.none h) = omega arith
-
-pub halved_is : {s : List ℕ} {lo : ℕ} → Halved s lo → 0xDC00 ≤ lo → (r : List ℕ) × Low s lo r
-halved_is (inner.Halved.is h) g = (_, h)
-halved_is (inner.Halved.none h) g = absurd (omega arith)
-
-pub halved_none : {s : List ℕ} {lo : ℕ} → Halved s lo → lo < 0xDC00 → (m : ℕ) (r : List ℕ) → Low s m r → ⊥
-halved_none (inner.Halved.is h) g m r x = omega (arith, (low_bytes h).3)
-halved_none (inner.Halved.none h) g m r x = h m r x
 
 -- ---- letters
 
@@ -159,14 +135,6 @@ no_letter l a b c d e f g h m form_feed = e refl
 no_letter l a b c d e f g h m line_feed = f refl
 no_letter l a b c d e f g h m return = g refl
 no_letter l a b c d e f g h m tab = h refl
-
-pub meant_is : {l c : ℕ} → Meant l c → c < 256 → Letter l c
-meant_is (inner.Meant.is h) g = h
-meant_is (inner.Meant.none h) g = absurd (omega arith)
-
-pub meant_none : {l c : ℕ} → Meant l c → 256 ≤ c → (d : ℕ) → Letter l d → ⊥
-meant_none (inner.Meant.is h) g d x = omega (arith, letter_low h)
-meant_none (inner.Meant.none h) g d x = h d x
 
 -- ---- escapes
 
@@ -243,10 +211,10 @@ escape_rest (pair {s = s} f g h) k e =
     rw n (low_rest h ∙ ap (drop 6) (four_rest f) ∙ drop-drop 6 4 s)
 escape_rest (two h g) k e = let n : k ≡ 3 = omega arith in rw n
 
-pub escape_at : (s : List ℕ) (i k : ℕ) {c : ℕ} → i ≤ length s → 0 < k → Escapes (drop i s) c k → EscapeAt s i (Code c (i + k))
+pub escape_at : (s : List ℕ) (i k : ℕ) {c : ℕ} → i ≤ length s → 0 < k → Escapes (drop i s) c k → EscapeTo s i c (i + k)
 escape_at s i k h g x =
     let r : x.rest ≡ drop (i + k) s = escape_rest x.escape k x.long ∙ drop-drop k i s in
-    code {j = i + k} (rw r at x.escape) (omega arith) (omega (arith, x.long, length-drop i s))
+    (rw r at x.escape, omega arith, omega (arith, x.long, length-drop i s))
 
 pub escape_once : {s r q : List ℕ} {c d : ℕ} → Escape s c r → Escape s d q → (c ≡ d) × (r ≡ q)
 escape_once (letter h) (letter g) = (letter_once h g, refl)
@@ -274,21 +242,35 @@ byte_in s i k b e h = by (dec_lt (i + k) (length s))
     by (yes g) = g
     by (no g) = absurd (omega (arith, get_or-drop i s k 0, get_or-eq_default s 0 {n = i + k} (omega arith)))
 
+pub first_in : (s : List ℕ) (i : ℕ) → get_or s i 0 ≡ get_or (drop i s) 0 0
+first_in s i = let k : i ≡ i + 0 = omega arith in rw (get_or-drop i s 0 0) (ap (λ (j : ℕ). get_or s j 0) k)
+
+pub no_escape_end : (s : List ℕ) (i : ℕ) → length s ≤ i → EscapeAt s i None
+no_escape_end s i h = rw (drop_of_length-le s h) (no_escape [] (λ c h. omega (arith, letter_low h)) (λ e. omega arith) (λ e. omega arith))
+
+-- what the test for `\u` says of the rest that it looks at
+module _ (s : List ℕ) (i : ℕ) (b : Bool) (e : b ≡ starts_with eqb (take (length s - i) (drop i s)) (0x5C ∷ 0x75 ∷ [])) where
+  found : (b ≡ true → drop i s ≡ 0x5C ∷ 0x75 ∷ drop 2 (drop i s)) × ((r : List ℕ) → drop i s ≡ 0x5C ∷ 0x75 ∷ r → b ≡ true)
+  found = starts_is {E = eqb} Decides-eqb (drop i s) (0x5C ∷ 0x75 ∷ []) b (rw take_rest at e)
+
+  pub begins_u : b ≡ true → (get_or (drop i s) 0 0 ≡ 0x5C) × (get_or (drop i s) 1 0 ≡ 0x75)
+  begins_u h = let f = found.0 h in (ap (λ (l : List ℕ). get_or l 0 0) f, ap (λ (l : List ℕ). get_or l 1 0) f)
+
+  pub no_u : b ≡ false → Halved (drop i s) None
+  no_u h = λ lo r x. let f = low_begins x in cc (found.1 f.0 f.1)
+
 module _ (s : List ℕ) (i : ℕ) where
-  pub low_at : {lo : ℕ} → get_or (drop i s) 0 0 ≡ 0x5C → get_or (drop i s) 1 0 ≡ 0x75 → Spelled (drop (i + 2) s) lo → In 0xDC00 0xDFFF lo → Halved (drop i s) lo
+  pub low_at : {lo : ℕ} → get_or (drop i s) 0 0 ≡ 0x5C → get_or (drop i s) 1 0 ≡ 0x75 → Spelled (drop (i + 2) s) (Some lo) → In 0xDC00 0xDFFF lo → Halved (drop i s) (Some lo)
   low_at e f g h = low_is (drop i s) e f (rw (sym (drop-drop 2 i s)) at g) h
 
-  pub no_backslash : (get_or (drop i s) 0 0 ≡ 0x5C → ⊥) → Halved (drop i s) 0
-  no_backslash h = inner.Halved.none (λ lo r x. h (low_bytes x).0)
+  pub no_spelled : Spelled (drop (i + 2) s) None → Halved (drop i s) None
+  no_spelled g = λ lo r x. let b = low_bytes x in g lo r (rw (drop-drop 2 i s) at b.2)
 
-  pub no_u : (get_or (drop i s) 1 0 ≡ 0x75 → ⊥) → Halved (drop i s) 0
-  no_u h = inner.Halved.none (λ lo r x. h (low_bytes x).1)
-
-  pub not_low : {n : ℕ} → Spelled (drop (i + 2) s) n → (In 0xDC00 0xDFFF n → ⊥) → Halved (drop i s) 0
-  not_low g h = inner.Halved.none (λ lo r x. spelled_else g h (rw (drop-drop 2 i s) at (low_bytes x).2) (low_bytes x).3)
+  pub not_low : {n : ℕ} → Spelled (drop (i + 2) s) (Some n) → (In 0xDC00 0xDFFF n → ⊥) → Halved (drop i s) None
+  not_low g h = λ lo r x. let b = low_bytes x in h (omega (arith, b.3, (four_once g.1 (rw (drop-drop 2 i s) at b.2)).0))
 
 module _ (s : List ℕ) (i : ℕ) (here : i < length s) (u : get_or (drop i s) 0 0 ≡ 0x75) where
-  pub unit_at : {n : ℕ} {r : List ℕ} → Four (drop (i + 1) s) n r → Scalar n → EscapeAt s i (Code n (i + 5))
+  pub unit_at : {n : ℕ} {r : List ℕ} → Four (drop (i + 1) s) n r → Scalar n → EscapeTo s i n (i + 5)
   unit_at f g = escape_at s i 5 (omega arith) (omega arith) (unit_is (drop i s) u (rw (sym (drop-drop 1 i s)) at f) g)
 
   after_unit : {n : ℕ} {r : List ℕ} → Four (drop (i + 1) s) n r → r ≡ drop (i + 5) s
@@ -296,27 +278,30 @@ module _ (s : List ℕ) (i : ℕ) (here : i < length s) (u : get_or (drop i s) 0
 
   pub pair_at :
       {hi lo : ℕ} {q r : List ℕ} → Four (drop (i + 1) s) hi q → In 0xD800 0xDBFF hi → Low (drop (i + 5) s) lo r →
-      EscapeAt s i (Code (0x10000 + (hi - 0xD800) * 0x400 + (lo - 0xDC00)) (i + 11))
+      EscapeTo s i (0x10000 + (hi - 0xD800) * 0x400 + (lo - 0xDC00)) (i + 11)
   pair_at f g h =
       escape_at s i 11 (omega arith) (omega arith)
       (pair_is (drop i s) u (rw (sym (drop-drop 1 i s)) at f) g (rw (sym (after_unit f)) at h))
 
-  pub room : {n : ℕ} → Spelled (drop (i + 1) s) n → n < 0x10000 → i + 5 ≤ length s
-  room h g = let f = spelled_is h g in omega (arith, four_long f.1, length-drop (i + 1) s)
+  pub room : {n : ℕ} {r : List ℕ} → Four (drop (i + 1) s) n r → i + 5 ≤ length s
+  room f = omega (arith, four_long f, length-drop (i + 1) s)
 
-  pub unit_broken : (Units (drop (i + 1) s) → ⊥) → EscapeAt s i Broken
-  unit_broken h = broken (λ c r x. h (rw (drop-drop 1 i s) at (u_view x u)))
+  pub unit_broken : (Units (drop (i + 1) s) → ⊥) → EscapeAt s i None
+  unit_broken h = λ c r x. h (rw (drop-drop 1 i s) at (u_view x u))
 
   pub pair_broken :
-      {n : ℕ} {r : List ℕ} → Four (drop (i + 1) s) n r → In 0xD800 0xDBFF n → ((m : ℕ) (q : List ℕ) → Low (drop (i + 5) s) m q → ⊥) → EscapeAt s i Broken
+      {n : ℕ} {r : List ℕ} → Four (drop (i + 1) s) n r → In 0xD800 0xDBFF n → ((m : ℕ) (q : List ℕ) → Low (drop (i + 5) s) m q → ⊥) → EscapeAt s i None
   pair_broken f g h = unit_broken (high_unit f g (λ m q x. h m q (rw (after_unit f) at x)))
 
 module _ (s : List ℕ) (i : ℕ) (here : i ≤ length s) (x : get_or (drop i s) 0 0 ≡ 0x78) where
-  pub two_at : {v w : ℕ} → Hex (get_or (drop i s) 1 0) v → Hex (get_or (drop i s) 2 0) w → EscapeAt s i (Code (v * 0x100 + w) (i + 3))
+  pub two_at : {v w : ℕ} → Hex (get_or (drop i s) 1 0) v → Hex (get_or (drop i s) 2 0) w → EscapeTo s i (v * 0x100 + w) (i + 3)
   two_at h g = escape_at s i 3 here (omega arith) (two_is (drop i s) x h g)
 
-  pub no_first : ((v : ℕ) → Hex (get_or (drop i s) 1 0) v → ⊥) → EscapeAt s i Broken
-  no_first h = broken (λ c r e. let d = x_view e x in h d.0 d.2)
+  pub no_two : length s < i + 3 → EscapeAt s i None
+  no_two h = λ c r e. let d = x_view e x in omega (arith, byte_in s i 2 (get_or (drop i s) 2 0) refl (omega (arith, hex_byte d.3)))
 
-  pub no_second : ((v : ℕ) → Hex (get_or (drop i s) 2 0) v → ⊥) → EscapeAt s i Broken
-  no_second h = broken (λ c r e. let d = x_view e x in h d.1 d.3)
+  pub no_first : ((v : ℕ) → Hex (get_or (drop i s) 1 0) v → ⊥) → EscapeAt s i None
+  no_first h = λ c r e. let d = x_view e x in h d.0 d.2
+
+  pub no_second : ((v : ℕ) → Hex (get_or (drop i s) 2 0) v → ⊥) → EscapeAt s i None
+  no_second h = λ c r e. let d = x_view e x in h d.1 d.3

@@ -11,8 +11,7 @@ use lib.Seq.{append_snoc, get_or-drop}
 use Rattle.strings.specs.Utf8.{In, utf8, Utf8, more, row_00_7F}
 use Rattle.strings.specs.Literals.{Four, four, Low, low, Escape, letter, unit, pair, two, Quoted, BadEscape, here, past_plain, past_escape, Begins, Verbatim}
 use Rattle.strings.specs.Literals as literals
-use Rattle.strings.specs.Decoding.{Decoding, Never}
-use Rattle.strings.specs.declared.Decoded.{Decoded}
+use Rattle.strings.specs.Decoding.{Decoded, Decoding, Never}
 use Rattle.strings.proofs.DecodingLaws.{decoding_once}
 use Rattle.strings.proofs.Utf8Laws.{utf8-utf8}
 use Rattle.strings.proofs.CharacterLaws.{utf8_append, ascii-rest, ascii_splits}

@@ -12,8 +12,8 @@ use Rattle.strings.specs.Utf8.{utf8, Scalar}
 use Rattle.strings.specs.Literals.{Escape, letter, unit, pair, two, Quoted, BadEscape, here, past_plain, past_escape, Verbatim, Begins}
 use Rattle.strings.specs.Decoding.{Never}
 use Rattle.strings.specs.Literals as literals
-use Rattle.strings.specs.Inner.{EscapeAt, code, broken}
-use Rattle.strings.specs.declared.string.Escaped.TheVariants.{Code, Broken}
+use Rattle.std.specs.Prelude.{None}
+use Rattle.strings.specs.Inner.{EscapeTo, EscapeAt}
 use Rattle.strings.proofs.Utf8Laws.{utf8_size}
 use Rattle.strings.proofs.Escapes.{hex_small, four_long, low_long, low_bytes, letter_low}
 use Rattle.strings.proofs.Stores.{drop-next}
@@ -48,8 +48,8 @@ pub record Coded (s : List ℕ) (i c j : ℕ) : Type 0 where
   pub below : c < 0x110000
   pub short : length (utf8 c) ≤ j - i
 
-pub coded : {s : List ℕ} {i c j : ℕ} → EscapeAt s i (Code c j) → Coded s i c j
-coded {s} {i} {c} {j} (code e h g) =
+pub coded : {s : List ℕ} {i c j : ℕ} → EscapeTo s i c j → Coded s i c j
+coded {s} {i} {c} {j} (e, h, g) =
     record {
       escape = e;
       on = h;
@@ -66,7 +66,7 @@ module _ {s out₀ out : List ℕ} {i n : ℕ} (w : Walked Quoted BadEscape s ou
       (λ k f. let far : i + 1 - i + k ≡ suc k = omega arith in rw (drop-next s i h, far) (past_plain g f))
 
   pub quoted_escape :
-      (out₁ : List ℕ) (c j m : ℕ) → get_or s i 0 ≡ 0x5C → EscapeAt s (i + 1) (Code c j) → out₁ ≡ sets out n (utf8 c) → m ≡ n + length (utf8 c) →
+      (out₁ : List ℕ) (c j m : ℕ) → get_or s i 0 ≡ 0x5C → EscapeTo s (i + 1) c j → out₁ ≡ sets out n (utf8 c) → m ≡ n + length (utf8 c) →
       Walked Quoted BadEscape s out₀ j m out₁
   quoted_escape out₁ c j m g e p q =
       let found = coded e in
@@ -77,8 +77,8 @@ module _ {s out₀ out : List ℕ} {i n : ℕ} (w : Walked Quoted BadEscape s ou
       let far : j - i + k ≡ suc (j - (i + 1) + k) = omega (arith, found.on) in
       rw (drop-next s i h, g, far) (past_escape (j - (i + 1)) found.escape wide f))
 
-  pub quoted_broken : get_or s i 0 ≡ 0x5C → EscapeAt s (i + 1) Broken → BadEscape (drop i s) 0
-  quoted_broken g (broken b) = rw (drop-next s i h, g) (here b)
+  pub quoted_broken : get_or s i 0 ≡ 0x5C → EscapeAt s (i + 1) None → BadEscape (drop i s) 0
+  quoted_broken g b = rw (drop-next s i h, g) (here b)
 
 -- ---- verbatim
 

@@ -9,8 +9,7 @@ use native.Mathlib.Decide.{dec_lt}
 use lib.ListN.{length}
 use borrow.Author.Tests.{lt-ltb, le-ltb}
 use Rattle.strings.specs.Utf8.{Tail, In, Character, row_00_7F, row_C2_DF, row_E0, row_E1_EC, row_ED, row_EE_EF, row_F0, row_F1_F3, row_F4, Utf8, Scalar, utf8, Encodes, encoded}
-use Rattle.strings.specs.Decoding.{Decoding, Missing}
-use Rattle.strings.specs.declared.Decoded.{Decoded}
+use Rattle.strings.specs.Decoding.{Decoded, Decoding, Missing}
 use Rattle.strings.proofs.DecodingLaws.{missing_once}
 use Rattle.strings.proofs.CharacterLaws.{utf8_one}
 

@@ -8,7 +8,7 @@ use native.Mathlib.Nat.{zero-add}
 use lib.ListN.{length, drop, replicate, length-append, drop_of_length-le}
 use lib.Seq.{sets, length-sets}
 use Rattle.strings.specs.Decoding.{Decoding, text, refused}
-use Rattle.strings.specs.declared.Decoded.TheVariants.{Text, Refused}
+use Rattle.std.specs.Prelude.{Ok, Err}
 use Rattle.strings.proofs.Stores.{sets_append}
 
 -- The first i bytes of s are read, and what they mean is stored: `Means` of the rest goes on to `Means` of the whole, and a `Fault` of the rest is
@@ -55,10 +55,10 @@ module _ (Means : List ℕ → List ℕ → Type 0) (Fault : List ℕ → ℕ �
     pub same_size : length out ≡ length out₀
     same_size = ap length w.stored ∙ length-sets out₀ 0 w.done
 
-    pub ended : length s ≤ i → Means [] [] → Decoding (Means s) (Fault s) out₀ (Text n) out
+    pub ended : length s ≤ i → Means [] [] → Decoding (Means s) (Fault s) out₀ (Ok n) out
     ended h e =
         let whole : Means s w.done = rw append-nil at (w.onward [] (rw (drop_of_length-le s h) e)) in
         rw (w.count, w.stored) (text whole)
 
-    pub broke : (out₁ : List ℕ) → out₁ ≡ replicate (length out) 0 → Fault (drop i s) 0 → Decoding (Means s) (Fault s) out₀ (Refused i) out₁
+    pub broke : (out₁ : List ℕ) → out₁ ≡ replicate (length out) 0 → Fault (drop i s) 0 → Decoding (Means s) (Fault s) out₀ (Err (record { at = i })) out₁
     broke out₁ e f = let p : i + 0 ≡ i = omega arith in rw (e, same_size) (refused (subst (Fault s) p (w.further 0 f)))

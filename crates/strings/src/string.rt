@@ -5,71 +5,45 @@ ghost use Rattle.strings.specs.Decoding.{Decoding, Never};
 ghost use Rattle.strings.specs.Inner.{Says, Digit, Spelled, Halved, Meant, EscapeAt};
 
 use crate::utf8::put_code;
-use crate::{Decoded, clear, put};
+use crate::{Decoded, Refused, clear, put};
 
 // An escape's code point and the place after it.
-#[derive(Drop)]
-pub enum Escaped {
-    Code(u32, usize),
-    Broken,
+#[derive(Clone, Copy)]
+pub struct Escaped {
+    pub code: u32,
+    pub next: usize,
 }
 
-// The byte k places after i, 0 past the end: 0 is in no escape.
-fn peek(s: &[u8], i: usize, k: usize) -> u8
-    requires { (i ≤ length s.now) × (k ≤ 16) }
-    ensures { result ≡ get_or (drop i s.now) k 0 }
-{
-    let at = i + k;
-    if at < s.len() { s[at] } else { 0 }
-}
-
-// The value of a hex digit, 16 for another byte.
-pub fn to_digit(b: u8) -> u32
+// The value of a hex digit.
+pub fn to_digit(b: u8) -> Option<u32>
     ensures { Digit b result }
 {
     match b {
-        b'0'..=b'9' => (b - 0x30) as u32,
-        b'A'..=b'F' => (b - 0x37) as u32,
-        b'a'..=b'f' => (b - 0x57) as u32,
-        _ => 16,
+        b'0'..=b'9' => Some((b - b'0') as u32),
+        b'A'..=b'F' => Some((b - b'A') as u32 + 10),
+        b'a'..=b'f' => Some((b - b'a') as u32 + 10),
+        _ => None,
     }
 }
 
-// The value of the hex digit k places after i.
-fn digit_at(s: &[u8], i: usize, k: usize) -> u32
-    requires { (i ≤ length s.now) × (k ≤ 16) }
-    ensures { Digit (get_or (drop i s.now) k 0) result }
-{
-    to_digit(peek(s, i, k))
-}
-
-fn decode_unicode(s: &[u8], i: usize) -> u32
+// The number that four hex digits spell.
+fn decode_unicode(s: &[u8], i: usize) -> Option<u32>
     requires { i ≤ length s.now }
     ensures { Spelled (drop i s.now) result }
 {
-    let a = digit_at(s, i, 0);
-    if 15 < a {
-        return 0x10000;
-    }
-    let b = digit_at(s, i, 1);
-    if 15 < b {
-        return 0x10000;
-    }
-    let c = digit_at(s, i, 2);
-    if 15 < c {
-        return 0x10000;
-    }
-    let d = digit_at(s, i, 3);
-    if 15 < d {
-        return 0x10000;
-    }
-    a * 0x1000 + b * 0x100 + c * 0x10 + d
+    let [a, b, c, d, ..] = &s[i..] else {
+        return None;
+    };
+    let high = to_digit(*a)? * 0x10 + to_digit(*b)?;
+    let low = to_digit(*c)? * 0x10 + to_digit(*d)?;
+    Some(high * 0x100 + low)
 }
 
-fn letter(l: u8) -> u32
+// What a letter after a backslash stands for.
+fn letter(l: u8) -> Option<u32>
     ensures { Meant l result }
 {
-    match l {
+    let code = match l {
         b'\\' => 0x5C,
         b'"' => 0x22,
         b'\'' => 0x27,
@@ -78,88 +52,74 @@ fn letter(l: u8) -> u32
         b'n' => 0x0A,
         b'r' => 0x0D,
         b't' => 0x09,
-        _ => 256,
-    }
+        _ => return None,
+    };
+    Some(code)
 }
 
 // `\x`: the Rust shifts by eight, so that two digits are 256d+e.
-fn two_at(s: &[u8], i: usize) -> Escaped
-    requires { (i ≤ length s.now) × (get_or (drop i s.now) 0 0 ≡ 0x78) }
+fn two_at(s: &[u8], i: usize) -> Option<Escaped>
+    requires { (i < length s.now) × (get_or (drop i s.now) 0 0 ≡ 0x78) }
     ensures { EscapeAt s.now i result }
 {
-    let d = digit_at(s, i, 1);
-    if 15 < d {
-        return Escaped::Broken;
-    }
-    let e = digit_at(s, i, 2);
-    if 15 < e {
-        return Escaped::Broken;
-    }
-    Escaped::Code(d * 0x100 + e, i + 3)
+    let [_, d, e, ..] = &s[i..] else {
+        return None;
+    };
+    Some(Escaped {
+        code: to_digit(*d)? * 0x100 + to_digit(*e)?,
+        next: i + 3,
+    })
 }
 
 // The low half of a pair, with its `\u`.
-fn low_at(s: &[u8], i: usize) -> u32
+fn low_at(s: &[u8], i: usize) -> Option<u32>
     requires { i ≤ length s.now }
     ensures { Halved (drop i s.now) result }
 {
-    if peek(s, i, 0) != b'\\' {
-        return 0;
+    if !s[i..].starts_with(b"\\u") {
+        return None;
     }
-    if peek(s, i, 1) != b'u' {
-        return 0;
+    match decode_unicode(s, i + 2)? {
+        low @ 0xDC00..=0xDFFF => Some(low),
+        _ => None,
     }
-    let lo = decode_unicode(s, i + 2);
-    if lo < 0xDC00 {
-        return 0;
-    }
-    if 0xDFFF < lo {
-        return 0;
-    }
-    lo
 }
 
-fn unit_at(s: &[u8], i: usize) -> Escaped
+// `\u`: a code point of four digits, or a high half with a low one.
+fn unit_at(s: &[u8], i: usize) -> Option<Escaped>
     requires { (i < length s.now) × (get_or (drop i s.now) 0 0 ≡ 0x75) }
     ensures { EscapeAt s.now i result }
 {
-    let n = decode_unicode(s, i + 1);
-    if n < 0xD800 {
-        return Escaped::Code(n, i + 5);
+    let n = decode_unicode(s, i + 1)?;
+    match n {
+        0xD800..=0xDBFF => {
+            let lo = low_at(s, i + 5)?;
+            Some(Escaped {
+                code: 0x10000 + (n - 0xD800) * 0x400 + (lo - 0xDC00),
+                next: i + 11,
+            })
+        }
+        0xDC00..=0xDFFF => None,
+        _ => Some(Escaped {
+            code: n,
+            next: i + 5,
+        }),
     }
-    if 0xFFFF < n {
-        return Escaped::Broken;
-    }
-    if 0xDFFF < n {
-        return Escaped::Code(n, i + 5);
-    }
-    if 0xDBFF < n {
-        return Escaped::Broken;
-    }
-    let lo = low_at(s, i + 5);
-    if lo < 0xDC00 {
-        return Escaped::Broken;
-    }
-    Escaped::Code(0x10000 + (n - 0xD800) * 0x400 + (lo - 0xDC00), i + 11)
 }
 
 // What stands after a backslash.
-fn escape_at(s: &[u8], i: usize) -> Escaped
+fn escape_at(s: &[u8], i: usize) -> Option<Escaped>
     requires { i ≤ length s.now }
     ensures { EscapeAt s.now i result }
 {
-    let l = peek(s, i, 0);
-    let c = letter(l);
-    if c < 256 {
-        return Escaped::Code(c, i + 1);
+    match *s.get(i)? {
+        b'u' => unit_at(s, i),
+        b'x' => two_at(s, i),
+        l => Some(Escaped {
+            code: letter(l)?,
+            next: i + 1,
+        }),
     }
-    if l == b'u' {
-        return unit_at(s, i);
-    }
-    if l == b'x' {
-        return two_at(s, i);
-    }
-    Escaped::Broken
 }
 
 // The inside of a quoted literal, decoded into the part of the output that is lent; or where its first bad escape begins.
@@ -170,20 +130,20 @@ pub fn unescape(s: &[u8], out: &mut [u8]) -> Decoded
     let mut n = 0;
     while i < s.len() {
         let b = s[i];
-        if b != b'\\' {
+        if b == b'\\' {
+            let Some(escaped) = escape_at(s, i + 1) else {
+                clear(out);
+                return Err(Refused { at: i });
+            };
+            n = put_code(out, n, escaped.code);
+            i = escaped.next;
+        } else {
             put(out, n, b);
             n += 1;
             i += 1;
-            continue;
         }
-        let Escaped::Code(code, next) = escape_at(s, i + 1) else {
-            clear(out);
-            return Decoded::Refused(i);
-        };
-        n = put_code(out, n, code);
-        i = next;
     }
-    Decoded::Text(n)
+    Ok(n)
 }
 
 // Whether the quote at i has another after it.
@@ -192,34 +152,24 @@ fn doubled(s: &[u8], i: usize, quote: u8) -> bool
     ensures { Says result (Begins quote (drop (i + 1) s.now)) }
 {
     let next = i + 1;
-    if s.len() <= next {
-        return false;
-    }
-    if s[next] == quote {
-        return true;
-    }
-    false
+    next < s.len() && s[next] == quote
 }
 
 // The inside of a verbatim literal between such quotes, decoded into the part of the output that is lent.
 pub fn verbatim(s: &[u8], quote: u8, out: &mut [u8]) -> Decoded
     ensures { Decoding (Verbatim quote s.now) Never out.old result out.new }
 {
-    let mut i = 0;
+    let mut at = 0;
     let mut n = 0;
-    while s.len() - i > 0 {
-        let b = s[i];
+    while at < s.len() {
+        let b = s[at];
         put(out, n, b);
         n += 1;
-        if b != quote {
-            i += 1;
-            continue;
-        }
-        if doubled(s, i, quote) {
-            i += 2;
-            continue;
-        }
-        i += 1;
+        at += if b == quote && doubled(s, at, quote) {
+            2
+        } else {
+            1
+        };
     }
-    Decoded::Text(n)
+    Ok(n)
 }

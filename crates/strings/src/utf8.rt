@@ -1,36 +1,22 @@
 // UTF-8: whether bytes are well formed, and the bytes of a code point.
-ghost use Rattle.std.specs.Prelude.{◌≡◌, [], ◌∷◌, ◌+◌, ◌/◌, ◌%◌, ◌^◌, ◌<◌, ◌≤◌, length, drop};
+ghost use Rattle.std.specs.Prelude.{◌≡◌, [], ◌∷◌, ◌+◌, ◌/◌, ◌%◌, ◌^◌, ◌<◌, ◌≤◌, length, drop, MatchOption};
 ghost use Rattle.std.proofs.lemmas.List.Edits.{sets};
 ghost use Rattle.strings.specs.Utf8.{CharacterLength, ValidTo, utf8, Encodes};
 ghost use Rattle.strings.specs.Rows.{Row};
 ghost use Rattle.strings.specs.Valid.{NoneAbove, ValidSoFar, ValidUpTo};
 ghost use Rattle.strings.specs.Decoding.{Decoding, Missing};
 
-use crate::{Decoded, clear, put};
+use crate::{Decoded, Refused, clear, put};
 
-// Two, three and four bytes from a place on, where the output has room.
-fn put2(out: &mut [u8], at: usize, a: u8, b: u8)
-    requires { at < 2 ^ 63 }
-    ensures { out.new ≡ sets out.old at (a ∷ b ∷ []) }
+// Bytes from a place on, where the output has room; and the place after them.
+fn put_all(out: &mut [u8], at: usize, bytes: &[u8]) -> usize
+    requires { (at < 2 ^ 63) × (length bytes.now ≤ 4) }
+    ensures { (out.new ≡ sets out.old at bytes.now) × (result ≡ at + length bytes.now) }
 {
-    put(out, at, a);
-    put(out, at + 1, b);
-}
-
-fn put3(out: &mut [u8], at: usize, a: u8, b: u8, c: u8)
-    requires { at < 2 ^ 63 }
-    ensures { out.new ≡ sets out.old at (a ∷ b ∷ c ∷ []) }
-{
-    put2(out, at, a, b);
-    put(out, at + 2, c);
-}
-
-fn put4(out: &mut [u8], at: usize, a: u8, b: u8, c: u8, d: u8)
-    requires { at < 2 ^ 63 }
-    ensures { out.new ≡ sets out.old at (a ∷ b ∷ c ∷ d ∷ []) }
-{
-    put3(out, at, a, b, c);
-    put(out, at + 3, d);
+    for (k, b) in bytes.iter().enumerate() {
+        put(out, at + k, *b);
+    }
+    at + bytes.len()
 }
 
 // A byte after the first has the lowest six of the bits that are left for it.
@@ -45,126 +31,87 @@ pub fn put_code(out: &mut [u8], at: usize, code: u32) -> usize
     requires { (code < 0x110000) × (at < 2 ^ 63) }
     ensures { (out.new ≡ sets out.old at (utf8 code)) × (result ≡ at + length (utf8 code)) }
 {
-    if code < 0x80 {
-        put(out, at, code as u8);
-        return at + 1;
-    }
-    if code < 0x800 {
-        put2(out, at, (0xC0 + code / 0x40) as u8, tail(code));
-        return at + 2;
-    }
-    if code < 0x10000 {
-        put3(
+    match code {
+        0..=0x7F => put_all(out, at, &[code as u8]),
+        0x80..=0x7FF => put_all(out, at, &[(0xC0 + code / 0x40) as u8, tail(code)]),
+        0x800..=0xFFFF => put_all(
             out,
             at,
-            (0xE0 + code / 0x1000) as u8,
-            tail(code / 0x40),
-            tail(code),
-        );
-        return at + 3;
+            &[(0xE0 + code / 0x1000) as u8, tail(code / 0x40), tail(code)],
+        ),
+        _ => put_all(
+            out,
+            at,
+            &[
+                (0xF0 + code / 0x40000) as u8,
+                tail(code / 0x1000),
+                tail(code / 0x40),
+                tail(code),
+            ],
+        ),
     }
-    put4(
-        out,
-        at,
-        (0xF0 + code / 0x40000) as u8,
-        tail(code / 0x1000),
-        tail(code / 0x40),
-        tail(code),
-    );
-    at + 4
 }
 
 // The bytes of a code point, if it is a scalar value.
 pub fn encode(code: u32, out: &mut [u8]) -> Decoded
     ensures { Decoding (Encodes code) (Missing (Encodes code)) out.old result out.new }
 {
-    if code < 0xD800 {
-        return Decoded::Text(put_code(out, 0, code));
+    match code {
+        0..=0xD7FF | 0xE000..=0x10FFFF => Ok(put_code(out, 0, code)),
+        _ => {
+            clear(out);
+            // Kept a 0: `Missing` says it where no place is told.
+            Err(Refused { at: 0 })
+        }
     }
-    if code < 0xE000 {
-        clear(out);
-        return Decoded::Refused(0);
-    }
-    if code < 0x110000 {
-        return Decoded::Text(put_code(out, 0, code));
-    }
-    clear(out);
-    Decoded::Refused(0)
 }
 
-// What a first byte says of its character: how many bytes it has, none where that is 0, and the bounds of the second.
-#[derive(Drop)]
-struct Lead(usize, u8, u8);
+// What a first byte says of its character: how many bytes it has, and the bounds of the second.
+#[derive(Clone, Copy)]
+struct Lead {
+    width: usize,
+    low: u8,
+    high: u8,
+}
 
 // Table 3-7, by the first byte.
-fn lead_of(a: u8) -> Lead
-    ensures { Row a result.0 result.1 result.2 }
+fn lead_of(a: u8) -> Option<Lead>
+    ensures { MatchOption result (Row a 0 0x80 0xBF) (λ lead. (0 < lead.width) × Row a lead.width lead.low lead.high) }
 {
-    if a < 0x80 {
-        return Lead(1, 0x80, 0xBF);
-    }
-    if a < 0xC2 {
-        return Lead(0, 0x80, 0xBF);
-    }
-    if a < 0xE0 {
-        return Lead(2, 0x80, 0xBF);
-    }
-    if a < 0xE1 {
-        return Lead(3, 0xA0, 0xBF);
-    }
-    if a < 0xED {
-        return Lead(3, 0x80, 0xBF);
-    }
-    if a < 0xEE {
-        return Lead(3, 0x80, 0x9F);
-    }
-    if a < 0xF0 {
-        return Lead(3, 0x80, 0xBF);
-    }
-    if a < 0xF1 {
-        return Lead(4, 0x90, 0xBF);
-    }
-    if a < 0xF4 {
-        return Lead(4, 0x80, 0xBF);
-    }
-    if a < 0xF5 {
-        return Lead(4, 0x80, 0x8F);
-    }
-    Lead(0, 0x80, 0xBF)
+    let (width, low, high) = match a {
+        0x00..=0x7F => (1, 0x80, 0xBF),
+        0xC2..=0xDF => (2, 0x80, 0xBF),
+        0xE0..=0xEF => match a {
+            0xE0 => (3, 0xA0, 0xBF),
+            0xED => (3, 0x80, 0x9F),
+            _ => (3, 0x80, 0xBF),
+        },
+        0xF0..=0xF4 => match a {
+            0xF0 => (4, 0x90, 0xBF),
+            0xF4 => (4, 0x80, 0x8F),
+            _ => (4, 0x80, 0xBF),
+        },
+        _ => return None,
+    };
+    Some(Lead { width, low, high })
 }
 
-// How many bytes the character has that begins at a place; 0 where none does.
-fn char_len(s: &[u8], at: usize) -> usize
-    ensures { CharacterLength (drop at s.now) result }
+// How many bytes the character has that begins at a place, if one does.
+fn char_len(s: &[u8], at: usize) -> Option<usize>
+    ensures { MatchOption result (CharacterLength (drop at s.now) 0) (λ width. (0 < width) × CharacterLength (drop at s.now) width) }
 {
-    if s.len() <= at {
-        return 0;
-    }
-    let lead = lead_of(s[at]);
-    let width = lead.0;
-    if width == 0 {
-        return 0;
-    }
-    let mut low = lead.1;
-    let mut high = lead.2;
-    let mut n = 1;
-    while n < width {
-        let i = at + n;
-        if s.len() <= i {
-            return 0;
-        }
-        let b = s[i];
-        if b < low {
-            return 0;
-        }
-        if high < b {
-            return 0;
+    let lead = lead_of(*s.get(at)?)?;
+    let mut low = lead.low;
+    let mut high = lead.high;
+    for k in 1..lead.width {
+        let b = *s.get(at + k)?;
+        if b < low || high < b {
+            return None;
         }
         low = 0x80;
         high = 0xBF;
-        n += 1;
     }
-    width
+    Some(lead.width)
 }
 
 // The largest of 64 bytes, or more: a loop without a way out, which is compiled to a few wide instructions.
@@ -173,13 +120,8 @@ fn largest(s: &[u8], from: usize) -> u8
     ensures { NoneAbove s.now from 64 result }
 {
     let mut most = 0;
-    let mut k = 0;
-    while k < 64 {
-        let b = s[from + k];
-        if most < b {
-            most = b;
-        }
-        k += 1;
+    for b in &s[from..from + 64] {
+        most = most.max(*b);
     }
     most
 }
@@ -191,11 +133,10 @@ fn valid_from(s: &[u8], from: usize, to: usize) -> usize
 {
     let mut i = from;
     while i < to {
-        let n = char_len(s, i);
-        if n == 0 {
+        let Some(width) = char_len(s, i) else {
             return i;
-        }
-        i += n;
+        };
+        i += width;
     }
     i
 }
