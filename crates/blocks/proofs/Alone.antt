@@ -8,7 +8,7 @@ use Prim.Native.Nat.{ℕ, ◌-◌, ◌≤◌}
 use native.Mathlib.Omega.{arith}
 use lib.ListN.{length, take, drop, length-append, length-drop, take-append-drop}
 use lib.Seq.{take-append_seam}
-use Rattle.blocks.specs.declared.Block.TheVariants.{Good}
+use Rattle.std.specs.Prelude.{Ok}
 use Rattle.blocks.specs.Blocks.{Run, stop, more, LineFeed, Blank, InLine, Dash, there, Header, header, Indent, first, Lines, empty, content, Other, good, closed, Last, another, Body, indented, Stands, after_header, text, BlockText, means, ends, BlockAt, a_good}
 use Rattle.blocks.proofs.Runs.{run_split, run_stops}
 use Rattle.blocks.proofs.Once.{indent_blank}
@@ -191,7 +191,7 @@ text_alone {ls = ls} (after_header {dash = d} h b) =
     )
 
 -- THE TEXT OF A GOOD BLOCK RESTS ON ITS OWN BYTES: where the same bytes stand in another source, they have the same text.
-pub same_text : {s w : List ℕ} {a e : ℕ} (t : List ℕ) (b f : ℕ) → BlockAt s a (Good e) → a ≤ length s → take (e - a) (drop a s) ≡ take (f - b) (drop b t) → BlockText (drop a s) w → BlockText (drop b t) w
+pub same_text : {s w : List ℕ} {a e : ℕ} (t : List ℕ) (b f : ℕ) → BlockAt s a (Ok e) → a ≤ length s → take (e - a) (drop a s) ≡ take (f - b) (drop b t) → BlockText (drop a s) w → BlockText (drop b t) w
 same_text {s} {w} {a} {e} t b f (a_good (ends {r = r} d place)) h same m =
     let x = text_alone d in
     let y = x.2 in

@@ -9,8 +9,7 @@ use native.Mathlib.Omega.{arith}
 use native.Mathlib.Decide.{ℕ_discrete}
 use lib.ListN.{length, take, drop, length-append, length-drop, take-append-drop}
 use lib.Seq.{take-append_seam}
-use Rattle.blocks.specs.declared.Block.{Block}
-use Rattle.blocks.specs.Blocks.{Run, stop, more, LineFeed, HeaderBlank, Blank, InLine, Dash, there, Header, header, Indent, first, Lines, empty, content, Other, NoBars, Sought, here, on, Found, good, unexpected_end, missing_new_line, missing_indent, missing_termination, Closing, closed, blank, failing, Last, another, cut, Body, no_indent, indented, Stands, no_line, no_new_line, after_header, ends, BlockAt, a_good, an_unexpected_end, a_missing_new_line, a_missing_indent, a_missing_termination}
+use Rattle.blocks.specs.Blocks.{Run, stop, more, LineFeed, HeaderBlank, Blank, InLine, Dash, there, Header, header, Indent, first, Lines, empty, content, Other, NoBars, Sought, here, on, Found, good, unexpected_end, missing_new_line, missing_indent, missing_termination, Closing, closed, blank, failing, Last, another, cut, Body, no_indent, indented, Stands, no_line, no_new_line, after_header, ends, Block, BlockAt, a_good, an_unexpected_end, a_missing_new_line, a_missing_indent, a_missing_termination}
 use Rattle.blocks.proofs.Runs.{stable, run_stops, run_length}
 use Rattle.blocks.proofs.Once.{stands_length}
 

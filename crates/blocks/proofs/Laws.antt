@@ -7,12 +7,11 @@ use mathlib.Core.Logic.{⊎_elim}
 use Prim.Native.Nat.{ℕ, ◌+◌, ◌-◌, ◌≤◌}
 use native.Mathlib.Omega.{arith}
 use lib.ListN.{length, drop, length-append, length-drop}
-use Rattle.strings.specs.declared.Decoded.{Decoded}
-use Rattle.strings.specs.Decoding.{Decoding, Missing, missing}
+use Rattle.strings.specs.Decoding.{Decoded, Decoding, Missing, missing}
 use Rattle.strings.proofs.DecodingLaws.{missing_once}
-use Rattle.blocks.specs.declared.Block.{Block}
-use Rattle.blocks.specs.declared.Block.TheVariants.{Good, UnexpectedEnd, MissingNewLine, MissingTermination, MissingIndent}
-use Rattle.blocks.specs.Blocks.{Run, stop, more, HeaderBlank, InLine, Dash, there, header, Indent, first, Lines, empty, content, Other, Found, good, unexpected_end, missing_new_line, missing_indent, missing_termination, closed, another, Body, indented, Stands, after_header, joined, text, BlockText, means, ends, BlockAt, a_good, an_unexpected_end, a_missing_new_line, a_missing_indent, a_missing_termination}
+use Rattle.std.specs.Prelude.{Ok, Err}
+use Rattle.blocks.specs.declared.BlockFault.TheVariants.{UnexpectedEnd, MissingNewLine, MissingTermination, MissingIndent}
+use Rattle.blocks.specs.Blocks.{Run, stop, more, HeaderBlank, InLine, Dash, there, header, Indent, first, Lines, empty, content, Other, Found, good, unexpected_end, missing_new_line, missing_indent, missing_termination, closed, another, Body, indented, Stands, after_header, joined, text, BlockText, means, ends, Block, fault_at, BlockAt, a_good, an_unexpected_end, a_missing_new_line, a_missing_indent, a_missing_termination}
 use Rattle.blocks.proofs.Runs.{run_split, run_once, run_length}
 use Rattle.blocks.proofs.Texts.{ended, joined_ended, lines_length}
 use Rattle.blocks.proofs.Once.{dash_once, header_once, header_length, body_once, stands_once, stands_length}
@@ -21,11 +20,11 @@ use Rattle.blocks.proofs.Once.{dash_once, header_once, header_length, body_once,
 
 -- the answer of a kind that ends at a place
 abbrev answer : Found → ℕ → Block
-answer (good lines) end = Good end
-answer unexpected_end end = UnexpectedEnd end
-answer missing_new_line end = MissingNewLine end
-answer missing_indent end = MissingIndent end
-answer missing_termination end = MissingTermination end
+answer (good lines) e = Ok e
+answer unexpected_end e = Err (fault_at UnexpectedEnd e)
+answer missing_new_line e = Err (fault_at MissingNewLine e)
+answer missing_indent e = Err (fault_at MissingIndent e)
+answer missing_termination e = Err (fault_at MissingTermination e)
 
 -- an answer taken apart
 record Taken (s : List ℕ) (at : ℕ) (b : Block) : Type 0 where
@@ -53,11 +52,8 @@ block_once d e =
 
 -- Where a lexeme ends: not before its start, and within the source.
 abbrev pub end_of : Block → ℕ
-end_of (Good end) = end
-end_of (UnexpectedEnd end) = end
-end_of (MissingNewLine end) = end
-end_of (MissingTermination end) = end
-end_of (MissingIndent end) = end
+end_of (Ok e) = e
+end_of (Err b) = b.end
 
 end_of_answer : (f : Found) (e : ℕ) → end_of (answer f e) ≡ e
 end_of_answer (good ls) e = refl
@@ -74,16 +70,16 @@ block_end_lem {s} {at} {b} d h =
     (omega (arith, e, x.place, l, length-drop at s), omega (arith, e, x.place))
 
 -- Decoding a good block never fails, and a bad one has no text.
-pub good_decodes : {s : List ℕ} {at e : ℕ} → BlockAt s at (Good e) → (t : List ℕ) × BlockText (drop at s) t
+pub good_decodes : {s : List ℕ} {at e : ℕ} → BlockAt s at (Ok e) → (t : List ℕ) × BlockText (drop at s) t
 good_decodes (a_good (ends (after_header {dash = d} h b) p)) = (text d _, means h b)
 
-pub text_is_good : {s t : List ℕ} {at : ℕ} {b : Block} → BlockText (drop at s) t → BlockAt s at b → (e : ℕ) × (b ≡ Good e)
+pub text_is_good : {s t : List ℕ} {at : ℕ} {b : Block} → BlockText (drop at s) t → BlockAt s at b → (e : ℕ) × (b ≡ Ok e)
 text_is_good (means h b) d =
     let x = take_apart d in
     (x.end, x.same ∙ ap (λ (f : Found). answer f x.end) (stands_once x.stands (after_header h b)).0)
 
 -- The reason why number 10 does not occur: the fault of the decoder's contract is none of a good block.
-pub never_refused : {s : List ℕ} {at e n : ℕ} → BlockAt s at (Good e) → Missing (BlockText (drop at s)) n → ⊥
+pub never_refused : {s : List ℕ} {at e n : ℕ} → BlockAt s at (Ok e) → Missing (BlockText (drop at s)) n → ⊥
 never_refused d (missing h) = h _ (good_decodes d).1
 
 pub text_once : {s t t' : List ℕ} → BlockText s t → BlockText s t' → t ≡ t'
@@ -124,7 +120,7 @@ body_text {ls = ls} d b =
     by : {s r : List ℕ} {ls : List (List ℕ)} → Body s (good ls) r → length (text d ls) ≤ length (ended ls) → length (text d ls) + length r ≤ length s
     by (indented i l (another o p closed)) h = omega (arith, lines_length l, run_length p)
 
-pub text_short : {s t : List ℕ} {at e : ℕ} → BlockAt s at (Good e) → BlockText (drop at s) t → length t ≤ e - at
+pub text_short : {s t : List ℕ} {at e : ℕ} → BlockAt s at (Ok e) → BlockText (drop at s) t → length t ≤ e - at
 text_short {s} {at = at} (a_good (ends (after_header h b) p)) (means {dash = d} g c) =
     let o = stands_once (after_header h b) (after_header g c) in
     omega (arith, p, ap length o.1, body_text d c, header_length g, length-drop at s)

@@ -1,4 +1,5 @@
 pub mod Runs
+pub mod Windows
 pub mod Places
 pub mod Texts
 pub mod Readings

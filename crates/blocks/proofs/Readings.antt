@@ -7,12 +7,13 @@ use Prim.Native.Nat.{ℕ, suc, ◌+◌, ◌-◌, ◌≤◌, ◌<◌}
 use native.Mathlib.Omega.{arith}
 use native.Mathlib.Numerals.{add-one}
 use lib.ListN.{length, get_or, take, drop, length-append, length-drop, drop_of_length-le}
-use lib.Seq.{sets, slice, slice-cons, length-slice, length-sets, length-take-le, take-suc, take_at, drop-append-le}
+use lib.Seq.{sets, slice, slice-cons, length-slice, length-take-le, take-suc, take_at, drop-append-le}
 use Rattle.strings.proofs.Stores.{sets_append}
-use Rattle.blocks.specs.declared.Block.{Block}
-use Rattle.blocks.specs.declared.Block.TheVariants.{Good}
+use Rattle.std.specs.Prelude.{Result}
+use Rattle.blocks.specs.declared.BlockError.{BlockError}
+use Rattle.blocks.specs.declared.Good.{Good}
 use Rattle.blocks.specs.Blocks.{Run, LineFeed, Blank, InLine, Indent, first, Lines, Other, NoBars, Sought, Found, good, unexpected_end, missing_termination, Closing, closed, blank, failing, Last, another, cut, Body, indented, joined, text}
-use Rattle.blocks.specs.Inside.{Spans, feeds, last_end, ClosedAt, BodyAt, a_good, a_missing_termination}
+use Rattle.blocks.specs.Inside.{Spans, feeds, last_end, good_at, ClosedAt, BodyAt, a_good, a_missing_termination}
 use Rattle.strings.proofs.Stores.{drop-next}
 use Rattle.blocks.proofs.Runs.{run_stops, line_feed}
 use Rattle.blocks.proofs.Places.{slice-drop, slice_split, feeds-next, feeds_cons, spanned_feeds}
@@ -128,9 +129,6 @@ module _ {s : List ℕ} {head content : ℕ} where
   }
 
   module _ {out₀ : List ℕ} {w₀ : ℕ} {out : List ℕ} {w a : ℕ} (d : Reading s head content out₀ w₀ out w a) where
-    pub reading_length : length out ≡ length out₀
-    reading_length = ap length d.stored ∙ length-sets out₀ w₀ (ended d.lines)
-
     pub reading_more :
         {e a₁ : ℕ} {out₁ : List ℕ} {w₁ : ℕ} → Para s (slice head content s) a e → a ≤ e → e ≤ a₁ → a₁ ≤ length s →
         drop e s ≡ slice head content s ++ drop a₁ s → out₁ ≡ sets out w (slice a e s) → w₁ ≡ w + (e - a) →
@@ -196,9 +194,9 @@ module _ {s : List ℕ} {body head content : ℕ} (empty : Spans LineFeed s body
 
       -- a later line that closes the block, and one that fails to
       pub close_body :
-          {lf : ℕ} {dash : Bool} {x : Block} {n : ℕ} {out₁ out₂ : List ℕ} (entry : List ℕ) → Spans InLine s a lf → lf < length s → Spans LineFeed s (lf + 1) e →
+          {lf : ℕ} {dash : Bool} {x : Result Good BlockError} {out₁ out₂ : List ℕ} (entry : List ℕ) → Spans InLine s a lf → lf < length s → Spans LineFeed s (lf + 1) e →
           out₁ ≡ sets out w (slice a lf s) → out₀ ≡ sets entry 0 (slice body head s) → w₀ ≡ head - body →
-          i < length s → ClosedAt s i lf e dash out₁ (w + (lf - a)) x n out₂ → BodyAt s body dash entry x n out₂
+          i < length s → ClosedAt s i lf e dash out₁ (w + (lf - a)) x out₂ → BodyAt s body dash entry x out₂
       close_body {dash = dash} entry line fed after o begun place h (ClosedAt.closed k q) =
           let before : a < e = omega (arith, line.on, after.on) in
           let es = slice body head s in
@@ -223,7 +221,7 @@ module _ {s : List ℕ} {body head content : ℕ} (empty : Spans LineFeed s body
           ∙ ap (λ (o₁ : List ℕ). sets o₁ w₀ (ended d.lines)) (sym begun) ∙ sym d.stored) in
           let found : Body (drop body s) (good all) (drop (i + 3) s) =
           another_body (subst (λ (t : List ℕ). Closing all t (good all) (drop (i + 3) s)) (sym q) closed) in
-          subst₂ (λ (n : ℕ) (o₁ : List ℕ). BodyAt s body dash entry (Good (i + 3)) n o₁) (counted ∙ sym (counted_as line fed after w dash)) (written ∙ sym (stored_as line fed after out w dash o)) (a_good {j = i + 3} found (omega (arith, length-drop (i + 3) s)))
+          subst₂ (λ (n : ℕ) (o₁ : List ℕ). BodyAt s body dash entry (good_at (i + 3) n) o₁) (counted ∙ sym (counted_as line fed after w dash)) (written ∙ sym (stored_as line fed after out w dash o)) (a_good {j = i + 3} found (omega (arith, length-drop (i + 3) s)))
       close_body entry line fed after o begun place h (ClosedAt.failing {j = j} nb so) =
           let all = empties (slice body head s) ++ (d.lines ++ p.line ∷ p.more) in
           let found : Closing all (drop i s) missing_termination (drop j s) =
@@ -231,12 +229,8 @@ module _ {s : List ℕ} {body head content : ℕ} (empty : Spans LineFeed s body
           (failing (subst NoBars (drop-next s i h) nb) (subst (λ (t : List ℕ). Sought t (drop j s)) (drop-next s i h) so.sought)) in
           a_missing_termination {j = j} (another_body found) (omega (arith, so.within, length-drop j s))
 
--- What `close` leaves at `|||`, once it is known whether `-` stands in the header.
+-- What `close` leaves at `|||`, where the last LFs stand up to a place.
 pub closed_by :
-    {s : List ℕ} {i a e : ℕ} {dash known : Bool} {out : List ℕ} {w n : ℕ} {out₁ : List ℕ} →
-    (i + 3 ≤ length s) × (drop i s ≡ 0x7C ∷ 0x7C ∷ 0x7C ∷ drop (i + 3) s) → dash ≡ known → n ≡ w + (last_end known e - a) →
-    out₁ ≡ sets out w (feeds (last_end known e - a)) → ClosedAt s i a e dash out w (Good (i + 3)) n out₁
-closed_by {s} {i} {a} {e} {dash} {out = out} {w = w} bars k c o =
-    subst₂ (λ (n : ℕ) (o₁ : List ℕ). ClosedAt s i a e dash out w (Good (i + 3)) n o₁)
-    (ap (λ (x : Bool). w + (last_end x e - a)) k ∙ sym c) (ap (λ (x : Bool). sets out w (feeds (last_end x e - a))) k ∙ sym o)
-    (ClosedAt.closed bars.0 bars.1)
+    {s : List ℕ} {i a e last : ℕ} {dash : Bool} {out : List ℕ} {w n : ℕ} {out₁ : List ℕ} → (i + 3 ≤ length s) × (drop i s ≡ 0x7C ∷ 0x7C ∷ 0x7C ∷ drop (i + 3) s) →
+    last ≡ last_end dash e → n ≡ w + (last - a) → out₁ ≡ sets out w (feeds (last - a)) → ClosedAt s i a e dash out w (good_at (i + 3) n) out₁
+closed_by {a = a} {out = out} {w = w} bars k c o = rw (c, o, k) (ClosedAt.closed bars.0 bars.1)

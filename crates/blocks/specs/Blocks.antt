@@ -1,9 +1,10 @@
 -- What a text block is, what its faults are and what it means: document 01, "Lexemes", the paragraph "Blocks".
 -- A relation's first list is the bytes that are read, from behind the opening `|||` on; its last list is what follows what was read.
 -- Assumes nothing.
-use Rattle.std.specs.Prelude.{◌≡◌, Bool, true, false, List, [], ◌∷◌, ◌++◌, ◌⊎◌, ℕ, ◌+◌, length, drop}
-use Rattle.blocks.specs.declared.Block.{Block}
-use Rattle.blocks.specs.declared.Block.TheVariants.{Good, UnexpectedEnd, MissingNewLine, MissingTermination, MissingIndent}
+use Rattle.std.specs.Prelude.{◌≡◌, Bool, true, false, List, [], ◌∷◌, ◌++◌, ◌⊎◌, ℕ, ◌+◌, Result, Ok, Err, length, drop}
+use Rattle.blocks.specs.declared.BlockError.{BlockError}
+use Rattle.blocks.specs.declared.BlockFault.{BlockFault}
+use Rattle.blocks.specs.declared.BlockFault.TheVariants.{UnexpectedEnd, MissingNewLine, MissingTermination, MissingIndent}
 
 abbrev pub LineFeed : ℕ → Type 0
 LineFeed b = b ≡ 0x0A
@@ -123,10 +124,17 @@ pub data BlockText : List ℕ → List ℕ → Type 0 where
 pub data Ends (source : List ℕ) (at : ℕ) (f : Found) (end : ℕ) : Type 0 where
   ends : {r : List ℕ} → Stands (drop at source) f r → end + length r ≡ length source → Ends source at f end
 
+-- What the code answers: where a good block ends, or a bad one with its fault.
+abbrev pub Block : Type 0
+Block = Result ℕ BlockError
+
+abbrev pub fault_at : BlockFault → ℕ → BlockError
+fault_at f e = record { fault = f; end = e }
+
 -- R14, R15. The same as the code's answer.
 pub data BlockAt (source : List ℕ) (at : ℕ) : Block → Type 0 where
-  a_good : {lines : List (List ℕ)} {end : ℕ} → Ends source at (good lines) end → BlockAt source at (Good end)
-  an_unexpected_end : {end : ℕ} → Ends source at unexpected_end end → BlockAt source at (UnexpectedEnd end)
-  a_missing_new_line : {end : ℕ} → Ends source at missing_new_line end → BlockAt source at (MissingNewLine end)
-  a_missing_indent : {end : ℕ} → Ends source at missing_indent end → BlockAt source at (MissingIndent end)
-  a_missing_termination : {end : ℕ} → Ends source at missing_termination end → BlockAt source at (MissingTermination end)
+  a_good : {lines : List (List ℕ)} {end : ℕ} → Ends source at (good lines) end → BlockAt source at (Ok end)
+  an_unexpected_end : {end : ℕ} → Ends source at unexpected_end end → BlockAt source at (Err (fault_at UnexpectedEnd end))
+  a_missing_new_line : {end : ℕ} → Ends source at missing_new_line end → BlockAt source at (Err (fault_at MissingNewLine end))
+  a_missing_indent : {end : ℕ} → Ends source at missing_indent end → BlockAt source at (Err (fault_at MissingIndent end))
+  a_missing_termination : {end : ℕ} → Ends source at missing_termination end → BlockAt source at (Err (fault_at MissingTermination end))

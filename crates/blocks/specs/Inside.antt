@@ -1,11 +1,12 @@
 -- What the functions inside this crate promise each other: runs and tests between places of a source, and what a walk has found.
 -- Assumes nothing.
-use Rattle.std.specs.Prelude.{◌≡◌, Bool, true, false, List, [], ◌∷◌, ◌++◌, ℕ, ◌+◌, ◌-◌, ◌≤◌, ltb, length, drop, replicate}
+use Rattle.std.specs.Prelude.{◌≡◌, Bool, true, false, List, [], ◌∷◌, ◌++◌, ℕ, ◌+◌, ◌-◌, ◌≤◌, ltb, length, drop, replicate, Result, Ok, Err}
 use Rattle.std.proofs.lemmas.List.Edits.{sets}
 use Rattle.std.proofs.Math.Seq.{slice}
-use Rattle.blocks.specs.Blocks.{Run, Dash, NoBars, Sought, good, unexpected_end, missing_termination, Body, text, BlockText, BlockAt}
-use Rattle.blocks.specs.declared.Block.{Block}
-use Rattle.blocks.specs.declared.Block.TheVariants.{Good, UnexpectedEnd, MissingTermination}
+use Rattle.blocks.specs.Blocks.{Run, Dash, NoBars, Sought, good, unexpected_end, missing_termination, Body, text, BlockText, fault_at, BlockAt}
+use Rattle.blocks.specs.declared.BlockError.{BlockError}
+use Rattle.blocks.specs.declared.BlockFault.TheVariants.{UnexpectedEnd, MissingTermination}
+use Rattle.blocks.specs.declared.Good.{Good}
 
 -- A test's answer.
 pub data Says (P : Type 0) : Bool → Type 0 where
@@ -48,23 +49,28 @@ abbrev pub last_end : Bool → ℕ → ℕ
 last_end true e = e - 1
 last_end false e = e
 
+-- A good block's lexeme ends at a place, and its text is so long.
+abbrev pub good_at : ℕ → ℕ → Result Good BlockError
+good_at e n = Ok (record { end = e; text = n })
+
 -- Behind the blanks of the line after the lines, at place i: with `|||` there the last LFs, from a to e, are stored at w.
-pub data ClosedAt (s : List ℕ) (i a e : ℕ) (dash : Bool) (out : List ℕ) (w : ℕ) : Block → ℕ → List ℕ → Type 0 where
+pub data ClosedAt (s : List ℕ) (i a e : ℕ) (dash : Bool) (out : List ℕ) (w : ℕ) : Result Good BlockError → List ℕ → Type 0 where
   closed :
       i + 3 ≤ length s → drop i s ≡ 0x7C ∷ 0x7C ∷ 0x7C ∷ drop (i + 3) s →
-      ClosedAt s i a e dash out w (Good (i + 3)) (w + (last_end dash e - a)) (sets out w (feeds (last_end dash e - a)))
-  failing : {j n : ℕ} {out₁ : List ℕ} → NoBars (drop i s) → SoughtTo s i j → ClosedAt s i a e dash out w (MissingTermination j) n out₁
+      ClosedAt s i a e dash out w (good_at (i + 3) (w + (last_end dash e - a))) (sets out w (feeds (last_end dash e - a)))
+  failing : {j : ℕ} {out₁ : List ℕ} → NoBars (drop i s) → SoughtTo s i j → ClosedAt s i a e dash out w (Err (fault_at MissingTermination j)) out₁
 
 -- From place i, after the header line: a good block's text is stored, a bad one leaves what it leaves.
-pub data BodyAt (s : List ℕ) (i : ℕ) (dash : Bool) (out : List ℕ) : Block → ℕ → List ℕ → Type 0 where
+pub data BodyAt (s : List ℕ) (i : ℕ) (dash : Bool) (out : List ℕ) : Result Good BlockError → List ℕ → Type 0 where
   a_good :
       {lines : List (List ℕ)} {r : List ℕ} {j : ℕ} → Body (drop i s) (good lines) r → j + length r ≡ length s →
-      BodyAt s i dash out (Good j) (length (text dash lines)) (sets out 0 (text dash lines))
-  an_unexpected_end : {j n : ℕ} {out₁ : List ℕ} → Body (drop i s) unexpected_end [] → j ≡ length s → BodyAt s i dash out (UnexpectedEnd j) n out₁
+      BodyAt s i dash out (good_at j (length (text dash lines))) (sets out 0 (text dash lines))
+  an_unexpected_end : {j : ℕ} {out₁ : List ℕ} → Body (drop i s) unexpected_end [] → j ≡ length s → BodyAt s i dash out (Err (fault_at UnexpectedEnd j)) out₁
   a_missing_termination :
-      {r : List ℕ} {j n : ℕ} {out₁ : List ℕ} → Body (drop i s) missing_termination r → j + length r ≡ length s → BodyAt s i dash out (MissingTermination j) n out₁
+      {r : List ℕ} {j : ℕ} {out₁ : List ℕ} → Body (drop i s) missing_termination r → j + length r ≡ length s →
+      BodyAt s i dash out (Err (fault_at MissingTermination j)) out₁
 
 -- The whole walk: what stands there, and the text stored if there is one.
-pub data Walked (s : List ℕ) (at : ℕ) (out : List ℕ) : Block → ℕ → List ℕ → Type 0 where
-  a_text : {t : List ℕ} {j : ℕ} → BlockAt s at (Good j) → BlockText (drop at s) t → Walked s at out (Good j) (length t) (sets out 0 t)
-  no_text : {b : Block} {n : ℕ} {out₁ : List ℕ} → BlockAt s at b → ((t : List ℕ) → BlockText (drop at s) t → ⊥) → Walked s at out b n out₁
+pub data Walked (s : List ℕ) (at : ℕ) (out : List ℕ) : Result Good BlockError → List ℕ → Type 0 where
+  a_text : {t : List ℕ} {j : ℕ} → BlockAt s at (Ok j) → BlockText (drop at s) t → Walked s at out (good_at j (length t)) (sets out 0 t)
+  no_text : {b : BlockError} {out₁ : List ℕ} → BlockAt s at (Err b) → ((t : List ℕ) → BlockText (drop at s) t → ⊥) → Walked s at out (Err b) out₁

@@ -1,76 +1,75 @@
 #![tactic(auto)]
 // Text blocks (string_block.rs): where one ends or what is wrong with it, and its text.
-ghost use Rattle.std.specs.Prelude.{◌≡◌, ◌+◌, ◌-◌, ◌≤◌, ◌<◌, ◌^◌, length, drop};
+ghost use Rattle.std.specs.Prelude.{◌≡◌, ◌+◌, ◌-◌, ◌≤◌, ◌<◌, ◌^◌, ℕ, Bool, true, length, drop};
 ghost use Rattle.std.proofs.lemmas.List.Edits.{sets};
 ghost use Rattle.std.proofs.Math.Seq.{slice};
 ghost use Rattle.strings.specs.Decoding.{Decoding, Missing};
-ghost use Rattle.blocks.specs.Blocks.{LineFeed, HeaderBlank, Blank, InLine, BlockAt, BlockText};
-ghost use Rattle.blocks.specs.Inside.{Says, Spans, Dashed, SoughtTo, BarsAt, StartsAt, feeds, ClosedAt, BodyAt, Walked};
+ghost use Rattle.blocks.specs.Blocks.{LineFeed, Blank, InLine, BlockAt, BlockText};
+ghost use Rattle.blocks.specs.Inside.{Spans, Dashed, SoughtTo, BarsAt, StartsAt, feeds, ClosedAt, BodyAt, Walked};
 
-use strings::Decoded;
+use strings::{Decoded, Refused};
 
-// What stands after `|||`, and where the lexeme ends.
-#[derive(Drop)]
-pub enum Block {
-    Good(usize),
-    UnexpectedEnd(usize),
-    MissingNewLine(usize),
-    MissingTermination(usize),
-    MissingIndent(usize),
+// What is wrong with a block.
+#[derive(Clone, Copy, Debug, PartialEq, Eq)]
+pub enum BlockFault {
+    UnexpectedEnd,
+    MissingNewLine,
+    MissingTermination,
+    MissingIndent,
 }
 
-// What a walk over a block tells: what stands there, and how long the text of a good one is.
-#[derive(Drop)]
-struct Walk {
-    block: Block,
+impl BlockFault {
+    fn at(self, end: usize) -> BlockError
+        ensures { result ≡ record { fault = self; end = end } }
+    {
+        BlockError { fault: self, end }
+    }
+}
+
+// A bad block: what is wrong with it, and where its lexeme ends.
+#[derive(Clone, Copy, Debug, PartialEq, Eq)]
+pub struct BlockError {
+    pub fault: BlockFault,
+    pub end: usize,
+}
+
+// What stands after `|||`: the end of a good block's lexeme, or a bad block.
+pub type Block = Result<usize, BlockError>;
+
+// A good block: where its lexeme ends, and how long its text is.
+#[derive(Clone, Copy)]
+struct Good {
+    end: usize,
     text: usize,
 }
 
-fn is_header_blank(b: u8) -> bool
-    ensures { Says (HeaderBlank b) result }
-{
-    match b {
-        b' ' => true,
-        b'\t' => true,
-        b'\r' => true,
-        _ => false,
-    }
-}
-
-fn is_blank(b: u8) -> bool
-    ensures { Says (Blank b) result }
-{
-    match b {
-        b' ' => true,
-        b'\t' => true,
-        _ => false,
-    }
-}
-
+// Kept: each function below takes a place of the source and most answer with a later one; a struct of both, with the fact that the place is within,
+// would be made anew for each call and taken apart behind it.
 fn skip_dash(source: &[u8], at: usize) -> usize
     requires { at ≤ length source.now }
     ensures { Dashed source.now at result }
 {
-    if at < source.len() {
-        if source[at] == b'-' {
-            return at + 1;
-        }
+    if at < source.len() && source[at] == b'-' {
+        at + 1
+    } else {
+        at
     }
-    at
 }
 
-fn skip_header_blanks(source: &[u8], from: usize) -> usize
-    requires { from ≤ length source.now }
-    ensures { Spans HeaderBlank source.now from result }
+// The place after the run of bytes from `from` on that pass the test: that of the first other byte, or the source's end.
+fn skip<F: Fn(u8) -> bool>(source: &[u8], from: usize, passes: F) -> usize
+    requires inside { from ≤ length source.now }
+    requires callable { F.IsAlwaysCallable passes }
+    ensures bounds { (from ≤ result) × (result ≤ length source.now) }
+    ensures run { (p : ℕ → Bool) → ((b : ℕ) (r : Bool) → F.post passes b r → r ≡ p b) → Spans (λ b. p b ≡ true) source.now from result }
 {
-    let mut i = from;
-    while i < source.len() {
-        if !is_header_blank(source[i]) {
+    // With `position` on the rest of the source a block of one-letter lines takes 17.3 instructions a byte, with this `for` 14.8; by a count of its own it took 14.0.
+    for i in from..source.len() {
+        if !passes(source[i]) {
             return i;
         }
-        i += 1;
     }
-    i
+    source.len()
 }
 
 // Lines of LF alone.
@@ -78,43 +77,14 @@ fn skip_empty(source: &[u8], from: usize) -> usize
     requires { from ≤ length source.now }
     ensures { Spans LineFeed source.now from result }
 {
-    let mut i = from;
-    while i < source.len() {
-        if source[i] != b'\n' {
-            return i;
-        }
-        i += 1;
-    }
-    i
+    skip(source, from, |b| b == b'\n')
 }
 
 fn skip_blanks(source: &[u8], from: usize) -> usize
     requires { from ≤ length source.now }
     ensures { Spans Blank source.now from result }
 {
-    let mut i = from;
-    while i < source.len() {
-        if !is_blank(source[i]) {
-            return i;
-        }
-        i += 1;
-    }
-    i
-}
-
-// The place of the line's LF, or the source's end.
-fn line_end(source: &[u8], from: usize) -> usize
-    requires { from ≤ length source.now }
-    ensures { Spans InLine source.now from result }
-{
-    let mut i = from;
-    while i < source.len() {
-        if source[i] == b'\n' {
-            return i;
-        }
-        i += 1;
-    }
-    i
+    skip(source, from, |b| matches!(b, b' ' | b'\t'))
 }
 
 // Whether the line at i starts with the indent, which stands from first to content.
@@ -122,74 +92,48 @@ fn check_whitespace(source: &[u8], first: usize, content: usize, i: usize) -> bo
     requires { (first ≤ content) × (content ≤ length source.now) × (i ≤ length source.now) }
     ensures { StartsAt source.now first content i result }
 {
-    let n = content - first;
-    if source.len() - i < n {
-        return false;
-    }
-    let mut k = 0;
-    while k < n {
-        if source[first + k] != source[i + k] {
-            return false;
-        }
-        k += 1;
-    }
-    true
+    source[i..].starts_with(&source[first..content])
 }
 
 fn bars_at(source: &[u8], i: usize) -> bool
     requires { i ≤ length source.now }
     ensures { BarsAt source.now i result }
 {
-    if source.len() - i < 3 {
-        return false;
-    }
-    if source[i] != b'|' {
-        return false;
-    }
-    if source[i + 1] != b'|' {
-        return false;
-    }
-    if source[i + 2] != b'|' {
-        return false;
-    }
-    true
+    source[i..].starts_with(b"|||")
 }
 
-// Where a bad block ends: after the next `|||`, or at the source's end.
+// Where a bad block ends: after the next `|||`, or at the source's end. 8.0 instructions a byte, where a loop by hand took 7.0 and a `for` 10.0.
 fn eat_error(source: &[u8], from: usize) -> usize
     requires { from ≤ length source.now }
     ensures { SoughtTo source.now from result }
 {
-    let mut i = from;
-    while i < source.len() {
-        if bars_at(source, i) {
-            return i + 3;
-        }
-        i += 1;
+    match source[from..]
+        .windows(3)
+        .position(|bytes| bytes.starts_with(b"|||"))
+    {
+        Some(n) => from + n + 3,
+        None => source.len(),
     }
-    i
 }
 
-// The place of the line's LF, or the source's end. What stands before it is stored as it is passed, as far as there is room.
+// The bytes into the output, as far as it has room.
+fn put_bytes(out: &mut [u8], at: usize, bytes: &[u8])
+    ensures { out.new ≡ sets out.old at bytes.now }
+{
+    if at < out.len() {
+        let n = bytes.len().min(out.len() - at);
+        out[at..at + n].copy_from_slice(&bytes[..n]);
+    }
+}
+
+// The place of the line's LF, or the source's end. What stands before it is stored, as far as there is room.
 fn copy_line(source: &[u8], from: usize, out: &mut [u8], at: usize) -> usize
     requires { from ≤ length source.now }
     ensures { Spans InLine source.now from result × (out.new ≡ sets out.old at (slice from result source.now)) }
 {
-    let mut i = from;
-    let mut w = at;
-    while w < out.len() {
-        if source.len() <= i {
-            return i;
-        }
-        let b = source[i];
-        if b == b'\n' {
-            return i;
-        }
-        out[w] = b;
-        w += 1;
-        i += 1;
-    }
-    line_end(source, i)
+    let lf = skip(source, from, |b| b != b'\n');
+    put_bytes(out, at, &source[from..lf]);
+    lf
 }
 
 // So many LFs into the output, as far as it has room; the place after them.
@@ -197,13 +141,9 @@ fn put_feeds(out: &mut [u8], at: usize, n: usize) -> usize
     requires { at + n ≤ 2 ^ 63 }
     ensures { (out.new ≡ sets out.old at (feeds n)) × (result ≡ at + n) }
 {
-    if out.len() <= at {
-        return at + n;
-    }
-    let mut k = 0;
-    while k < n {
-        strings::put(out, at + k, b'\n');
-        k += 1;
+    if at < out.len() {
+        let end = out.len().min(at + n);
+        out[at..end].fill(b'\n');
     }
     at + n
 }
@@ -217,29 +157,16 @@ fn close(
     dash: bool,
     out: &mut [u8],
     w: usize,
-) -> Walk
+) -> Result<Good, BlockError>
     requires { (w ≤ lf) × (lf < next) × (next ≤ i) × (i ≤ length source.now) }
-    ensures { ClosedAt source.now i lf next dash out.old w result.block result.text out.new }
+    ensures { ClosedAt source.now i lf next dash out.old w result out.new }
 {
     if !bars_at(source, i) {
-        let end = eat_error(source, i);
-        return Walk {
-            block: Block::MissingTermination(end),
-            text: 0,
-        };
+        return Err(BlockFault::MissingTermination.at(eat_error(source, i)));
     }
-    if dash {
-        let n = put_feeds(out, w, next - lf - 1);
-        return Walk {
-            block: Block::Good(i + 3),
-            text: n,
-        };
-    }
-    let n = put_feeds(out, w, next - lf);
-    Walk {
-        block: Block::Good(i + 3),
-        text: n,
-    }
+    let last = if dash { next - 1 } else { next };
+    let text = put_feeds(out, w, last - lf);
+    Ok(Good { end: i + 3, text })
 }
 
 // From the header line's end on. The first line that is not empty starts at first, and its content, after the indent, at content.
@@ -252,78 +179,50 @@ fn lines(
     content: usize,
     dash: bool,
     out: &mut [u8],
-) -> Walk
+) -> Result<Good, BlockError>
     requires { Spans LineFeed source.now body first × Spans Blank source.now first content × (first < content) }
-    ensures { BodyAt source.now body dash out.old result.block result.text out.new }
+    ensures { BodyAt source.now body dash out.old result out.new }
 {
     let mut w = put_feeds(out, 0, first - body);
     let mut from = content;
-    let mut lf = content;
-    let mut next = content;
-    let mut i = content;
-    'lines: loop {
-        lf = copy_line(source, from, out, w);
+    loop {
+        let lf = copy_line(source, from, out, w);
         if lf == source.len() {
-            return Walk {
-                block: Block::UnexpectedEnd(lf),
-                text: 0,
-            };
+            return Err(BlockFault::UnexpectedEnd.at(lf));
         }
         w += lf - from;
-        next = skip_empty(source, lf + 1);
-        if check_whitespace(source, first, content, next) {
-            w = put_feeds(out, w, next - lf);
-            from = next + (content - first);
-            continue 'lines;
-        }
-        i = next;
-        while i < source.len() {
-            if !is_blank(source[i]) {
-                break 'lines;
+        let next = skip_empty(source, lf + 1);
+        if !check_whitespace(source, first, content, next) {
+            let i = skip_blanks(source, next);
+            if i == source.len() {
+                return Err(BlockFault::UnexpectedEnd.at(i));
             }
-            i += 1;
+            return close(source, i, lf, next, dash, out, w);
         }
-        return Walk {
-            block: Block::UnexpectedEnd(i),
-            text: 0,
-        };
+        w = put_feeds(out, w, next - lf);
+        from = next + (content - first);
     }
-    close(source, i, lf, next, dash, out, w)
 }
 
-fn lex_str_block(source: &[u8], at: usize, out: &mut [u8]) -> Walk
-    ensures { Walked source.now at out.old result.block result.text out.new }
+fn lex_str_block(source: &[u8], at: usize, out: &mut [u8]) -> Result<Good, BlockError>
+    ensures { Walked source.now at out.old result out.new }
 {
     if source.len() <= at {
-        return Walk {
-            block: Block::UnexpectedEnd(source.len()),
-            text: 0,
-        };
+        return Err(BlockFault::UnexpectedEnd.at(source.len()));
     }
     let open = skip_dash(source, at);
-    let lf = skip_header_blanks(source, open);
+    let lf = skip(source, open, |b| matches!(b, b' ' | b'\t' | b'\r'));
     if lf == source.len() {
-        return Walk {
-            block: Block::UnexpectedEnd(lf),
-            text: 0,
-        };
+        return Err(BlockFault::UnexpectedEnd.at(lf));
     }
     if source[lf] != b'\n' {
-        let end = eat_error(source, lf + 1);
-        return Walk {
-            block: Block::MissingNewLine(end),
-            text: 0,
-        };
+        return Err(BlockFault::MissingNewLine.at(eat_error(source, lf + 1)));
     }
     let body = lf + 1;
     let first = skip_empty(source, body);
     let content = skip_blanks(source, first);
     if content == first {
-        let end = eat_error(source, first);
-        return Walk {
-            block: Block::MissingIndent(end),
-            text: 0,
-        };
+        return Err(BlockFault::MissingIndent.at(eat_error(source, first)));
     }
     lines(source, body, first, content, at < open, out)
 }
@@ -334,19 +233,20 @@ pub fn block_at(source: &[u8], at: usize) -> Block
 {
     // No text is wanted here; one byte is the least to lend.
     let mut nowhere = [0u8; 1];
-    let walk = lex_str_block(source, at, &mut nowhere);
-    walk.block
+    let good = lex_str_block(source, at, &mut nowhere)?;
+    Ok(good.end)
 }
 
 // The text of the block from `at` on, the place after `|||`, into a lent part.
 pub fn block_text(source: &[u8], at: usize, out: &mut [u8]) -> Decoded
     ensures { Decoding (BlockText (drop at source.now)) (Missing (BlockText (drop at source.now))) out.old result out.new }
 {
-    let walk = lex_str_block(source, at, out);
-    let block = walk.block;
-    let Block::Good(_) = block else {
-        strings::clear(out);
-        return Decoded::Refused(0);
-    };
-    Decoded::Text(walk.text)
+    match lex_str_block(source, at, out) {
+        Ok(good) => Ok(good.text),
+        Err(_) => {
+            strings::clear(out);
+            // Kept a 0: `Missing` of strings says it where no place is told.
+            Err(Refused { at: 0 })
+        }
+    }
 }
