@@ -10,6 +10,7 @@ use native.Mathlib.Decide.{ℕ_discrete}
 use lib.Dec.{T, eqb, leb, leb→le}
 use borrow.Author.Tests.{ne_eqb}
 use lib.ListN.{length, get_or}
+use Rattle.std.proofs.Common.{Some}
 use Rattle.regexes.specs.Regex.{within}
 use Rattle.regexes.proofs.Bools.{and_left, and_right, implies, implied}
 use Rattle.lexemes.specs.Kinds.{FLOAT}
@@ -20,7 +21,7 @@ use Rattle.lexemes.specs.Words.{Spells}
 use Rattle.lexemes.specs.Lexeme.{Ruled}
 use Rattle.lexemes.proofs.Classes.{between, class_digit}
 use Rattle.lexemes.proofs.Keywords.{spells_to}
-use Rattle.lexemes.proofs.Numerals.{sign_number, e_number, e_plus_on, e_minus_on, exponent_on, exponent_none, point_number, zero_number, whole_number}
+use Rattle.lexemes.proofs.Numerals.{sign_number, e_number, e_sign_on, exponent_on, exponent_none, point_number, zero_number, whole_number}
 use Rattle.alone.proofs.Alone.{Bytes, split}
 
 -- ── Bytes ─────────────────────────────────────────────────────────────────────────────────────────
@@ -105,12 +106,10 @@ module _ (s : List ℕ) (bytes : Bytes s) where
   exponent_alone p j _ (Exponent.unsigned {b = b} {bs = bs} e d ds) w le t =
       exponent_on s (is_e_lem (get_or s p 0) (bytes p) (subst (λ (y : ℕ). T (is_e y)) (sym w.0) e))
       (e_number s (digit-here (p + 1) b w.1.0 d) (row (p + 1 + 1) j bs ds w.1.1 le t.no_digit t.no_group))
-      (inr ((λ q. omega (arith, q)), refl, refl))
   exponent_alone p j _ (Exponent.signed {b = b} {bs = bs} e sg d ds) w le t =
       let n = sign_number s (digit-here (p + 1 + 1) b w.1.1.0 d) (row (p + 1 + 1 + 1) j bs ds w.1.1.1 le t.no_digit t.no_group) in
       exponent_on s (is_e_lem (get_or s p 0) (bytes p) (subst (λ (y : ℕ). T (is_e y)) (sym w.0) e))
-      (⊎_elim (λ q. e_plus_on s q n) (λ q. e_minus_on s q n) (is_sign_lem (get_or s (p + 1) 0) (bytes (p + 1)) (subst (λ (y : ℕ). T (is_sign y)) (sym w.1.0) sg)))
-      (inr ((λ q. omega (arith, q)), refl, refl))
+      (e_sign_on s (p + 1) (Some record { kind = FLOAT; end = j }) (is_sign_lem (get_or s (p + 1) 0) (bytes (p + 1)) (subst (λ (y : ℕ). T (is_sign y)) (sym w.1.0) sg)) n)
 
   -- What stands first in an exponent, or behind it: neither a digit nor `_`, and no point.
   before-exponent : (p j : ℕ) (es : List ℕ) → Exponent es → Spells s es p j → Stops (get_or s j 0) → (IsDigit (get_or s p 0) → ⊥) × (get_or s p 0 ≡ 95 → ⊥) × (get_or s p 0 ≡ 46 → ⊥)

@@ -1,21 +1,23 @@
 -- The table of byte classes and its rule: one test of all 256 entries, which antt computes, and what it says of each.
 -- Assumes nothing.
 use mathlib.Core.Path.{◌≡◌, refl, sym, ◌∙◌, ap, subst}
-use mathlib.Core.Bool.{Bool, not, ◌&&◌}
+use mathlib.Core.Bool.{Bool, true, false, not, ◌&&◌}
 use mathlib.Core.List.{List, [], ◌∷◌}
 use Prim.Native.Nat.{ℕ, zero, suc, ◌+◌, ◌-◌, ◌<◌, ◌≤◌}
 use native.Mathlib.Omega.{arith}
 use native.Mathlib.Decide.{dec_lt}
-use borrow.Author.Tests.{le-ltb}
+use borrow.Author.Tests.{le-ltb, ne_eqb}
 use lib.Dec.{T, eqb, eqb→eq, leb, le→leb, leb→le}
 use lib.ListN.{length, get_or, get_or-eq_default}
+use Rattle.std.proofs.lemmas.Bool.Decides.{nat_tests}
+use Rattle.std.specs.Char.{is_ascii_digit}
 use Rattle.regexes.specs.Regex.{END, Rule}
-use Rattle.regexes.proofs.Bools.{and, refutes, refuted, and_left, and_right, every, Each, each, all, all_at, implies, implied}
+use Rattle.regexes.proofs.Bools.{is_true, is_false, and, refutes, refuted, and_left, and_right, every, Each, each, all, all_at, implies, implied}
 use Rattle.regexes.proofs.Tables.{steps, gives}
 use Rattle.lexemes.specs.Letters.{WHITE, OTHER, next}
-use Rattle.lexemes.specs.Scan.{class_of, ascii_class, class_table, Ran, InWord, single, Best}
+use Rattle.lexemes.specs.Scan.{class_of, ascii_class, class_table, RunOf, Ran, InWord, Says, IsDigit, single, Best}
 use Rattle.lexemes.proofs.Letters.{letter-ascii, next-ascii, by_byte, inside}
-use Rattle.lexemes.proofs.Moves.{Sees, not_in, Rest, at_rest, go, stop}
+use Rattle.lexemes.proofs.Moves.{Sees, not_in, NotAll, not_all, Rest, at_rest, go, stop}
 
 right : ℕ → Bool
 right b = eqb (get_or class_table b 0) (48 + class_of b)
@@ -23,6 +25,17 @@ right b = eqb (get_or class_table b 0) (48 + class_of b)
 pub table_right : (b : ℕ) → b < 256 → get_or class_table b 0 ≡ 48 + class_of b
 unfolding right class_table all class_of ascii_class
 table_right b h = eqb→eq (get_or class_table b 0) (48 + class_of b) (all_at right 256 tt b h)
+
+few : ℕ → Bool
+few b = leb (class_of b) 10
+
+pub class_most : (b : ℕ) → b < 256 → class_of b ≤ 10
+unfolding few all class_of ascii_class
+class_most b h = leb→le (class_of b) 10 (all_at few 256 tt b h)
+
+-- What an entry of the table says of its byte.
+pub entry_says : (b k : ℕ) → b < 256 → get_or class_table b 0 ≡ 48 + k → k ≡ class_of b
+entry_says b k h e = omega (arith, e, table_right b h)
 
 -- A byte that has a class is one of ASCII, and not 0.
 pub class_zero : class_of 0 ≡ 0
@@ -131,6 +144,45 @@ passed_end {s} {i = i} p some h =
     let z : get_or s i 0 ≡ 0 = get_or-eq_default s 0 h in
     passed_over p (λ c. omega (arith, ap class_of z ∙ class_zero))
 
+-- A test that tells the bytes of the classes lo to hi; a run of such bytes.
+unfoldable pub tells : ℕ → ℕ → (ℕ → Bool) → Bool
+unfolding implies class_of ascii_class
+tells lo hi p = implies 256 p (between lo hi) && implies 256 (λ b. not (p b)) (λ b. not (between lo hi b))
+
+pub ran_by : (p : ℕ → Bool) (lo hi : ℕ) → 1 ≤ lo → T (tells lo hi p) → (s : List ℕ) {f r : ℕ} → ((k : ℕ) → get_or s k 0 < 256) → RunOf p s f r → Ran s f lo hi r
+unfolding tells
+ran_by p lo hi some t s {f} {r} bytes run = record {
+  start = run.start;
+  end = run.end;
+  each = λ k g l. inside k (is_true (p (get_or s k 0)) (run.each k g l));
+  over = over (dec_lt r (length s));
+}
+  where
+    inside : (k : ℕ) → T (p (get_or s k 0)) → (lo ≤ class_of (get_or s k 0)) × (class_of (get_or s k 0) ≤ hi)
+    inside k u =
+        let x = implied 256 p (between lo hi) (and_left (implies 256 p (between lo hi)) (implies 256 (λ b. not (p b)) (λ b. not (between lo hi b))) t) (get_or s k 0) (bytes k) u in
+        (leb→le lo (class_of (get_or s k 0)) (and_left (leb lo (class_of (get_or s k 0))) (leb (class_of (get_or s k 0)) hi) x), leb→le (class_of (get_or s k 0)) hi (and_right (leb lo (class_of (get_or s k 0))) (leb (class_of (get_or s k 0)) hi) x))
+
+    over : Dec (r < length s) → lo ≤ class_of (get_or s r 0) → class_of (get_or s r 0) ≤ hi → ⊥
+    over (yes l) h g =
+        refuted (between lo hi (get_or s r 0))
+        (implied 256 (λ b. not (p b)) (λ b. not (between lo hi b)) (and_right (implies 256 p (between lo hi)) (implies 256 (λ b. not (p b)) (λ b. not (between lo hi b))) t) (get_or s r 0) (bytes r) (is_false (p (get_or s r 0)) (run.over l)))
+        (is_between lo hi (get_or s r 0) h g)
+    over (no n) h g = let z : get_or s r 0 ≡ 0 = get_or-eq_default s 0 (omega arith) in omega (arith, ap class_of z ∙ class_zero)
+
+-- What says whether a word goes on is the test of the classes.
+pub says_between : (b : ℕ) (r : Bool) → Says r (InWord b) → r ≡ between 1 3 b
+says_between b true w = sym (true_of (between 1 3 b) (is_between 1 3 b w.0 w.1))
+  where
+    true_of : (t : Bool) → T t → t ≡ true
+    true_of true u = refl
+    true_of false u = absurd u
+says_between b false n = sym (false_of (between 1 3 b) (not_between 1 3 b (λ h g. n (h, g))))
+  where
+    false_of : (t : Bool) → T (not t) → t ≡ false
+    false_of false u = refl
+    false_of true u = absurd u
+
 -- All bytes from one to another pass a test.
 abbrev from_to : ℕ → ℕ → ℕ → Bool
 from_to lo hi b = leb lo b && leb b hi
@@ -194,6 +246,11 @@ class_digit b h g =
     let t = implied 128 (between 2 3) (λ b. leb 48 b && leb b 57) digits_only b (class_small b (omega arith)) (is_between 2 3 b h g) in
     (leb→le 48 b (and_left (leb 48 b) (leb b 57) t), leb→le b 57 (and_right (leb 48 b) (leb b 57) t))
 
+-- The library's test of a digit.
+pub digit_told : (b : ℕ) (r : Bool) → r ≡ is_ascii_digit b → Says r (IsDigit b)
+digit_told b true e = digit_class b (grind (arith, nat_tests)) (grind (arith, nat_tests))
+digit_told b false e = λ d. let h = class_digit b d.0 d.1 in grind (arith, nat_tests)
+
 -- A blank, by its byte.
 blanks_only : T (implies 256 (not_in (13 ∷ 10 ∷ 9 ∷ 32 ∷ [])) (λ b. not (eqb (class_of b) 4)))
 unfolding implies class_of ascii_class
@@ -204,10 +261,11 @@ no_blank b h r e =
     refuted (eqb (class_of b) 4) (implied 256 (not_in (13 ∷ 10 ∷ 9 ∷ 32 ∷ [])) (λ b. not (eqb (class_of b) 4)) blanks_only b h (at_rest (13 ∷ 10 ∷ 9 ∷ 32 ∷ []) b r))
     (subst (λ (x : ℕ). T (eqb x 4)) (sym e) tt)
 
--- An operator, by its byte; and what has no class: none of these bytes, no letter, no operator.
-abbrev told : List ℕ
-told = 47 ∷ 35 ∷ 64 ∷ 39 ∷ 34 ∷ 57 ∷ 56 ∷ 55 ∷ 54 ∷ 53 ∷ 52 ∷ 51 ∷ 50 ∷ 49 ∷ 48 ∷ 13 ∷ 10 ∷ 9 ∷ 32 ∷ []
+pub says_blank : (b : ℕ) (r : Bool) → Says r (class_of b ≡ 4) → r ≡ eqb (class_of b) 4
+says_blank b true e = sym (ap (λ (x : ℕ). eqb x 4) e)
+says_blank b false n = sym (ne_eqb (class_of b) 4 n)
 
+-- An operator, by its byte; and what has no class: none of these bytes, no letter, no operator.
 operators_only : T (implies 256 (λ b. not (eqb (single b) 0)) (λ b. eqb (class_of b) 10))
 unfolding implies class_of ascii_class single
 operators_only = tt
@@ -217,16 +275,16 @@ operator_class b h n =
     eqb→eq (class_of b) 10
     (implied 256 (λ b. not (eqb (single b) 0)) (λ b. eqb (class_of b) 10) operators_only b h (refutes (eqb (single b) 0) (λ t. n (eqb→eq (single b) 0 t))))
 
-abbrev else_none : ℕ → Bool
-else_none b = not_in told b && (not (eqb (class_of b) 1) && eqb (single b) 0)
-
-none_else : T (implies 256 else_none (λ b. eqb (class_of b) 0))
+-- The bytes from lo to hi but for xs that begin no word and are no operator have no class.
+unfoldable pub else_none : ℕ → ℕ → List ℕ → Bool
 unfolding implies class_of ascii_class single
-none_else = tt
+else_none lo hi xs = implies 256 (λ b. (from_to lo hi b && not_in xs b) && (not (eqb (class_of b) 1) && eqb (single b) 0)) (λ b. eqb (class_of b) 0)
 
-pub none_begun : (b : ℕ) → b < 256 → Rest (47 ∷ 35 ∷ 64 ∷ 39 ∷ 34 ∷ 57 ∷ 56 ∷ 55 ∷ 54 ∷ 53 ∷ 52 ∷ 51 ∷ 50 ∷ 49 ∷ 48 ∷ 13 ∷ 10 ∷ 9 ∷ 32 ∷ []) b → (class_of b ≡ 1 → ⊥) → single b ≡ 0 → class_of b ≡ 0
-none_begun b h r n z =
-    eqb→eq (class_of b) 0
-    (implied 256 else_none (λ b. eqb (class_of b) 0) none_else b h
-    (and (not_in told b) (not (eqb (class_of b) 1) && eqb (single b) 0) (at_rest told b r)
-    (and (not (eqb (class_of b) 1)) (eqb (single b) 0) (refutes (eqb (class_of b) 1) (λ t. n (eqb→eq (class_of b) 1 t))) (subst (λ (x : ℕ). T (eqb x 0)) (sym z) tt))))
+pub none_begun : (lo hi : ℕ) (xs : List ℕ) → T (else_none lo hi xs) → (b : ℕ) → b < 256 → lo ≤ b → b ≤ hi → NotAll xs b → (class_of b ≡ 1 → ⊥) → single b ≡ 0 → 0 ≡ class_of b
+unfolding else_none
+none_begun lo hi xs t b h g l r n z =
+    sym (eqb→eq (class_of b) 0
+    (implied 256 (λ b. (from_to lo hi b && not_in xs b) && (not (eqb (class_of b) 1) && eqb (single b) 0)) (λ b. eqb (class_of b) 0) t b h
+    (and (from_to lo hi b && not_in xs b) (not (eqb (class_of b) 1) && eqb (single b) 0)
+    (and (from_to lo hi b) (not_in xs b) (and (leb lo b) (leb b hi) (le→leb lo b g) (le→leb b hi l)) (not_all xs b r))
+    (and (not (eqb (class_of b) 1)) (eqb (single b) 0) (refutes (eqb (class_of b) 1) (λ t. n (eqb→eq (class_of b) 1 t))) (subst (λ (x : ℕ). T (eqb x 0)) (sym z) tt)))))

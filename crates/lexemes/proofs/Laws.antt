@@ -15,16 +15,17 @@ use Rattle.regexes.proofs.Bools.{and_left, refuted}
 use Rattle.regexes.proofs.Tables.{left, Among, silent_eq, takes_forth, takes_along, kinds, kind_of}
 use Rattle.regexes.proofs.Longest.{takes_up, once, join_left, join_none}
 use Rattle.regexes.proofs.Exists.{Outcome}
-use Rattle.blocks.specs.declared.Block.{Block}
-use Rattle.blocks.specs.declared.Block.TheVariants.{Good, UnexpectedEnd, MissingNewLine, MissingTermination, MissingIndent}
-use Rattle.blocks.specs.Blocks.{BlockAt}
+use Rattle.std.specs.Prelude.{Ok, Err}
+use Rattle.blocks.specs.declared.BlockFault.{BlockFault}
+use Rattle.blocks.specs.declared.BlockFault.TheVariants.{UnexpectedEnd, MissingNewLine, MissingTermination, MissingIndent}
+use Rattle.blocks.specs.Blocks.{Block, BlockAt}
 use Rattle.blocks.proofs.Laws.{block_once, block_end_lem, end_of}
 use Rattle.blocks.proofs.Always.{block_always}
 use Rattle.lexemes.specs.declared.Lexeme.{Lexeme}
 use Rattle.lexemes.specs.Kinds.{EOF, IDENT, STRING_BLOCK, LEXING_ERROR}
 use Rattle.lexemes.specs.Letters.{text, letter, next}
 use Rattle.lexemes.specs.Rules.{rules}
-use Rattle.lexemes.specs.Lexeme.{Beats, Ruled, longest, error, LexemeAt, end, rule, block, lexeme, block_kind, block_end}
+use Rattle.lexemes.specs.Lexeme.{Beats, Ruled, longest, error, LexemeAt, end, rule, block, lexeme, fault_kind, block_kind, block_end}
 use Rattle.lexemes.specs.Scan.{Best, Never}
 use Rattle.lexemes.specs.Words.{word_text, word_kind, Spells, KeywordAt}
 use Rattle.lexemes.proofs.Letters.{up, sound, next-within, letter_inside}
@@ -145,11 +146,8 @@ module _ (s : List ℕ) where
       x ∙ ap (λ (c : Block). lexeme (block_kind c) at (block_end c)) q ∙ sym y
 
   block_ends : (b : Block) → block_end b ≡ end_of b
-  block_ends (Good e) = refl
-  block_ends (UnexpectedEnd e) = refl
-  block_ends (MissingNewLine e) = refl
-  block_ends (MissingTermination e) = refl
-  block_ends (MissingIndent e) = refl
+  block_ends (Ok e) = refl
+  block_ends (Err b) = refl
 
   pub lexeme_bounds : {at : ℕ} {l : Lexeme} → at < length s → LexemeAt s at l → (l.start ≡ at) × (at < l.end) × (l.end ≤ length s)
   lexeme_bounds h (end g x) = absurd (omega arith)
@@ -181,11 +179,14 @@ module _ (s : List ℕ) where
   no_eof = tt
 
   not_eof : (b : Block) → block_kind b ≡ EOF → ⊥
-  not_eof (Good e) q = omega (arith, q)
-  not_eof (UnexpectedEnd e) q = omega (arith, q)
-  not_eof (MissingNewLine e) q = omega (arith, q)
-  not_eof (MissingTermination e) q = omega (arith, q)
-  not_eof (MissingIndent e) q = omega (arith, q)
+  not_eof (Ok e) q = omega (arith, q)
+  not_eof (Err b) q = by b.fault q
+    where
+      by : (f : BlockFault) → fault_kind f ≡ EOF → ⊥
+      by UnexpectedEnd q = omega (arith, q)
+      by MissingNewLine q = omega (arith, q)
+      by MissingTermination q = omega (arith, q)
+      by MissingIndent q = omega (arith, q)
 
   pub lexeme_not_eof : {at : ℕ} {l : Lexeme} → at < length s → LexemeAt s at l → l.kind ≡ EOF → ⊥
   lexeme_not_eof h (end g x) q = omega arith

@@ -13,7 +13,6 @@ pub mod Automaton
 pub mod Laws
 pub mod KeptLaws
 pub mod SameLaws
-pub mod Fates
 pub mod Munch
 pub mod TextLaws
 pub mod Characters

@@ -1,22 +1,25 @@
 -- Numbers: the tables of rules on the way through one, and how far a scan has come.
 -- Assumes nothing.
-use mathlib.Core.Path.{◌≡◌, refl, sym, subst}
+use mathlib.Core.Path.{◌≡◌, refl, sym, ◌∙◌, ap, subst}
 use mathlib.Core.Bool.{Bool, true, false, not, ◌&&◌}
 use mathlib.Core.List.{List, [], ◌∷◌}
-use mathlib.Core.Logic.{inl, inr, ⊎_elim}
+use mathlib.Core.Logic.{◌⊎◌, inl, inr, ⊎_elim}
 use Prim.Native.Nat.{ℕ, zero, suc, ◌+◌, ◌-◌, ◌≤◌, ◌<◌}
 use native.Mathlib.Omega.{arith}
 use native.Mathlib.Decide.{ℕ_discrete}
 use lib.Dec.{T, ltb, lt→ltb, eqb, eqb→eq}
 use lib.ListN.{length, get_or}
-use Rattle.regexes.specs.Regex.{END, Rule, within, ◌to◌, Takes}
+use Rattle.std.proofs.Common.{Option, Some, None}
+use Rattle.std.specs.Option.{unwrap_or}
+use Rattle.regexes.specs.Regex.{END, Rule, within, ◌to◌}
 use Rattle.regexes.proofs.Bools.{and}
 use Rattle.regexes.proofs.Tables.{left, steps, gives, silent}
+use Rattle.lexemes.specs.declared.Matched.{Matched}
 use Rattle.lexemes.specs.Kinds.{FLOAT, ERROR_FLOAT_JUNK_AFTER_POINT, ERROR_FLOAT_JUNK_AFTER_EXPONENT, ERROR_FLOAT_JUNK_AFTER_EXPONENT_SIGN}
-use Rattle.lexemes.specs.Letters.{letter, next, text}
+use Rattle.lexemes.specs.Letters.{letter, next}
 use Rattle.lexemes.specs.Rules.{rules}
 use Rattle.lexemes.specs.Lexeme.{Ruled, longest}
-use Rattle.lexemes.specs.Scan.{Ran, Best, Never, Tried, Ended, IsDigit, Hops, here, digit_on, group_on, Digits, after_point, after_e, after_sign, IsE, ExponentAt, FractionAt, Says}
+use Rattle.lexemes.specs.Scan.{Ran, Best, Never, Tried, IsDigit, Hops, here, digit_on, group_on, Digits, after_point, after_e, after_sign, IsE, ExponentAt, FractionAt, Says}
 use Rattle.lexemes.proofs.Letters.{inside_letter, letter_inside}
 use Rattle.lexemes.proofs.Spaces.{within_to}
 use Rattle.lexemes.proofs.Moves.{Sees, low, not_in, NotAll, byte, none, end, go, stop, stop_before, fail_before, never}
@@ -196,33 +199,31 @@ module _ (s : List ℕ) where
   junk_taken {S} {f} {r} {k} xs t h n m u e =
       subst (λ (x : ℕ). Best s S f k x) (sym e) (go (junk_at f xs t h n m) (ended s k (next s f)) u)
 
-  pub sign_number : {f r : ℕ} → IsDigit (get_or s f 0) → Digits s (f + 1) r → Tried s after_sign f FLOAT r
-  sign_number d g = inr (exponent-digits sign-digit d g)
+  pub sign_number : {f r : ℕ} → IsDigit (get_or s f 0) → Digits s (f + 1) r → Best s after_sign f FLOAT r
+  sign_number d g = exponent-digits sign-digit d g
 
-  pub sign_none : {f : ℕ} (e : ℕ) → length s ≤ f → Tried s after_sign f 0 e
-  sign_none e h = inl (refl, nothing_at sign_trial h)
+  pub sign_none : {f : ℕ} → length s ≤ f → Never s after_sign f
+  sign_none h = nothing_at sign_trial h
 
-  pub sign-bad : {f r : ℕ} → f < length s → (IsDigit (get_or s f 0) → ⊥) → r ≡ next s f → Tried s after_sign f ERROR_FLOAT_JUNK_AFTER_EXPONENT_SIGN r
-  sign-bad h n e = inr (junk_taken [] tt h n tt sign_junk e)
+  pub sign-bad : {f r : ℕ} → f < length s → (IsDigit (get_or s f 0) → ⊥) → r ≡ next s f → Best s after_sign f ERROR_FLOAT_JUNK_AFTER_EXPONENT_SIGN r
+  sign-bad h n e = junk_taken [] tt h n tt sign_junk e
 
-  pub e_number : {f r : ℕ} → IsDigit (get_or s f 0) → Digits s (f + 1) r → Tried s after_e f FLOAT r
-  e_number d g = inr (exponent-digits e_digit d g)
+  pub e_number : {f r : ℕ} → IsDigit (get_or s f 0) → Digits s (f + 1) r → Best s after_e f FLOAT r
+  e_number d g = exponent-digits e_digit d g
 
-  pub e_none : {f : ℕ} (e : ℕ) → length s ≤ f → Tried s after_e f 0 e
-  e_none e h = inl (refl, nothing_at e_trial h)
+  pub e_none : {f : ℕ} → length s ≤ f → Never s after_e f
+  e_none h = nothing_at e_trial h
 
-  pub e_bad : {f r : ℕ} → f < length s → (IsDigit (get_or s f 0) → ⊥) → NotAll (43 ∷ 45 ∷ []) (get_or s f 0) → r ≡ next s f → Tried s after_e f ERROR_FLOAT_JUNK_AFTER_EXPONENT r
-  e_bad h n m e = inr (junk_taken (43 ∷ 45 ∷ []) tt h n m e_junk e)
+  pub e_bad : {f r : ℕ} → f < length s → (IsDigit (get_or s f 0) → ⊥) → NotAll (43 ∷ 45 ∷ []) (get_or s f 0) → r ≡ next s f → Best s after_e f ERROR_FLOAT_JUNK_AFTER_EXPONENT r
+  e_bad h n m e = junk_taken (43 ∷ 45 ∷ []) tt h n m e_junk e
 
-  signed : {f k e : ℕ} (b : ℕ) → Sees s f (eqb b) (f + 1) → T (steps after_e (eqb b) after_sign) → Tried s after_sign (f + 1) k e → Tried s after_e f k e
-  signed b x t (inl w) = inl (w.0, fail_before x w.1 t e_trial.silent_S)
-  signed b x t (inr w) = inr (go x w t)
+  signed : (f b : ℕ) → Sees s f (eqb b) (f + 1) → T (steps after_e (eqb b) after_sign) → (o : Option Matched) → Tried s after_sign (f + 1) o → Tried s after_e f o
+  signed f b x t None w = fail_before x w t e_trial.silent_S
+  signed f b x t (Some m) w = go x w t
 
-  pub e_plus_on : {f k e : ℕ} → get_or s f 0 ≡ 43 → Tried s after_sign (f + 1) k e → Tried s after_e f k e
-  e_plus_on {f} h w = signed 43 (byte s f 43 tt h) e_plus w
-
-  pub e_minus_on : {f k e : ℕ} → get_or s f 0 ≡ 45 → Tried s after_sign (f + 1) k e → Tried s after_e f k e
-  e_minus_on {f} h w = signed 45 (byte s f 45 tt h) e_minus w
+  pub e_sign_on : (f : ℕ) (o : Option Matched) → (get_or s f 0 ≡ 43) ⊎ (get_or s f 0 ≡ 45) → Tried s after_sign (f + 1) o → Tried s after_e f o
+  e_sign_on f o (inl h) w = signed f 43 (byte s f 43 tt h) e_plus o w
+  e_sign_on f o (inr h) w = signed f 45 (byte s f 45 tt h) e_minus o w
 
   -- An `e` or `E`.
   e_at : {p : ℕ} → IsE (get_or s p 0) → Sees s p (one_of (101 ∷ 69 ∷ [])) (p + 1)
@@ -233,23 +234,15 @@ module _ (s : List ℕ) where
       let x = byte s p 69 tt h in
       record { passes = subst (λ (l : ℕ). T (one_of (101 ∷ 69 ∷ []) l)) (eqb→eq 69 (letter s p) x.passes) tt; after = x.after }
 
-  no_zero : {p e : ℕ} → Best s after_e p 0 e → ⊥
-  unfolding Takes
-  no_zero {p} {e} l = kinds p e l.takes
-    where
-      kinds : (p e : ℕ) → Takes (text s) after_e 0 p e → ⊥
-      kinds p e (inl m) = omega (arith, m.0)
-      kinds p e (inr (inl m)) = omega (arith, m.0)
-      kinds p e (inr (inr (inl m))) = omega (arith, m.0)
-      kinds p e (inr (inr (inr m))) = m
+  pub exponent_on : {p k e : ℕ} → IsE (get_or s p 0) → Best s after_e (p + 1) k e → ExponentAt s p k e
+  exponent_on i w = inl (i, w)
 
-  -- What was tried after `e` comes to nothing, or is the number.
-  pub exponent_on : {p k e k' e' : ℕ} → IsE (get_or s p 0) → Tried s after_e (p + 1) k e → Ended k e p k' e' → ExponentAt s p k' e'
-  exponent_on i (inl w) (inl z) = inr (z.1, z.2, λ q. w.1)
-  exponent_on i (inl w) (inr z) = absurd (z.0 w.0)
-  exponent_on {p} {k} {e} i (inr w) (inl z) = absurd (no_zero (subst (λ (x : ℕ). Best s after_e (p + 1) x e) z.0 w))
-  exponent_on {p} {k} {e} {k'} {e'} i (inr w) (inr z) =
-      inl (i, subst (λ (x : ℕ). Best s after_e (p + 1) x e') (sym z.1) (subst (λ (x : ℕ). Best s after_e (p + 1) k x) (sym z.2) w))
+  -- What was tried after `e` is the number, or comes to nothing, and the number ends before it.
+  pub exponent_tried :
+      {p : ℕ} (o : Option Matched) (whole m : Matched) → IsE (get_or s p 0) → Tried s after_e (p + 1) o → whole.kind ≡ FLOAT → whole.end ≡ p → m ≡ unwrap_or o whole
+      → ExponentAt s p m.kind m.end
+  exponent_tried None whole m i n k e q = inr (ap (λ (x : Matched). x.kind) q ∙ k, ap (λ (x : Matched). x.end) q ∙ e, λ j. n)
+  exponent_tried {p} (Some x) whole m i b k e q = inl (i, subst (λ (y : Matched). Best s after_e (p + 1) y.kind y.end) (sym q) b)
 
   pub exponent_none : {p : ℕ} → (get_or s p 0 ≡ 101 → ⊥) → (get_or s p 0 ≡ 69 → ⊥) → ExponentAt s p FLOAT p
   exponent_none n m = inr (refl, refl, λ i. absurd (⊎_elim n m i))

@@ -1,26 +1,28 @@
 -- Operators: what is left of the rules after one, two or three bytes, by tests that antt computes.
 -- Assumes nothing.
 use mathlib.Core.Path.{◌≡◌, refl, sym, ◌∙◌, ap, subst}
-use mathlib.Core.Bool.{Bool, true, false, not, cond, ◌&&◌}
+use mathlib.Core.Bool.{Bool, true, false, true≢false, not, cond, ◌&&◌}
 use mathlib.Core.List.{List, [], ◌∷◌}
-use mathlib.Core.Logic.{inl, inr}
 use Prim.Native.Nat.{ℕ, ◌+◌, ◌<◌}
 use native.Mathlib.Omega.{arith}
 use native.Mathlib.Decide.{dec_lt, ℕ_discrete}
 use lib.Dec.{T, eqb, eqb→eq, ltb, ltb→lt}
 use lib.ListN.{get_or}
 use borrow.Author.Tests.{ne_eqb}
+use Rattle.std.proofs.Common.{Option, Some, None}
+use Rattle.std.proofs.lemmas.Option.{none-some}
+use Rattle.std.specs.Option.{is_some, unwrap_or}
 use Rattle.regexes.specs.Regex.{END}
-use Rattle.regexes.proofs.Bools.{and, and_left, and_right, every, Each, each, ask, all, all_at, implies, implied}
+use Rattle.regexes.proofs.Bools.{refuted, and, and_left, and_right, every, Each, each, ask, all, all_at, implies, implied}
 use Rattle.regexes.proofs.Tables.{left, steps, gives, silent}
 use Rattle.lexemes.specs.Kinds.{OR, DOT, DOTDOTDOT, STRING_BLOCK}
 use Rattle.lexemes.specs.Letters.{WHITE, OTHER, next}
 use Rattle.lexemes.specs.Rules.{rules}
 use Rattle.lexemes.specs.Lexeme.{Ruled, longest}
-use Rattle.lexemes.specs.Scan.{Best, class_of, ascii_class, single, pair, Alone, Lone}
+use Rattle.lexemes.specs.Scan.{Best, class_of, ascii_class, named, single, pair, Alone, Lone}
 use Rattle.lexemes.proofs.Letters.{by_byte}
-use Rattle.lexemes.proofs.Moves.{Sees, plain, not_in, not_all, Rest, at_rest, byte, none, go, stop, stop_before, never}
-use Rattle.lexemes.proofs.Classes.{between, is_between, class_small}
+use Rattle.lexemes.proofs.Moves.{Sees, plain, not_in, not_all, byte, none, go, stop, stop_before, never}
+use Rattle.lexemes.proofs.Classes.{between, is_between, class_small, operator_class}
 use Rattle.lexemes.proofs.Quotes.{done, ended}
 
 -- A byte that begins an operator other than a dot.
@@ -78,34 +80,6 @@ unfolding or_of
 pair_or b c h g e =
     let t = implied 128 (λ c. eqb (pair b c) OR) (λ c. eqb b 124 && eqb c 124) (all_at or_of 128 all_or b h) c g (subst (λ (k : ℕ). T (eqb k OR)) (sym e) tt) in
     (eqb→eq b 124 (and_left (eqb b 124) (eqb c 124) t), eqb→eq c 124 (and_right (eqb b 124) (eqb c 124) t))
-
--- What the matches leave to their last arms.
-abbrev pub singles : List ℕ
-singles = 63 ∷ 61 ∷ 36 ∷ 44 ∷ 46 ∷ 59 ∷ 58 ∷ 125 ∷ 123 ∷ 41 ∷ 40 ∷ 93 ∷ 91 ∷ 126 ∷ 33 ∷ 37 ∷ 42 ∷ 45 ∷ 43 ∷ 62 ∷ 60 ∷ 38 ∷ 94 ∷ 124 ∷ []
-
-no_single : T (implies 256 (not_in singles) (λ b. eqb (single b) 0))
-unfolding implies single
-no_single = tt
-
-no_pair : T (implies 256 (not_in (62 ∷ 60 ∷ 33 ∷ 61 ∷ [])) (λ b. eqb (pair b 61) 0))
-unfolding implies pair
-no_pair = tt
-
-no_twin : T (implies 256 (not_in (61 ∷ 62 ∷ 60 ∷ 38 ∷ 63 ∷ 124 ∷ [])) (λ b. eqb (pair b b) 0))
-unfolding implies pair
-no_twin = tt
-
-module _ (b : ℕ) (h : b < 256) where
-  pub single_none : Rest singles b → 0 ≡ single b
-  single_none r = sym (eqb→eq (single b) 0 (implied 256 (not_in singles) (λ b. eqb (single b) 0) no_single b h (at_rest singles b r)))
-
-  pub pair_none : Rest (62 ∷ 60 ∷ 33 ∷ 61 ∷ []) b → 0 ≡ pair b 61
-  pair_none r =
-      sym (eqb→eq (pair b 61) 0 (implied 256 (not_in (62 ∷ 60 ∷ 33 ∷ 61 ∷ [])) (λ b. eqb (pair b 61) 0) no_pair b h (at_rest (62 ∷ 60 ∷ 33 ∷ 61 ∷ []) b r)))
-
-  pub twin_none : Rest (62 ∷ 60 ∷ 38 ∷ 63 ∷ 124 ∷ []) b → (b ≡ 61 → ⊥) → 0 ≡ pair b b
-  twin_none r n =
-      sym (eqb→eq (pair b b) 0 (implied 256 (not_in (61 ∷ 62 ∷ 60 ∷ 38 ∷ 63 ∷ 124 ∷ [])) (λ b. eqb (pair b b) 0) no_twin b h (at_rest (61 ∷ 62 ∷ 60 ∷ 38 ∷ 63 ∷ 124 ∷ []) b (r, n))))
 
 module _ (s : List ℕ) (at : ℕ) (h : class_of (get_or s at 0) ≡ 10) (n : get_or s at 0 ≡ 46 → ⊥) where
   small : get_or s at 0 < 128
@@ -254,12 +228,88 @@ flat true y = refl
 flat false true = refl
 flat false false = refl
 
-pub alone : (b : ℕ) {x k : ℕ} → x ≡ b → class_of b ≡ 10 → k ≡ single b → ((c : ℕ) → pair b c ≡ 0) → (b ≡ 46 → ⊥) → Lone x k
-alone b {k = k} e h q n d = inr (λ c. subst (λ (y : ℕ). Alone y c k) (sym e) record { class = h; kind = q; no_pair = n c; no_dots = λ f _. d f })
+-- The bytes that begin longer operators, or dots; the operators of the others stand alone.
+abbrev pub longer : List ℕ
+longer = 61 ∷ 33 ∷ 60 ∷ 62 ∷ 38 ∷ 63 ∷ 124 ∷ 46 ∷ []
 
-pub alone_by : {b k : ℕ} (c : ℕ) → Lone b k → (k ≡ 0 → ⊥) → Alone b c k
-alone_by c (inl z) n = absurd (n z)
-alone_by c (inr a) n = a c
+no_longer : T (implies 256 (not_in longer) (λ b. eqb (pair b 61) 0 && eqb (pair b b) 0))
+unfolding implies pair
+no_longer = tt
+
+pair_none : (b c : ℕ) → pair b 61 ≡ 0 → pair b b ≡ 0 → pair b c ≡ 0
+unfolding pair
+pair_none b c e q = by (ℕ_discrete c 61) (ℕ_discrete b c)
+  where
+    by : Dec (c ≡ 61) → Dec (b ≡ c) → pair b c ≡ 0
+    by (yes x) d = subst (λ (y : ℕ). pair b y ≡ 0) (sym x) e
+    by (no n) (yes x) = subst (λ (y : ℕ). pair b y ≡ 0) x q
+    by (no n) (no m) = simp (ne_eqb c 61 n, ne_eqb b c m)
+
+named_is : (k : ℕ) → (k ≡ 0 → ⊥) → named k ≡ Some k
+named_is k n = ap (λ (t : Bool). cond t None (Some k)) (ne_eqb k 0 n)
+
+pub named_some : {k x : ℕ} → Some x ≡ named k → (x ≡ k) × (k ≡ 0 → ⊥)
+named_some {k} {x} e = by (ℕ_discrete k 0)
+  where
+    by : Dec (k ≡ 0) → (x ≡ k) × (k ≡ 0 → ⊥)
+    by (yes z) = absurd (none-some x (sym (e ∙ ap named z)))
+    by (no n) = (ap (λ (o : Option ℕ). unwrap_or o 0) (e ∙ named_is k n), n)
+
+pub named_none : {k : ℕ} → None ≡ named k → k ≡ 0
+named_none {k} e = by (ℕ_discrete k 0)
+  where
+    by : Dec (k ≡ 0) → k ≡ 0
+    by (yes z) = z
+    by (no n) = absurd (none-some k (e ∙ named_is k n))
+
+lone : (b : ℕ) → b < 256 → T (not_in longer b) → (o : Option ℕ) → o ≡ named (single b) → Lone b o
+lone b h t None e = tt
+lone b h t (Some k) e = λ c. record {
+  class = operator_class b h n.1;
+  kind = n.0;
+  no_pair = pair_none b c (eqb→eq (pair b 61) 0 (and_left (eqb (pair b 61) 0) (eqb (pair b b) 0) q)) (eqb→eq (pair b b) 0 (and_right (eqb (pair b 61) 0) (eqb (pair b b) 0) q));
+  no_dots = λ x y. subst (λ (z : ℕ). T (not_in longer z)) x t;
+}
+  where
+    n : (k ≡ single b) × (single b ≡ 0 → ⊥)
+    n = named_some e
+
+    q : T (eqb (pair b 61) 0 && eqb (pair b b) 0)
+    q = implied 256 (not_in longer) (λ b. eqb (pair b 61) 0 && eqb (pair b b) 0) no_longer b h t
+
+pub alone : (b : ℕ) {x k : ℕ} → x ≡ b → b < 256 → T (not_in longer b) → Some k ≡ named (single b) → Lone x (Some k)
+alone b {k = k} e h t q = subst (λ (y : ℕ). Lone y (Some k)) (sym e) (lone b h t (Some k) q)
+
+-- Whether a byte is an operator.
+pub is_operator : (b : ℕ) → b < 256 → (o : Option ℕ) → o ≡ named (single b) → is_some o ≡ true → 10 ≡ class_of b
+is_operator b h None e t = absurd (true≢false (sym t))
+is_operator b h (Some k) e t = sym (operator_class b h (named_some e).1)
+
+pub no_operator : (b : ℕ) (o : Option ℕ) → o ≡ named (single b) → is_some o ≡ false → single b ≡ 0
+no_operator b None e t = named_none e
+no_operator b (Some k) e t = absurd (true≢false t)
+
+-- A byte of the operators' class is one.
+all_single : T (implies 128 (λ b. eqb (class_of b) 10) (λ b. not (eqb (single b) 0)))
+unfolding implies class_of ascii_class single
+all_single = tt
+
+pub single_some : (b : ℕ) → class_of b ≡ 10 → None ≡ named (single b) → ⊥
+single_some b e z =
+    refuted (eqb (single b) 0)
+    (implied 128 (λ b. eqb (class_of b) 10) (λ b. not (eqb (single b) 0)) all_single b (class_small b (omega (arith, e))) (subst (λ (x : ℕ). T (eqb x 10)) (sym e) tt))
+    (subst (λ (x : ℕ). T (eqb x 0)) (sym (named_none z)) tt)
+
+-- An operator by its pair, which may be none.
+module _ (s : List ℕ) (at : ℕ) (h : class_of (get_or s at 0) ≡ 10) (n : get_or s at 0 ≡ 46 → ⊥) where
+  pub by_one : {k : ℕ} → None ≡ named (pair (get_or s at 0) (get_or s (at + 1) 0)) → Some k ≡ named (single (get_or s at 0)) → Ruled s at k (at + 1)
+  by_one z e = one_byte s at h n refl (named_none z) (named_some e).0
+
+  pub by_two : {k : ℕ} → Some k ≡ named (pair (get_or s at 0) (get_or s (at + 1) 0)) → (k ≡ OR → get_or s (at + 2) 0 ≡ 124 → ⊥) → Ruled s at k (at + 2)
+  by_two e m = let x = named_some e in two_bytes s at h n x.0 (λ z. x.1 (sym x.0 ∙ z)) m
+
+  pub by_three : {k : ℕ} → Some k ≡ named (pair (get_or s at 0) (get_or s (at + 1) 0)) → k ≡ OR → get_or s (at + 2) 0 ≡ 124 → Ruled s at STRING_BLOCK (at + 3)
+  by_three e o g = three_bytes s at h n (named_some e).0 o g
 
 pub alone_scanned : (s : List ℕ) (at : ℕ) {k : ℕ} → Alone (get_or s at 0) (get_or s (at + 1) 0) k → Ruled s at k (at + 1)
 unfolding single

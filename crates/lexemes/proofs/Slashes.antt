@@ -1,6 +1,6 @@
 -- Comments: the tables of rules on the way through one, and how far a scan has come.
 -- Assumes nothing.
-use mathlib.Core.Path.{◌≡◌, refl, sym, subst}
+use mathlib.Core.Path.{◌≡◌, refl, sym, subst, ◌∙◌}
 use mathlib.Core.Bool.{Bool, true, false, true≢false}
 use mathlib.Core.List.{List, [], ◌∷◌, ◌++◌}
 use mathlib.Core.Logic.{◌⊎◌, inl, inr, ⊎_elim}
@@ -8,6 +8,7 @@ use Prim.Native.Nat.{ℕ, ◌+◌, ◌≤◌, ◌<◌}
 use native.Mathlib.Omega.{arith}
 use lib.Dec.{T, eqb}
 use lib.ListN.{length, get_or}
+use Rattle.std.proofs.Common.{Some}
 use Rattle.regexes.specs.Regex.{END, Rule, ◌⇒◌, ◌·◌, ◌∣◌, star, Takes}
 use Rattle.regexes.proofs.Tables.{left, steps, steps_eq, gives, silent, takes_forth, append_from}
 use Rattle.regexes.proofs.Longest.{empty, join_left, join_right, join_none}
@@ -227,25 +228,24 @@ module _ {s : List ℕ} {f : ℕ} where
           past = λ e. omega (arith, m.from, up s i, x.after);
         }
 
-    pub seek_star : get_or s i 0 ≡ 42 → Seeking s f (i + 1) true
-    seek_star h = seek_on true (byte s i 42 tt h) (star_on b) after_star part_star
+    pub seek_star : {j : ℕ} → get_or s i 0 ≡ 42 → j ≡ next s i → Seeking s f j true
+    seek_star h e = let x = byte s i 42 tt h in subst (λ (y : ℕ). Seeking s f y true) (x.after ∙ sym e) (seek_on true x (star_on b) after_star part_star)
 
     pub seek_other : {j : ℕ} → i < length s → NotAll (42 ∷ 47 ∷ []) (get_or s i 0) → j ≡ next s i → Seeking s f j false
     seek_other l n e =
         subst (λ (x : ℕ). Seeking s f x false) (sym e) (seek_on false (char s i (42 ∷ 47 ∷ []) tt l n) (other_on b) after_other part_other)
 
-    pub seek_end : length s ≤ i → Closing s f 0
-    seek_end h = inl (refl, m.nothing (never (end s i h) (end_off b) (silent_in b)))
+    pub seek_end : length s ≤ i → Never s in_comment f
+    seek_end h = m.nothing (never (end s i h) (end_off b) (silent_in b))
 
-  pub seek_slash : {i : ℕ} {b : Bool} → Seeking s f i b → b ≡ false → get_or s i 0 ≡ 47 → Seeking s f (i + 1) b
-  seek_slash {i} {b} m e h =
-      subst (λ (x : Bool). Seeking s f (i + 1) x) (sym e)
-      (seek_on (subst (λ (x : Bool). Seeking s f i x) e m) false (byte s i 47 tt h) slash_on (λ u. off) part_slash)
+  pub seek_slash : {i j : ℕ} {b : Bool} → Seeking s f i b → b ≡ false → get_or s i 0 ≡ 47 → j ≡ next s i → Seeking s f j false
+  seek_slash {i} m e h q =
+      let x = byte s i 47 tt h in
+      subst (λ (y : ℕ). Seeking s f y false) (x.after ∙ sym q) (seek_on (subst (λ (y : Bool). Seeking s f i y) e m) false x slash_on (λ u. off) part_slash)
 
-  pub seek_closed : {i : ℕ} {b : Bool} → Seeking s f i b → b ≡ true → get_or s i 0 ≡ 47 → Closing s f (i + 1)
+  pub seek_closed : {i : ℕ} {b : Bool} → Seeking s f i b → b ≡ true → get_or s i 0 ≡ 47 → Closing s f (Some (i + 1))
   seek_closed {i} {b} m e h =
-      let n = subst (λ (x : Bool). Seeking s f i x) e m in
-      inr (
+      let n = subst (λ (x : Bool). Seeking s f i x) e m in (
         n.on (go (byte s i 47 tt h) (ended s MULTI_LINE_COMMENT (i + 1)) slash_off),
         omega (arith, n.past refl),
         λ k e' w. omega (arith, far_off (byte s i 47 tt h) n.far part_slash k e' w),
@@ -371,10 +371,9 @@ module _ (s : List ℕ) (at : ℕ) where
       three : {k e : ℕ} → Best s after_opening (at + 2) k e → Ruled s at k e
       three l = second 42 tt g l star_second
 
-      pub closed_scanned : {r : ℕ} → (r ≡ 0 → ⊥) → Closing s (at + 2) r → Ruled s at MULTI_LINE_COMMENT r
+      pub closed_scanned : {r : ℕ} → Closing s (at + 2) (Some r) → Ruled s at MULTI_LINE_COMMENT r
       unfolding Takes
-      closed_scanned z (inl w) = absurd (z w.0)
-      closed_scanned {r} z (inr w) =
+      closed_scanned {r} w =
           three
           (join_left (text s) (sound s) Beats in_comment (too_short ++ unclosed) (at + 2) MULTI_LINE_COMMENT r w.0
           (λ k e t. ⊎_elim (λ x. omega (arith, short_end k e x, w.1)) (λ x. w.2 k e x) (append_from (text s) too_short unclosed k (at + 2) e t)))
@@ -382,10 +381,6 @@ module _ (s : List ℕ) (at : ℕ) where
           short_end : (k e : ℕ) → Takes (text s) too_short k (at + 2) e → e ≤ at + 2 + 1
           short_end k e (inl m) = omega (arith, (is_to s (at + 2) 47 e tt m.1).1)
           short_end k e (inr m) = absurd m
-
-      pub never_closed : {r : ℕ} → r ≡ 0 → Closing s (at + 2) r → Never s in_comment (at + 2)
-      never_closed z (inl w) = w.1
-      never_closed z (inr w) = absurd (omega (arith, z, w.1))
 
       module _ (n : Never s in_comment (at + 2)) where
         -- A `/` is no part of a comment with no closing.

@@ -21,7 +21,7 @@ use Rattle.lexemes.specs.declared.Lexeme.{Lexeme}
 use Rattle.lexemes.specs.Letters.{text, letter, next}
 use Rattle.lexemes.specs.Rules.{rules, alpha, alnum, digit, groups, some, opt, sign, quoted, verbatim, whole, fraction, exponent}
 use Rattle.lexemes.specs.Kinds.{EOF, LEXING_ERROR, ERROR_STRING_BLOCK_MISSING_INDENT, IDENT, FLOAT, STRING_DOUBLE, STRING_SINGLE, STRING_DOUBLE_VERBATIM, STRING_SINGLE_VERBATIM, STRING_BLOCK}
-use Rattle.lexemes.specs.Lexeme.{Beats, Ruled, longest, error, LexemeAt, end, rule, block, block_kind, block_end}
+use Rattle.lexemes.specs.Lexeme.{Beats, Ruled, longest, error, LexemeAt, end, rule, block, fault_kind, block_kind, block_end}
 use Rattle.lexemes.specs.Scan.{Best}
 use Rattle.lexemes.specs.Words.{word_text, word_bytes, word_from, word_kind, Spells, KeywordAt}
 use Rattle.lexemes.specs.Texts.{part, text_of, All, Identifier, keywords, Among, plain, is_digit, is_e, Whole, digits, Fraction, point, Exponent, unsigned, signed, Numeral, numeral, Enclosed, EnclosedRaw}
@@ -30,9 +30,10 @@ use Rattle.strings.specs.Utf8.{Utf8}
 use Rattle.strings.specs.Literals.{Quoted, Verbatim}
 use Rattle.strings.proofs.LiteralLaws.{quoted-utf8, verbatim-utf8}
 use Rattle.strings.proofs.CharacterLaws.{ascii_splits}
-use Rattle.blocks.specs.declared.Block.{Block}
-use Rattle.blocks.specs.declared.Block.TheVariants.{Good, UnexpectedEnd, MissingNewLine, MissingTermination, MissingIndent}
-use Rattle.blocks.specs.Blocks.{BlockAt, BlockText}
+use Rattle.std.specs.Prelude.{Ok, Err}
+use Rattle.blocks.specs.declared.BlockFault.{BlockFault}
+use Rattle.blocks.specs.declared.BlockFault.TheVariants.{UnexpectedEnd, MissingNewLine, MissingTermination, MissingIndent}
+use Rattle.blocks.specs.Blocks.{Block, BlockAt, BlockText}
 use Rattle.blocks.proofs.Laws.{good_decodes}
 use Rattle.blocks.proofs.Utf8.{text-utf8}
 use Rattle.lexemes.proofs.Laws.{lexeme_bounds}
@@ -462,11 +463,14 @@ module _ (s : List ℕ) where
   ordinary k = not (eqb k EOF) ∷ not (eqb k LEXING_ERROR) ∷ not (leb STRING_BLOCK k && leb k ERROR_STRING_BLOCK_MISSING_INDENT) ∷ []
 
   not_block : (b : Block) → T (leb STRING_BLOCK (block_kind b) && leb (block_kind b) ERROR_STRING_BLOCK_MISSING_INDENT)
-  not_block (Good e) = tt
-  not_block (UnexpectedEnd e) = tt
-  not_block (MissingNewLine e) = tt
-  not_block (MissingTermination e) = tt
-  not_block (MissingIndent e) = tt
+  not_block (Ok e) = tt
+  not_block (Err b) = by b.fault
+    where
+      by : (f : BlockFault) → T (leb STRING_BLOCK (fault_kind f) && leb (fault_kind f) ERROR_STRING_BLOCK_MISSING_INDENT)
+      by UnexpectedEnd = tt
+      by MissingNewLine = tt
+      by MissingTermination = tt
+      by MissingIndent = tt
 
   by_rule : {at : ℕ} {l : Lexeme} (k : ℕ) → T (every (ordinary k)) → LexemeAt s at l → l.kind ≡ k → Best s rules l.start k l.end
   by_rule k t (end h x) q =
@@ -527,7 +531,7 @@ module _ (s : List ℕ) where
       let e : m.2.0 ≡ a + 2 = omega (arith, x.1, y.1) in
       (omega (arith, z.1), subst (λ (i : ℕ). get_or s i 0 ≡ 124) e z.0)
 
-  pub block_is_good : {at : ℕ} {l : Lexeme} → LexemeAt s at l → l.kind ≡ STRING_BLOCK → BlockAt s (l.start + 3) (Good l.end) × (get_or s (l.start + 2) 0 ≡ 124)
+  pub block_is_good : {at : ℕ} {l : Lexeme} → LexemeAt s at l → l.kind ≡ STRING_BLOCK → BlockAt s (l.start + 3) (Ok l.end) × (get_or s (l.start + 2) 0 ≡ 124)
   block_is_good (end h x) q = absurd (omega (arith, q, ap (λ (l : Lexeme). l.kind) x))
   block_is_good (rule h r n x) q = absurd (n (sym (ap (λ (l : Lexeme). l.kind) x) ∙ q))
   block_is_good {at} {l} (block {p = p} {b = b} h r d x) q =
@@ -535,14 +539,17 @@ module _ (s : List ℕ) where
       let a = ap (λ (l : Lexeme). l.start) x in
       let u : p ≡ l.start + 3 = omega (arith, t.0, a) in
       let v : at + 2 ≡ l.start + 2 = omega (arith, a) in
-      (subst (λ (i : ℕ). BlockAt s i (Good l.end)) u (good b (ap (λ (l : Lexeme). l.end) x) (sym (ap (λ (l : Lexeme). l.kind) x) ∙ q) d), subst (λ (i : ℕ). get_or s i 0 ≡ 124) v t.1)
+      (subst (λ (i : ℕ). BlockAt s i (Ok l.end)) u (good b (ap (λ (l : Lexeme). l.end) x) (sym (ap (λ (l : Lexeme). l.kind) x) ∙ q) d), subst (λ (i : ℕ). get_or s i 0 ≡ 124) v t.1)
     where
-      good : (b : Block) → l.end ≡ block_end b → block_kind b ≡ STRING_BLOCK → BlockAt s p b → BlockAt s p (Good l.end)
-      good (Good e) z k d = subst (λ (i : ℕ). BlockAt s p (Good i)) (sym z) d
-      good (UnexpectedEnd e) z k d = absurd (omega (arith, k))
-      good (MissingNewLine e) z k d = absurd (omega (arith, k))
-      good (MissingTermination e) z k d = absurd (omega (arith, k))
-      good (MissingIndent e) z k d = absurd (omega (arith, k))
+      good : (b : Block) → l.end ≡ block_end b → block_kind b ≡ STRING_BLOCK → BlockAt s p b → BlockAt s p (Ok l.end)
+      good (Ok e) z k d = subst (λ (i : ℕ). BlockAt s p (Ok i)) (sym z) d
+      good (Err b) z k d = absurd (by b.fault k)
+        where
+          by : (f : BlockFault) → fault_kind f ≡ STRING_BLOCK → ⊥
+          by UnexpectedEnd k = omega (arith, k)
+          by MissingNewLine k = omega (arith, k)
+          by MissingTermination k = omega (arith, k)
+          by MissingIndent k = omega (arith, k)
 
   -- "number 10 never occurs": a good block decodes.
   pub block_decodes : {at : ℕ} {l : Lexeme} → LexemeAt s at l → l.kind ≡ STRING_BLOCK → (t : List ℕ) × BlockText (drop (l.start + 3) s) t

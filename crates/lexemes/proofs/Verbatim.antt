@@ -1,23 +1,23 @@
 -- What begins with `@`: verbatim strings, and junk. The tables of rules on the way, and how far a scan has come.
 -- Assumes nothing.
-use mathlib.Core.Path.{◌≡◌, refl, sym, subst}
-use mathlib.Core.Bool.{true, false, not, ◌&&◌}
+use mathlib.Core.Path.{◌≡◌, refl, sym, ap, subst}
+use mathlib.Core.Bool.{Bool, true, false, not, cond, ◌&&◌}
 use mathlib.Core.List.{List, [], ◌∷◌}
 use mathlib.Core.Logic.{◌⊎◌, inl, inr, ⊎_elim}
 use Prim.Native.Nat.{ℕ, ◌+◌, ◌≤◌, ◌<◌}
 use native.Mathlib.Omega.{arith}
-use lib.Dec.{T, eqb, ltb, ltb→lt, lt→ltb, leb, le→leb}
+use lib.Dec.{T, eqb, ltb, ltb→lt}
 use lib.ListN.{length, get_or}
 use Rattle.regexes.specs.Regex.{END, within, Rule, ◌⇒◌, Re, ◌to◌, but, one, eps, ◌·◌, ◌∣◌, star, in_class}
-use Rattle.regexes.proofs.Bools.{true_is, false_is, and, and_left, is_true, is_false, implies, implied}
+use Rattle.regexes.proofs.Bools.{and, and_left, is_true, is_false}
 use Rattle.regexes.proofs.Tables.{left, steps, gives, silent}
 use Rattle.lexemes.specs.Kinds.{LEXING_ERROR, ERROR_STRING_VERBATIM_MISSING_QUOTES}
-use Rattle.lexemes.specs.Letters.{letter, next}
+use Rattle.lexemes.specs.Letters.{WHITE, OTHER, letter, next}
 use Rattle.lexemes.specs.Rules.{rules, space}
 use Rattle.lexemes.specs.Lexeme.{Ruled, longest, error}
 use Rattle.lexemes.specs.Scan.{Best, Never, RawQuote, black, blacks, BlackEnd}
-use Rattle.lexemes.proofs.Letters.{up, letter_inside}
-use Rattle.lexemes.proofs.Moves.{is, Sees, plain, low, other, not_in, NotAll, not_all, byte, char, none, end, go, stop, fail_before, never}
+use Rattle.lexemes.proofs.Letters.{up, letter_inside, letter-past}
+use Rattle.lexemes.proofs.Moves.{is, Sees, plain, low, other, not_in, byte, char, none, end, go, stop, fail_before, never}
 
 -- (?:[^q]|qq)*
 abbrev body : ℕ → Re
@@ -214,30 +214,10 @@ black_inside s i e = letter_inside s i (by (letter s i) e)
     by : (l : ℕ) → in_class black l ≡ true → l < END
     by l e = ltb→lt l END (and_left (ltb l END) (not (within space l)) (is_true (in_class black l) e))
 
--- `\S` by tests on the letter.
-below : T (implies 131 (λ l. ltb l 9) (in_class black))
-unfolding implies
-below = tt
+-- `\S`: the letter of a code point beyond ASCII, white space or not, and the end.
+pub black_beyond : (white : Bool) → not white ≡ in_class black (cond white WHITE OTHER)
+black_beyond true = refl
+black_beyond false = refl
 
-amid : T (implies 131 (λ l. leb 9 l && ltb l 14) (λ l. not (in_class black l)))
-unfolding implies
-amid = tt
-
-above : T (implies 131 (λ l. leb 14 l && not_in (32 ∷ 128 ∷ 130 ∷ []) l) (in_class black))
-unfolding implies
-above = tt
-
-module _ (l : ℕ) (h : l < 131) where
-  pub black_below : l < 9 → true ≡ in_class black l
-  black_below g = true_is (in_class black l) (implied 131 (λ l. ltb l 9) (in_class black) below l h (lt→ltb l 9 g))
-
-  pub black_amid : 9 ≤ l → l < 14 → false ≡ in_class black l
-  black_amid g k =
-      false_is (in_class black l)
-      (implied 131 (λ l. leb 9 l && ltb l 14) (λ l. not (in_class black l)) amid l h (and (leb 9 l) (ltb l 14) (le→leb 9 l g) (lt→ltb l 14 k)))
-
-  pub black_above : 14 ≤ l → NotAll (32 ∷ 128 ∷ 130 ∷ []) l → true ≡ in_class black l
-  black_above g n =
-      true_is (in_class black l)
-      (implied 131 (λ l. leb 14 l && not_in (32 ∷ 128 ∷ 130 ∷ []) l) (in_class black) above l h
-      (and (leb 14 l) (not_in (32 ∷ 128 ∷ 130 ∷ []) l) (le→leb 14 l g) (not_all (32 ∷ 128 ∷ 130 ∷ []) l n)))
+pub black_past : (s : List ℕ) (i : ℕ) → length s ≤ i → false ≡ in_class black (letter s i)
+black_past s i h = ap (in_class black) (sym (letter-past s i h))

@@ -1,10 +1,10 @@
 -- The lexeme at a place: document 01, "Lexemes". "The longest matching rule wins; a keyword beats `IDENT`."
 -- Assumes nothing.
-use Rattle.std.specs.Prelude.{◌≡◌, List, ℕ, ◌≤◌, ◌<◌, length}
+use Rattle.std.specs.Prelude.{◌≡◌, List, ℕ, ◌≤◌, ◌<◌, Ok, Err, length}
 use Rattle.regexes.specs.Regex.{Longest, Nothing}
-use Rattle.blocks.specs.Blocks.{BlockAt}
-use Rattle.blocks.specs.declared.Block.{Block}
-use Rattle.blocks.specs.declared.Block.TheVariants.{Good, UnexpectedEnd, MissingNewLine, MissingTermination, MissingIndent}
+use Rattle.blocks.specs.Blocks.{Block, BlockAt}
+use Rattle.blocks.specs.declared.BlockFault.{BlockFault}
+use Rattle.blocks.specs.declared.BlockFault.TheVariants.{UnexpectedEnd, MissingNewLine, MissingTermination, MissingIndent}
 use Rattle.lexemes.specs.declared.Lexeme.{Lexeme}
 use Rattle.lexemes.specs.Kinds.{EOF, IDENT, STRING_BLOCK, ERROR_STRING_BLOCK_UNEXPECTED_END, ERROR_STRING_BLOCK_MISSING_NEW_LINE, ERROR_STRING_BLOCK_MISSING_TERMINATION, ERROR_STRING_BLOCK_MISSING_INDENT, TAILSTRICT_KW, ASSERT_KW, LEXING_ERROR}
 use Rattle.lexemes.specs.Letters.{text, next}
@@ -24,19 +24,19 @@ pub data Ruled (s : List ℕ) (at k e : ℕ) : Type 0 where
   error : Nothing (text s) rules at → k ≡ LEXING_ERROR → e ≡ next s at → Ruled s at k e
 
 -- R15. lex.rs: the kind of a block by its fault, and its end.
+abbrev pub fault_kind : BlockFault → ℕ
+fault_kind UnexpectedEnd = ERROR_STRING_BLOCK_UNEXPECTED_END
+fault_kind MissingNewLine = ERROR_STRING_BLOCK_MISSING_NEW_LINE
+fault_kind MissingTermination = ERROR_STRING_BLOCK_MISSING_TERMINATION
+fault_kind MissingIndent = ERROR_STRING_BLOCK_MISSING_INDENT
+
 abbrev pub block_kind : Block → ℕ
-block_kind (Good e) = STRING_BLOCK
-block_kind (UnexpectedEnd e) = ERROR_STRING_BLOCK_UNEXPECTED_END
-block_kind (MissingNewLine e) = ERROR_STRING_BLOCK_MISSING_NEW_LINE
-block_kind (MissingTermination e) = ERROR_STRING_BLOCK_MISSING_TERMINATION
-block_kind (MissingIndent e) = ERROR_STRING_BLOCK_MISSING_INDENT
+block_kind (Ok e) = STRING_BLOCK
+block_kind (Err b) = fault_kind b.fault
 
 abbrev pub block_end : Block → ℕ
-block_end (Good e) = e
-block_end (UnexpectedEnd e) = e
-block_end (MissingNewLine e) = e
-block_end (MissingTermination e) = e
-block_end (MissingIndent e) = e
+block_end (Ok e) = e
+block_end (Err b) = b.end
 
 abbrev pub lexeme : ℕ → ℕ → ℕ → Lexeme
 lexeme k a e = record { kind = k; start = a; end = e }

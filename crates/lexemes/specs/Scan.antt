@@ -1,8 +1,11 @@
 -- What the scanners promise each other. No public contract cites these: they stand for what is left of the rules on the way through a lexeme.
 -- Assumes nothing.
-use Rattle.std.specs.Prelude.{◌≡◌, Bool, true, false, cond, List, [], ◌∷◌, ◌++◌, ◌⊎◌, ℕ, ◌+◌, ◌≤◌, ◌<◌, eqb, ltb, length, get_or}
+use Rattle.std.specs.Prelude.{◌≡◌, Bool, true, false, cond, List, [], ◌∷◌, ◌++◌, ◌⊎◌, ℕ, ◌+◌, ◌≤◌, ◌<◌, eqb, ltb, length, get_or, Option, None, Some}
 use Prim.Native.Char.{code}
 use Rattle.regexes.specs.Regex.{within, Class, but, one, ◌·◌, ◌∣◌, star, Rule, ◌⇒◌, in_class, Longest, Nothing, Takes}
+use Rattle.lexemes.specs.declared.Matched.{Matched}
+use Rattle.lexemes.specs.declared.bytes.Class.{Class as ByteClass}
+use Rattle.lexemes.specs.declared.bytes.Class.TheVariants.{Other, Alpha, Digit, Zero, Blank, Double, Single, At, Hash, Slash, Operator}
 use Rattle.lexemes.specs.Kinds.{OR, NULL_COAELSE, AND, BIT_OR, BIT_XOR, BIT_AND, EQ, NE, LT, GT, LE, GE, LHS, RHS, PLUS, MINUS, MUL, MODULO, NOT, BIT_NOT, L_BRACK, R_BRACK, L_PAREN, R_PAREN, L_BRACE, R_BRACE, COLON, SEMI, DOT, COMMA, DOLLAR, ASSIGN, QUESTION_MARK, FLOAT, ERROR_FLOAT_JUNK_AFTER_POINT, ERROR_FLOAT_JUNK_AFTER_EXPONENT, ERROR_FLOAT_JUNK_AFTER_EXPONENT_SIGN, STRING_DOUBLE, STRING_SINGLE, STRING_DOUBLE_VERBATIM, STRING_SINGLE_VERBATIM, ERROR_STRING_VERBATIM_MISSING_QUOTES, SINGLE_LINE_SLASH_COMMENT, SINGLE_LINE_HASH_COMMENT, MULTI_LINE_COMMENT, ERROR_COMMENT_UNTERMINATED}
 use Rattle.lexemes.specs.Letters.{text, ascii}
 use Rattle.lexemes.specs.Rules.{◌–◌, chr, some, alpha, digit, no_digit, groups, exponent, ee, sign, opt, line, new_line, space, no_star, no_star_slash, no_slash}
@@ -15,16 +18,31 @@ Best s S at k e = Longest Beats (text s) S at k e
 abbrev pub Never : List ℕ → List Rule → ℕ → Type 0
 Never s S at = Nothing (text s) S at
 
--- The longest match of what is left, or kind 0 where there is none.
-abbrev pub Tried : List ℕ → List Rule → ℕ → ℕ → ℕ → Type 0
-Tried s S f k e = ((k ≡ 0) × Never s S f) ⊎ Best s S f k e
+-- The longest match of what is left, or None where there is none.
+abbrev pub Tried : List ℕ → List Rule → ℕ → Option Matched → Type 0
+Tried s S f None = Never s S f
+Tried s S f (Some m) = Best s S f m.kind m.end
 
 -- A test's answer to a question.
 abbrev pub Says : Bool → Type 0 → Type 0
 Says true A = A
 Says false A = A → ⊥
 
--- The class of a byte below 128: which scanner takes a lexeme that begins with it. `Class` in src/ names them.
+-- The numbers of the classes that the code names.
+abbrev pub class_number : ByteClass → ℕ
+class_number Other = 0
+class_number Alpha = 1
+class_number Digit = 2
+class_number Zero = 3
+class_number Blank = 4
+class_number Double = 5
+class_number Single = 6
+class_number At = 7
+class_number Hash = 8
+class_number Slash = 9
+class_number Operator = 10
+
+-- The class of a byte below 128: which scanner takes a lexeme that begins with it.
 unfoldable pub ascii_class : ℕ → ℕ
 ascii_class b =
     cond (in_class alpha b) 1
@@ -68,9 +86,20 @@ pub record Ran (s : List ℕ) (f lo hi r : ℕ) : Type 0 where
   pub each : (k : ℕ) → f ≤ k → k < r → (lo ≤ class_of (get_or s k 0)) × (class_of (get_or s k 0) ≤ hi)
   pub over : lo ≤ class_of (get_or s r 0) → class_of (get_or s r 0) ≤ hi → ⊥
 
+-- The bytes from f up to r pass a test, and the byte at r, where there is one, does not.
+pub record RunOf (p : ℕ → Bool) (s : List ℕ) (f r : ℕ) : Type 0 where
+  pub start : f ≤ r
+  pub end : r ≤ length s
+  pub each : (k : ℕ) → f ≤ k → k < r → p (get_or s k 0) ≡ true
+  pub over : r < length s → p (get_or s r 0) ≡ false
+
 -- A word goes on with the byte.
 abbrev pub InWord : ℕ → Type 0
 InWord b = (1 ≤ class_of b) × (class_of b ≤ 3)
+
+-- A kind that may be none, which the definitions below say by 0.
+abbrev pub named : ℕ → Option ℕ
+named k = cond (eqb k 0) None (Some k)
 
 -- Operators of one byte and of two.
 unfoldable pub single : ℕ → ℕ
@@ -116,9 +145,10 @@ pub record Alone (b c k : ℕ) : Type 0 where
   pub no_pair : pair b c ≡ 0
   pub no_dots : b ≡ code "." → c ≡ code "." → ⊥
 
--- Such a kind, whatever the byte after it, or 0, which says nothing.
-abbrev pub Lone : ℕ → ℕ → Type 0
-Lone b k = (k ≡ 0) ⊎ ((c : ℕ) → Alone b c k)
+-- Such a kind, whatever the byte after it, or None, which says nothing.
+abbrev pub Lone : ℕ → Option ℕ → Type 0
+Lone b None = Unit {0}
+Lone b (Some k) = (c : ℕ) → Alone b c k
 
 -- A quote, and the kind of the string in it; the next kind is that of one with no end.
 abbrev pub Quote : ℕ → ℕ → Type 0
@@ -142,11 +172,10 @@ in_comment = (MULTI_LINE_COMMENT ⇒ star (no_star ∣ some (chr "*") · no_star
 abbrev pub unclosed : List Rule
 unclosed = (ERROR_COMMENT_UNTERMINATED ⇒ some (no_star_slash ∣ chr "*" · no_slash)) ∷ []
 
--- r is where a comment's closing ends, past all that one with no end takes; or 0, and there is no closing.
-abbrev pub Closing : List ℕ → ℕ → ℕ → Type 0
-Closing s f r =
-    ((r ≡ 0) × Never s in_comment f)
-    ⊎ (Best s in_comment f MULTI_LINE_COMMENT r × (f + 2 ≤ r) × ((k e : ℕ) → Takes (text s) unclosed k f e → e < r))
+-- Where a comment's closing ends, past all that one with no end takes; or None, and there is no closing.
+abbrev pub Closing : List ℕ → ℕ → Option ℕ → Type 0
+Closing s f None = Never s in_comment f
+Closing s f (Some r) = Best s in_comment f MULTI_LINE_COMMENT r × (f + 2 ≤ r) × ((k e : ℕ) → Takes (text s) unclosed k f e → e < r)
 
 -- r is where a comment with no closing ends; or the start, and there is none.
 abbrev pub Opening : List ℕ → ℕ → ℕ → Type 0
@@ -187,10 +216,6 @@ after_e =
 
 abbrev pub after_sign : List Rule
 after_sign = (FLOAT ⇒ some digit · groups) ∷ (ERROR_FLOAT_JUNK_AFTER_EXPONENT_SIGN ⇒ no_digit) ∷ []
-
--- A trial of kind k up to e, or a number that ends at p where the trial came to nothing.
-abbrev pub Ended : ℕ → ℕ → ℕ → ℕ → ℕ → Type 0
-Ended k e p k' e' = ((k ≡ 0) × (k' ≡ FLOAT) × (e' ≡ p)) ⊎ ((k ≡ 0 → ⊥) × (k' ≡ k) × (e' ≡ e))
 
 abbrev pub IsE : ℕ → Type 0
 IsE b = (b ≡ code "e") ⊎ (b ≡ code "E")

@@ -1,8 +1,7 @@
 // What begins with `@`: verbatim strings, and the junk rule for `@` with no quote.
 ghost use Rattle.std.specs.Prelude.{◌≡◌, ℕ, ◌+◌, ◌≤◌, ◌<◌, length, get_or};
-ghost use Rattle.regexes.specs.Regex.{in_class};
 ghost use Rattle.lexemes.specs.Lexeme.{Ruled};
-ghost use Rattle.lexemes.specs.Scan.{RawQuote, black, BlackEnd};
+ghost use Rattle.lexemes.specs.Scan.{RawQuote, BlackEnd};
 
 use super::kinds::Kind;
 use super::{Matched, bytes};
@@ -33,29 +32,6 @@ fn verbatim_at(src: &[u8], at: usize, q: u8, good: u8) -> Matched
     }
 }
 
-// Whether a letter is a character that is no white space, `\S`.
-fn is_black(l: u8) -> bool
-    requires { l < 131 }
-    ensures { result ≡ in_class black l }
-{
-    if l < 9 {
-        return true;
-    }
-    if l < 14 {
-        return false;
-    }
-    if l == 32 {
-        return false;
-    }
-    if l == 128 {
-        return false;
-    }
-    if l == 130 {
-        return false;
-    }
-    true
-}
-
 // The end of the run of characters from `from` on that are no white space.
 fn black_from(src: &[u8], from: usize) -> usize
     requires { from ≤ length src.now }
@@ -63,7 +39,7 @@ fn black_from(src: &[u8], from: usize) -> usize
 {
     let mut i = from;
     while i < src.len() {
-        if !is_black(bytes::letter_at(src, i)) {
+        if !bytes::is_black(src, i) {
             return i;
         }
         i = bytes::after(src, i);
@@ -82,7 +58,7 @@ pub fn at_sign(src: &[u8], at: usize) -> Matched
     if b == b'\'' {
         return verbatim_at(src, at, b'\'', Kind::STRING_SINGLE_VERBATIM);
     }
-    if !is_black(bytes::letter_at(src, at + 1)) {
+    if !bytes::is_black(src, at + 1) {
         return Matched {
             kind: Kind::LEXING_ERROR,
             end: at + 1,

@@ -28,31 +28,22 @@ fn line_from(src: &[u8], from: usize) -> usize
     i
 }
 
-// The place after the `*/` that closes a comment whose text starts at `from`; 0 where none does.
-fn close_from(src: &[u8], from: usize) -> usize
+// The place after the `*/` that closes a comment whose text starts at `from`; None where none does.
+fn close_from(src: &[u8], from: usize) -> Option<usize>
     requires { from ≤ length src.now }
     ensures { Closing src.now from result }
 {
     let mut i = from;
     let mut star = false;
     while i < src.len() {
-        let b = src[i];
-        if b == b'/' {
-            if star {
-                return i + 1;
-            }
-            i += 1;
-            continue;
+        match src[i] {
+            b'/' if star => return Some(i + 1),
+            b'*' => star = true,
+            _ => star = false,
         }
-        if b == b'*' {
-            star = true;
-            i += 1;
-            continue;
-        }
-        star = false;
         i = bytes::after(src, i);
     }
-    0
+    None
 }
 
 // The end of what a comment with no closing takes of the text from `from` on.
@@ -86,11 +77,10 @@ fn comment_at(src: &[u8], at: usize) -> Matched
     requires { (at + 1 < length src.now) × (get_or src.now at 0 ≡ 47) × (get_or src.now (at + 1) 0 ≡ 42) }
     ensures { Ruled src.now at result.kind result.end }
 {
-    let close = close_from(src, at + 2);
-    if close != 0 {
+    if let Some(end) = close_from(src, at + 2) {
         return Matched {
             kind: Kind::MULTI_LINE_COMMENT,
-            end: close,
+            end,
         };
     }
     let open = open_from(src, at + 2);

@@ -7,53 +7,49 @@ use super::kinds::Kind;
 use super::{Lexeme, bytes, operators, scan};
 
 // White space and good comments, which stand together in `SyntaxKind`.
+#[tactic(auto, unfolding(crate::specs::Kept::dropped))]
 fn is_dropped(kind: u8) -> bool
     ensures { result ≡ dropped kind }
 {
-    if kind < Kind::WHITESPACE {
-        return false;
-    }
-    if Kind::MULTI_LINE_COMMENT < kind {
-        return false;
-    }
-    true
+    matches!(kind, Kind::WHITESPACE..=Kind::MULTI_LINE_COMMENT)
 }
 
+#[tactic(auto, unfolding(crate::specs::Kept::bad))]
 fn is_bad(kind: u8) -> bool
     ensures { result ≡ bad kind }
 {
-    match kind {
-        Kind::ERROR_FLOAT_JUNK_AFTER_POINT..=Kind::ERROR_FLOAT_JUNK_AFTER_EXPONENT_SIGN => true,
-        Kind::ERROR_STRING_DOUBLE_UNTERMINATED => true,
-        Kind::ERROR_STRING_SINGLE_UNTERMINATED => true,
-        Kind::ERROR_STRING_DOUBLE_VERBATIM_UNTERMINATED => true,
-        Kind::ERROR_STRING_SINGLE_VERBATIM_UNTERMINATED..=Kind::ERROR_STRING_VERBATIM_MISSING_QUOTES =>
-            true,
-        Kind::ERROR_STRING_BLOCK_UNEXPECTED_END..=Kind::ERROR_STRING_BLOCK_MISSING_INDENT => true,
-        Kind::ERROR_COMMENT_TOO_SHORT..=Kind::ERROR_CUSTOM => true,
-        Kind::LEXING_ERROR => true,
-        _ => false,
-    }
+    matches!(
+        kind,
+        Kind::ERROR_FLOAT_JUNK_AFTER_POINT..=Kind::ERROR_FLOAT_JUNK_AFTER_EXPONENT_SIGN
+            | Kind::ERROR_STRING_DOUBLE_UNTERMINATED
+            | Kind::ERROR_STRING_SINGLE_UNTERMINATED
+            | Kind::ERROR_STRING_DOUBLE_VERBATIM_UNTERMINATED
+            | Kind::ERROR_STRING_SINGLE_VERBATIM_UNTERMINATED
+                ..=Kind::ERROR_STRING_VERBATIM_MISSING_QUOTES
+            | Kind::ERROR_STRING_BLOCK_UNEXPECTED_END
+                ..=Kind::ERROR_STRING_BLOCK_MISSING_INDENT
+            | Kind::ERROR_COMMENT_TOO_SHORT..=Kind::ERROR_CUSTOM
+            | Kind::LEXING_ERROR
+    )
 }
 
-// The next kept lexeme from a place on; with none left, EOF at the place twice. Blanks and most operators of one byte are told by their bytes,
-// and so is the class of what else begins: the table of classes is not set up.
+// The next kept lexeme from a place on; with none left, EOF at the place twice. Blanks and most operators of one byte are told
+// before what else begins.
 pub fn next_kept(src: &[u8], at: usize) -> Lexeme
     ensures { NextKept src.now at result }
 {
     let mut i = at;
     while i < src.len() {
         let b = src[i];
-        let lone = operators::lone_kind(b);
-        if lone != 0 {
+        if let Some(kind) = operators::lone_kind(b) {
             return Lexeme {
-                kind: lone,
+                kind,
                 start: i,
                 end: i + 1,
             };
         }
         let class = scan::class_by(b);
-        if class == Class::BLANK {
+        if class == Class::Blank {
             i = bytes::blanks(src, i + 1);
             continue;
         }

@@ -1,13 +1,20 @@
 // The lexeme at a place of the source.
 ghost use Rattle.lexemes.specs.Lexeme.{LexemeAt};
 
-use super::bytes::CLASS;
-use super::{Lexeme, scan};
+use super::kinds::Kind;
+use super::{Lexeme, bytes, scan};
 
 // Past the end of the source that is EOF, with no character.
 pub fn lexeme_at(src: &[u8], at: usize) -> Lexeme
     ensures { LexemeAt src.now at result }
 {
-    let classes = CLASS;
-    scan::lexeme_by(src, at, &classes)
+    if src.len() <= at {
+        return Lexeme {
+            kind: Kind::EOF,
+            start: at,
+            end: at,
+        };
+    }
+    let class = bytes::class_of(src[at]);
+    scan::lexeme_of(src, at, scan::matched_at(src, at, class))
 }

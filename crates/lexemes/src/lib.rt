@@ -1,5 +1,6 @@
 #![tactic(auto)]
 // Lexemes: the longest match of the rules of syntax_kinds.rs, written out, and the kept lexemes of a source.
+// Kept: a source and a place in it are two parameters. Nearly each call has another place, so a struct of both would be made anew at each, which is no plainer.
 mod at; // what begins with `@`: verbatim strings, and junk
 mod bytes; // bytes, characters and their classes
 mod comments; // what begins with `/` or `#`

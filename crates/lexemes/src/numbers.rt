@@ -1,7 +1,7 @@
 // Numbers, and the three junk rules that take one more character.
 ghost use Rattle.std.specs.Prelude.{◌≡◌, ◌⊎◌, ℕ, ◌+◌, ◌≤◌, ◌<◌, length, get_or};
 ghost use Rattle.lexemes.specs.Lexeme.{Ruled};
-ghost use Rattle.lexemes.specs.Scan.{Says, Ran, IsDigit, Digits, Tried, Ended, ExponentAt, FractionAt, after_sign, after_e};
+ghost use Rattle.lexemes.specs.Scan.{Says, Ran, IsDigit, Digits, Tried, ExponentAt, FractionAt, after_sign, after_e};
 
 use super::kinds::Kind;
 use super::{Matched, bytes};
@@ -9,14 +9,7 @@ use super::{Matched, bytes};
 pub fn is_digit(src: &[u8], i: usize) -> bool
     ensures { Says result (IsDigit (get_or src.now i 0)) }
 {
-    let b = bytes::peek(src, i);
-    if b < b'0' {
-        return false;
-    }
-    if b'9' < b {
-        return false;
-    }
-    true
+    bytes::peek(src, i).is_ascii_digit()
 }
 
 // The end of the run of digits from `from` on.
@@ -24,18 +17,7 @@ fn digit_run(src: &[u8], from: usize) -> usize
     requires { from ≤ length src.now }
     ensures { Ran src.now from 2 3 result }
 {
-    let mut i = from;
-    while i < src.len() {
-        let b = src[i];
-        if b < b'0' {
-            return i;
-        }
-        if b'9' < b {
-            return i;
-        }
-        i += 1;
-    }
-    i
+    bytes::run_while(src, from, |b| b.is_ascii_digit())
 }
 
 // The end of `[0-9]*(_[0-9]+)*` from `from` on.
@@ -53,66 +35,46 @@ fn digits_from(src: &[u8], from: usize) -> usize
     i
 }
 
-// A number from past its exponent's sign on; kind 0 where nothing goes on there.
-fn after_sign(src: &[u8], f: usize) -> Matched
+// A number from past its exponent's sign on; None where nothing goes on there.
+fn after_sign(src: &[u8], f: usize) -> Option<Matched>
     requires { f ≤ length src.now }
-    ensures { Tried src.now after_sign f result.kind result.end }
+    ensures { Tried src.now after_sign f result }
 {
     if is_digit(src, f) {
-        return Matched {
+        return Some(Matched {
             kind: Kind::FLOAT,
             end: digits_from(src, f + 1),
-        };
+        });
     }
     if src.len() <= f {
-        return Matched { kind: 0, end: f };
+        return None;
     }
-    Matched {
+    Some(Matched {
         kind: Kind::ERROR_FLOAT_JUNK_AFTER_EXPONENT_SIGN,
         end: bytes::after(src, f),
-    }
+    })
 }
 
-// A number from past its `e` on; kind 0 where nothing goes on there.
-fn after_e(src: &[u8], f: usize) -> Matched
+// A number from past its `e` on; None where nothing goes on there.
+fn after_e(src: &[u8], f: usize) -> Option<Matched>
     requires { f ≤ length src.now }
-    ensures { Tried src.now after_e f result.kind result.end }
+    ensures { Tried src.now after_e f result }
 {
     if is_digit(src, f) {
-        return Matched {
+        return Some(Matched {
             kind: Kind::FLOAT,
             end: digits_from(src, f + 1),
-        };
-    }
-    let b = bytes::peek(src, f);
-    if b == b'+' {
-        return after_sign(src, f + 1);
-    }
-    if b == b'-' {
-        return after_sign(src, f + 1);
+        });
     }
     if src.len() <= f {
-        return Matched { kind: 0, end: f };
+        return None;
     }
-    Matched {
-        kind: Kind::ERROR_FLOAT_JUNK_AFTER_EXPONENT,
-        end: bytes::after(src, f),
-    }
-}
-
-// What was tried, or a number that ends at p where that came to nothing.
-fn ended(t: Matched, p: usize) -> Matched
-    ensures { Ended t.kind t.end p result.kind result.end }
-{
-    if t.kind == 0 {
-        return Matched {
-            kind: Kind::FLOAT,
-            end: p,
-        };
-    }
-    Matched {
-        kind: t.kind,
-        end: t.end,
+    match src[f] {
+        b'+' | b'-' => after_sign(src, f + 1),
+        _ => Some(Matched {
+            kind: Kind::ERROR_FLOAT_JUNK_AFTER_EXPONENT,
+            end: bytes::after(src, f),
+        }),
     }
 }
 
@@ -121,16 +83,13 @@ fn exponent_at(src: &[u8], p: usize) -> Matched
     requires { p ≤ length src.now }
     ensures { ExponentAt src.now p result.kind result.end }
 {
-    let b = bytes::peek(src, p);
-    if b == b'e' {
-        return ended(after_e(src, p + 1), p);
-    }
-    if b == b'E' {
-        return ended(after_e(src, p + 1), p);
-    }
-    Matched {
+    let whole = Matched {
         kind: Kind::FLOAT,
         end: p,
+    };
+    match bytes::peek(src, p) {
+        b'e' | b'E' => after_e(src, p + 1).unwrap_or(whole),
+        _ => whole,
     }
 }
 

@@ -1,90 +1,93 @@
 // Operators and punctuation: one byte, two, or three.
 ghost use Rattle.std.specs.Prelude.{◌≡◌, ℕ, ◌+◌, ◌≤◌, ◌<◌, length, get_or};
 ghost use Rattle.lexemes.specs.Lexeme.{Ruled};
-ghost use Rattle.lexemes.specs.Scan.{class_of, single, pair, Lone};
+ghost use Rattle.lexemes.specs.Scan.{class_of, named, single, pair, Lone};
 
 use super::kinds::Kind;
 use super::{Matched, bytes};
 
-// The kind of the operator that is the byte b alone; 0 where none is.
-pub fn single_kind(b: u8) -> u8
-    ensures { result ≡ single b }
+// The kind of the operator that is the byte b alone; None where none is.
+#[tactic(auto, unfolding(crate::specs::Scan::single))]
+pub fn single_kind(b: u8) -> Option<u8>
+    ensures { result ≡ named (single b) }
 {
     match b {
-        b'|' => Kind::BIT_OR,
-        b'^' => Kind::BIT_XOR,
-        b'&' => Kind::BIT_AND,
-        b'<' => Kind::LT,
-        b'>' => Kind::GT,
-        b'+' => Kind::PLUS,
-        b'-' => Kind::MINUS,
-        b'*' => Kind::MUL,
-        b'%' => Kind::MODULO,
-        b'!' => Kind::NOT,
-        b'~' => Kind::BIT_NOT,
-        b'[' => Kind::L_BRACK,
-        b']' => Kind::R_BRACK,
-        b'(' => Kind::L_PAREN,
-        b')' => Kind::R_PAREN,
-        b'{' => Kind::L_BRACE,
-        b'}' => Kind::R_BRACE,
-        b':' => Kind::COLON,
-        b';' => Kind::SEMI,
-        b'.' => Kind::DOT,
-        b',' => Kind::COMMA,
-        b'$' => Kind::DOLLAR,
-        b'=' => Kind::ASSIGN,
-        b'?' => Kind::QUESTION_MARK,
-        _ => 0,
+        b'|' => Some(Kind::BIT_OR),
+        b'^' => Some(Kind::BIT_XOR),
+        b'&' => Some(Kind::BIT_AND),
+        b'<' => Some(Kind::LT),
+        b'>' => Some(Kind::GT),
+        b'+' => Some(Kind::PLUS),
+        b'-' => Some(Kind::MINUS),
+        b'*' => Some(Kind::MUL),
+        b'%' => Some(Kind::MODULO),
+        b'!' => Some(Kind::NOT),
+        b'~' => Some(Kind::BIT_NOT),
+        b'[' => Some(Kind::L_BRACK),
+        b']' => Some(Kind::R_BRACK),
+        b'(' => Some(Kind::L_PAREN),
+        b')' => Some(Kind::R_PAREN),
+        b'{' => Some(Kind::L_BRACE),
+        b'}' => Some(Kind::R_BRACE),
+        b':' => Some(Kind::COLON),
+        b';' => Some(Kind::SEMI),
+        b'.' => Some(Kind::DOT),
+        b',' => Some(Kind::COMMA),
+        b'$' => Some(Kind::DOLLAR),
+        b'=' => Some(Kind::ASSIGN),
+        b'?' => Some(Kind::QUESTION_MARK),
+        _ => None,
     }
 }
 
-// The kind of an operator of two bytes that begins with b and ends with c; 0 where there is none.
-fn pair_kind(b: u8, c: u8) -> u8
-    ensures { result ≡ pair b c }
+// The kind of an operator of two bytes that begins with b and ends with c; None where there is none.
+#[tactic(auto, unfolding(crate::specs::Scan::pair))]
+fn pair_kind(b: u8, c: u8) -> Option<u8>
+    ensures { result ≡ named (pair b c) }
 {
     if c == b'=' {
         return match b {
-            b'=' => Kind::EQ,
-            b'!' => Kind::NE,
-            b'<' => Kind::LE,
-            b'>' => Kind::GE,
-            _ => 0,
+            b'=' => Some(Kind::EQ),
+            b'!' => Some(Kind::NE),
+            b'<' => Some(Kind::LE),
+            b'>' => Some(Kind::GE),
+            _ => None,
         };
     }
     if b != c {
-        return 0;
+        return None;
     }
     match b {
-        b'|' => Kind::OR,
-        b'?' => Kind::NULL_COAELSE,
-        b'&' => Kind::AND,
-        b'<' => Kind::LHS,
-        b'>' => Kind::RHS,
-        _ => 0,
+        b'|' => Some(Kind::OR),
+        b'?' => Some(Kind::NULL_COAELSE),
+        b'&' => Some(Kind::AND),
+        b'<' => Some(Kind::LHS),
+        b'>' => Some(Kind::RHS),
+        _ => None,
     }
 }
 
-// The kind of the operator that is the byte b alone and that begins no longer one; 0 where more has to be seen, or none is.
-pub fn lone_kind(b: u8) -> u8
+// The kind of the operator that is the byte b alone and that begins no longer one; None where more has to be seen, or none is.
+// Kept as a list of its own: with `_ => single_kind(b)` behind the others a run file takes 12 instructions a byte more.
+pub fn lone_kind(b: u8) -> Option<u8>
     ensures { Lone b result }
 {
     match b {
-        b',' => Kind::COMMA,
-        b':' => Kind::COLON,
-        b'[' => Kind::L_BRACK,
-        b']' => Kind::R_BRACK,
-        b'(' => Kind::L_PAREN,
-        b')' => Kind::R_PAREN,
-        b'{' => Kind::L_BRACE,
-        b'}' => Kind::R_BRACE,
-        b';' => Kind::SEMI,
-        b'$' => Kind::DOLLAR,
-        b'+' => Kind::PLUS,
-        b'-' => Kind::MINUS,
-        b'*' => Kind::MUL,
-        b'%' => Kind::MODULO,
-        _ => 0,
+        b',' => Some(Kind::COMMA),
+        b':' => Some(Kind::COLON),
+        b'[' => Some(Kind::L_BRACK),
+        b']' => Some(Kind::R_BRACK),
+        b'(' => Some(Kind::L_PAREN),
+        b')' => Some(Kind::R_PAREN),
+        b'{' => Some(Kind::L_BRACE),
+        b'}' => Some(Kind::R_BRACE),
+        b';' => Some(Kind::SEMI),
+        b'$' => Some(Kind::DOLLAR),
+        b'+' => Some(Kind::PLUS),
+        b'-' => Some(Kind::MINUS),
+        b'*' => Some(Kind::MUL),
+        b'%' => Some(Kind::MODULO),
+        _ => None,
     }
 }
 
@@ -119,27 +122,25 @@ pub fn operator_at(src: &[u8], at: usize) -> Matched
     if b == b'.' {
         return dot_at(src, at);
     }
-    let two = pair_kind(b, bytes::peek(src, at + 1));
-    if two == 0 {
-        return Matched {
-            kind: single_kind(b),
-            end: at + 1,
-        };
-    }
-    if two != Kind::OR {
-        return Matched {
-            kind: two,
-            end: at + 2,
-        };
-    }
-    if bytes::peek(src, at + 2) == b'|' {
-        return Matched {
-            kind: Kind::STRING_BLOCK,
-            end: at + 3,
-        };
-    }
-    Matched {
-        kind: Kind::OR,
-        end: at + 2,
+    match pair_kind(b, bytes::peek(src, at + 1)) {
+        None => {
+            let Some(kind) = single_kind(b) else {
+                unreachable!()
+            };
+            Matched { kind, end: at + 1 }
+        }
+        Some(Kind::OR) => {
+            if bytes::peek(src, at + 2) == b'|' {
+                return Matched {
+                    kind: Kind::STRING_BLOCK,
+                    end: at + 3,
+                };
+            }
+            Matched {
+                kind: Kind::OR,
+                end: at + 2,
+            }
+        }
+        Some(kind) => Matched { kind, end: at + 2 },
     }
 }

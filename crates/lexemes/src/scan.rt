@@ -1,45 +1,47 @@
 // The lexeme at a place of the source: the scanner for the class of its first byte, and blocks.
 ghost use Rattle.std.specs.Prelude.{◌≡◌, ℕ, ◌<◌, length, get_or};
-ghost use Rattle.lexemes.specs.Lexeme.{Ruled, LexemeAt, lexeme, block_kind, block_end};
-ghost use Rattle.lexemes.specs.Scan.{class_of, class_table};
+ghost use Rattle.lexemes.specs.Lexeme.{Ruled, LexemeAt, lexeme, fault_kind, block_kind, block_end};
+ghost use Rattle.lexemes.specs.Scan.{class_of, class_number};
 
 use super::bytes::Class;
 use super::kinds::Kind;
 use super::{Lexeme, Matched, at, bytes, comments, numbers, operators, quoted, words};
-use blocks::Block;
+use blocks::{Block, BlockFault};
 
-// The class of a byte, told by the byte: the table, where it is not at hand, would be set up anew. It is the same for each digit but `0`.
-pub fn class_by(b: u8) -> u8
-    ensures { result ≡ class_of b }
+// The class of a byte.
+// Kept as a match with an arm for each byte: with ranges it takes 2.4 instructions a byte of a run file more, and a table of classes 0.4.
+#[tactic(auto, unfolding(crate::specs::Scan::class_of, crate::specs::Scan::ascii_class))]
+pub fn class_by(b: u8) -> Class
+    ensures { class_number result ≡ class_of b }
 {
     match b {
-        b' ' => Class::BLANK,
-        b'\t' => Class::BLANK,
-        b'\n' => Class::BLANK,
-        b'\r' => Class::BLANK,
-        b'0' => Class::ZERO,
-        b'1' => Class::DIGIT,
-        b'2' => Class::DIGIT,
-        b'3' => Class::DIGIT,
-        b'4' => Class::DIGIT,
-        b'5' => Class::DIGIT,
-        b'6' => Class::DIGIT,
-        b'7' => Class::DIGIT,
-        b'8' => Class::DIGIT,
-        b'9' => Class::DIGIT,
-        b'"' => Class::DOUBLE,
-        b'\'' => Class::SINGLE,
-        b'@' => Class::AT,
-        b'#' => Class::HASH,
-        b'/' => Class::SLASH,
+        b' ' => Class::Blank,
+        b'\t' => Class::Blank,
+        b'\n' => Class::Blank,
+        b'\r' => Class::Blank,
+        b'0' => Class::Zero,
+        b'1' => Class::Digit,
+        b'2' => Class::Digit,
+        b'3' => Class::Digit,
+        b'4' => Class::Digit,
+        b'5' => Class::Digit,
+        b'6' => Class::Digit,
+        b'7' => Class::Digit,
+        b'8' => Class::Digit,
+        b'9' => Class::Digit,
+        b'"' => Class::Double,
+        b'\'' => Class::Single,
+        b'@' => Class::At,
+        b'#' => Class::Hash,
+        b'/' => Class::Slash,
         _ => {
             if bytes::is_alpha(b) {
-                return Class::ALPHA;
+                return Class::Alpha;
             }
-            if operators::single_kind(b) != 0 {
-                return Class::OPERATOR;
+            if operators::single_kind(b).is_some() {
+                return Class::Operator;
             }
-            Class::NONE
+            Class::Other
         }
     }
 }
@@ -66,22 +68,34 @@ fn error_at(src: &[u8], at: usize) -> Matched
 }
 
 // What the rules match at a place of the source, where the byte has a class.
-pub fn matched_at(src: &[u8], at: usize, class: u8) -> Matched
-    requires { (at < length src.now) × (class ≡ class_of (get_or src.now at 0)) }
+pub fn matched_at(src: &[u8], at: usize, class: Class) -> Matched
+    requires { (at < length src.now) × (class_number class ≡ class_of (get_or src.now at 0)) }
     ensures { Ruled src.now at result.kind result.end }
 {
     match class {
-        Class::ALPHA => words::word_at(src, at),
-        Class::DIGIT => numbers::number_at(src, at),
-        Class::ZERO => numbers::number_at(src, at),
-        Class::BLANK => blank_at(src, at),
-        Class::DOUBLE => quoted::string_at(src, at, b'"', Kind::STRING_DOUBLE),
-        Class::SINGLE => quoted::string_at(src, at, b'\'', Kind::STRING_SINGLE),
-        Class::AT => at::at_sign(src, at),
-        Class::HASH => comments::hash_at(src, at),
-        Class::SLASH => comments::slash_at(src, at),
-        Class::OPERATOR => operators::operator_at(src, at),
-        _ => error_at(src, at),
+        Class::Alpha => words::word_at(src, at),
+        // Kept apart from the next: as one arm a run file takes 1.4 instructions a byte more.
+        Class::Digit => numbers::number_at(src, at),
+        Class::Zero => numbers::number_at(src, at),
+        Class::Blank => blank_at(src, at),
+        Class::Double => quoted::string_at(src, at, b'"', Kind::STRING_DOUBLE),
+        Class::Single => quoted::string_at(src, at, b'\'', Kind::STRING_SINGLE),
+        Class::At => at::at_sign(src, at),
+        Class::Hash => comments::hash_at(src, at),
+        Class::Slash => comments::slash_at(src, at),
+        Class::Operator => operators::operator_at(src, at),
+        Class::Other => error_at(src, at),
+    }
+}
+
+fn of_fault(fault: BlockFault) -> u8
+    ensures { result ≡ fault_kind fault }
+{
+    match fault {
+        BlockFault::UnexpectedEnd => Kind::ERROR_STRING_BLOCK_UNEXPECTED_END,
+        BlockFault::MissingNewLine => Kind::ERROR_STRING_BLOCK_MISSING_NEW_LINE,
+        BlockFault::MissingTermination => Kind::ERROR_STRING_BLOCK_MISSING_TERMINATION,
+        BlockFault::MissingIndent => Kind::ERROR_STRING_BLOCK_MISSING_INDENT,
     }
 }
 
@@ -89,32 +103,14 @@ pub fn matched_at(src: &[u8], at: usize, class: u8) -> Matched
 fn of_block(at: usize, b: Block) -> Lexeme
     ensures { result ≡ lexeme (block_kind b) at (block_end b) }
 {
-    match b {
-        Block::Good(end) => Lexeme {
-            kind: Kind::STRING_BLOCK,
-            start: at,
-            end,
-        },
-        Block::UnexpectedEnd(end) => Lexeme {
-            kind: Kind::ERROR_STRING_BLOCK_UNEXPECTED_END,
-            start: at,
-            end,
-        },
-        Block::MissingNewLine(end) => Lexeme {
-            kind: Kind::ERROR_STRING_BLOCK_MISSING_NEW_LINE,
-            start: at,
-            end,
-        },
-        Block::MissingTermination(end) => Lexeme {
-            kind: Kind::ERROR_STRING_BLOCK_MISSING_TERMINATION,
-            start: at,
-            end,
-        },
-        Block::MissingIndent(end) => Lexeme {
-            kind: Kind::ERROR_STRING_BLOCK_MISSING_INDENT,
-            start: at,
-            end,
-        },
+    let (kind, end) = match b {
+        Ok(end) => (Kind::STRING_BLOCK, end),
+        Err(bad) => (of_fault(bad.fault), bad.end),
+    };
+    Lexeme {
+        kind,
+        start: at,
+        end,
     }
 }
 
@@ -133,20 +129,4 @@ pub fn lexeme_of(src: &[u8], at: usize, m: Matched) -> Lexeme
         };
     }
     of_block(at, blocks::block_at(src, end))
-}
-
-// The lexeme at a place of the source, by the table of classes; past its end, EOF.
-pub fn lexeme_by(src: &[u8], at: usize, classes: &[u8; 256]) -> Lexeme
-    requires { classes.now ≡ class_table }
-    ensures { LexemeAt src.now at result }
-{
-    if src.len() <= at {
-        return Lexeme {
-            kind: Kind::EOF,
-            start: at,
-            end: at,
-        };
-    }
-    let class = bytes::class_of(classes, src[at]);
-    lexeme_of(src, at, matched_at(src, at, class))
 }
