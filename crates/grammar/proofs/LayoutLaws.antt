@@ -55,9 +55,9 @@ unknown_in t ks (row k own ps ∷ rs) h n =
     ∙ unknown_in t ks rs (and_right (among k ks) (all_among rs ks) h) n
 
 -- The tags are 1 to 35.
-pub unknown_tag : (t : ℕ) → NoneOf t (down 35) → numbers unknown ≡ numbers (layout_of t)
+pub unknown_tag : (t : ℕ) → NoneOf t (down 35) → unknown ≡ layout_of t
 unfolding layout_of rows among all_among down
-unknown_tag t n = sym (ap numbers (unknown_in t (down 35) rows tt n))
+unknown_tag t n = sym (unknown_in t (down 35) rows tt n)
 
 -- ── Records ───────────────────────────────────────────────────────────────────────────────────────
 

@@ -10,17 +10,15 @@ use Rattle.grammar.specs.Tags.{INFIX}
 use Rattle.grammar.specs.Trees.{Field, byte}
 use Rattle.grammar.specs.Productions.{Switch, always, Body, end, goto, ◌▸◌, eat, sub, deep, close, View, here, expr, infix_tail, suffixed, rule, Sign, sign, signs, sign_rows, Operator, op, operators, operator_rows}
 use Rattle.grammar.specs.Reading.{has, choose}
-use Rattle.grammar.specs.Operators.{sign_in, prefix_of, operator_in, infix_of}
-use Rattle.grammar.specs.declared.operators.Prefix.{Prefix}
-use Rattle.grammar.specs.declared.operators.Prefix.TheVariants.{Unary, NoPrefix}
-use Rattle.grammar.specs.declared.operators.Infix.{Infix}
-use Rattle.grammar.specs.declared.operators.Infix.TheVariants.{Binary, NoInfix}
+use Rattle.grammar.specs.Operators.{binary, sign_in, prefix_of, operator_in, infix_of}
+use Rattle.std.specs.Prelude.{Option, Some, None}
+use Rattle.grammar.specs.declared.operators.Operator as code
 use Rattle.grammar.proofs.Chosen.{and_left, and_right}
 
 -- What expr_bp is where a prefix operator stands, and where none does.
-unfoldable pub signed : ℕ → ℕ → ℕ → Prefix → Body
-signed prefix least k (Unary o) = eat k ▸ deep (expr prefix) ▸ close 12 (byte o ∷ []) ▸ goto (infix_tail least)
-signed prefix least k NoPrefix = sub suffixed ▸ goto (infix_tail least)
+unfoldable pub signed : ℕ → ℕ → ℕ → Option ℕ → Body
+signed prefix least k (Some o) = eat k ▸ deep (expr prefix) ▸ close 12 (byte o ∷ []) ▸ goto (infix_tail least)
+signed prefix least k None = sub suffixed ▸ goto (infix_tail least)
 
 sign_chosen : (prefix s least : ℕ) (v : View) (xs : List Sign) → choose s (sign_rows prefix least v xs) ≡ signed prefix least v.kind (sign_in v.kind xs)
 unfolding choose sign_rows sign_in signed has
@@ -29,7 +27,7 @@ sign_chosen prefix s least v (sign k o ∷ xs) = by (eqb v.kind k) refl (sign_ch
   where
     by : (t : Bool) → eqb v.kind k ≡ t → choose s (sign_rows prefix least v xs) ≡ signed prefix least v.kind (sign_in v.kind xs)
         → ◌≡◌ {A = Body} (elim (t && true) [ true ↦ eat k ▸ deep (expr prefix) ▸ close 12 (byte o ∷ []) ▸ goto (infix_tail least) | false ↦ choose s (sign_rows prefix least v xs) ])
-        (signed prefix least v.kind (cond t (Unary o) (sign_in v.kind xs)))
+        (signed prefix least v.kind (cond t (Some o) (sign_in v.kind xs)))
     by true e h = ap (λ (j : ℕ). eat j ▸ deep (expr prefix) ▸ close 12 (byte o ∷ []) ▸ goto (infix_tail least)) (sym (eqb-true v.kind k e))
     by false e h = h
 
@@ -47,9 +45,9 @@ abbrev pub turn : ℕ → ℕ → Field → ℕ → ℕ → Body
 turn least k place o r = eat k ▸ deep (expr r) ▸ close INFIX (byte o ∷ place ∷ []) ▸ goto (infix_tail least)
 
 -- What the loop is where a binary operator stands, if its switch is on, and where none does.
-unfoldable pub looped : ℕ → ℕ → Field → Bool → Infix → Body
-looped least k place on (Binary o l r) = elim (leb least l && on) [ true ↦ turn least k place o r | false ↦ end ]
-looped least k place on NoInfix = end
+unfoldable pub looped : ℕ → ℕ → Field → Bool → Option code.Operator → Body
+looped least k place on (Some p) = elim (leb least p.left && on) [ true ↦ turn least k place p.byte p.right | false ↦ end ]
+looped least k place on None = end
 
 -- Every operator has a kind of its own.
 unfoldable absent : ℕ → List Operator → Bool
@@ -85,7 +83,7 @@ module _ (s least : ℕ) (v : View) where
       by : (t : Bool) → eqb v.kind k ≡ t
           → choose s (operator_rows least v xs) ≡ looped least v.kind (here v) (has s (switch_in v.kind xs)) (operator_in v.kind xs)
           → ◌≡◌ {A = Body} (elim (t && leb least l && has s g) [ true ↦ turn least k (here v) o r | false ↦ choose s (operator_rows least v xs) ])
-          (looped least v.kind (here v) (has s (cond t g (switch_in v.kind xs))) (cond t (Binary o l r) (operator_in v.kind xs)))
+          (looped least v.kind (here v) (has s (cond t g (switch_in v.kind xs))) (cond t (binary o l r) (operator_in v.kind xs)))
       by true e i = taken (leb least l && has s g) (eqb-true v.kind k e)
       by false e i = i
 

@@ -12,7 +12,7 @@ use lib.Seq.{slice, length-slice}
 use Rattle.strings.specs.Utf8.{Utf8}
 use Rattle.strings.proofs.LiteralLaws.{quoted_short, verbatim_short}
 use Rattle.blocks.specs.Blocks.{BlockAt}
-use Rattle.blocks.specs.declared.Block.TheVariants.{Good}
+use Rattle.std.specs.Prelude.{Ok}
 use Rattle.blocks.proofs.Laws.{text_short}
 use Rattle.lexemes.specs.declared.Lexeme.{Lexeme as Range}
 use Rattle.lexemes.specs.Kinds.{STRING_BLOCK}
@@ -41,7 +41,7 @@ plain_short (b ∷ s) = by (eqb b 0x5F) (plain_short s)
     by false h = omega arith
 
 -- A text has no more bytes than its lexeme. Of a block this needs that it is a good one.
-means_short : {s : List ℕ} {k a e : ℕ} {w : List ℕ} → a < e → e ≤ length s → (k ≡ STRING_BLOCK → BlockAt s (a + 3) (Good e)) → Means s k a e w → length w ≤ e - a
+means_short : {s : List ℕ} {k a e : ℕ} {w : List ℕ} → a < e → e ≤ length s → (k ≡ STRING_BLOCK → BlockAt s (a + 3) (Ok e)) → Means s k a e w → length w ≤ e - a
 means_short {s} {k} {a} {e} h g b name = omega (arith, length-slice a e s g)
 means_short {s} {k} {a} {e} h g b (number n) = omega (arith, plain_short (slice a e s), length-slice a e s g)
 means_short {s} {k} {a} {e} h g b (double m) = omega (arith, quoted_short m, length-slice (a + 1) (e - 1) s (omega arith))
@@ -50,7 +50,7 @@ means_short {s} {k} {a} {e} h g b (double_verbatim m) = omega (arith, verbatim_s
 means_short {s} {k} {a} {e} h g b (single_verbatim m) = omega (arith, verbatim_short m, length-slice (a + 2) (e - 1) s (omega arith))
 means_short {s} {k} {a} {e} h g b (block m) = omega (arith, text_short (b refl) m)
 
-says_short : {s : List ℕ} {k a e : ℕ} {w : Said} → a < e → e ≤ length s → (k ≡ STRING_BLOCK → BlockAt s (a + 3) (Good e)) → Says s k a e w → length (said w) ≤ e - a
+says_short : {s : List ℕ} {k a e : ℕ} {w : Said} → a < e → e ≤ length s → (k ≡ STRING_BLOCK → BlockAt s (a + 3) (Ok e)) → Says s k a e w → length (said w) ≤ e - a
 unfolding said
 says_short h g b (its_text m) = means_short h g b m
 says_short h g b (its_escape x) = omega arith

@@ -26,7 +26,7 @@ use Rattle.grammar.specs.Productions.{Phrase, expr, Body, Switch, always, exp_de
 use Rattle.grammar.specs.Productions.{Operator, op, operators}
 use Rattle.grammar.specs.Reading.{has, published, choose, view, production, Outcome, done, broken, Reading, ended, failed, gone, eaten, uneaten, leafed, closed, subbed, unsubbed, deepened, undeepened, too_deep}
 use Rattle.grammar.specs.Operators.{sign_in, prefix_of}
-use Rattle.grammar.specs.declared.operators.Prefix.TheVariants.{Unary as One, NoPrefix}
+use Rattle.std.specs.Prelude.{Some, None}
 use Rattle.grammar.specs.Answer.{Answer, Verdict, refused, tree, verdict, Judged, bad_setting, too_long, not_utf8, bad_lexeme, read, valid_setting, prefix_power, document_01}
 use Rattle.grammar.specs.Source.{Bad, Kept, Reads01}
 use Rattle.grammar.specs.Settings.{Signed, signed, Unsigned, NoPrefixSign}
@@ -151,12 +151,12 @@ chosen_alike s s' on (row g t b ∣ rest) =
     let f : Bool → Body → Body = λ h c. elim (t && h) [ true ↦ b | false ↦ c ] in
     ap (λ (h : Bool). f h (choose s rest)) (on g) ∙ ap (f (has s' g)) (chosen_alike s s' on rest)
 
-not_sign : (k : ℕ) (xs : List Sign) → Signs xs → ((o : ℕ) → Unary k o → ⊥) → sign_in k xs ≡ NoPrefix
+not_sign : (k : ℕ) (xs : List Sign) → Signs xs → ((o : ℕ) → Unary k o → ⊥) → sign_in k xs ≡ None
 unfolding Signs sign_in
 not_sign k [] h n = refl
 not_sign k (sign j o ∷ rest) h n = by (eqb k j) refl (not_sign k rest h.2 n)
   where
-    by : (t : Bool) → eqb k j ≡ t → sign_in k rest ≡ NoPrefix → cond t (One o) (sign_in k rest) ≡ NoPrefix
+    by : (t : Bool) → eqb k j ≡ t → sign_in k rest ≡ None → cond t (Some o) (sign_in k rest) ≡ None
     by true e i = absurd (n o (subst (λ (m : ℕ). Unary m o) (sym (eqb-true k j e)) h.0))
     by false e i = i
 

@@ -13,9 +13,8 @@ use lib.Seq.{slice}
 use Rattle.strings.specs.Literals.{Quoted, BadEscape}
 use Rattle.strings.proofs.Always.{valid_always, TextOrBadEscape, text_or_bad_escape}
 use Rattle.strings.proofs.LiteralLaws.{verbatim_always}
-use Rattle.blocks.specs.Blocks.{BlockAt, BlockText}
-use Rattle.blocks.specs.declared.Block.{Block}
-use Rattle.blocks.specs.declared.Block.TheVariants.{Good, UnexpectedEnd, MissingNewLine, MissingTermination, MissingIndent}
+use Rattle.std.specs.Prelude.{Ok, Err}
+use Rattle.blocks.specs.Blocks.{Block, BlockAt, BlockText}
 use Rattle.blocks.proofs.Laws.{good_decodes, text_is_good}
 use Rattle.blocks.proofs.Always.{block_always}
 use Rattle.numerals.specs.Value.{TooLarge}
@@ -63,15 +62,12 @@ module _ (s : List ℕ) (a e : ℕ) where
   block_says : (w : Said) × Says s STRING_BLOCK a e w
   block_says = by (block_always s (a + 3))
     where
-      not_good : (b : Block) → BlockAt s (a + 3) b → ((n : ℕ) → b ≡ Good n → ⊥) → (w : Said) × Says s STRING_BLOCK a e w
+      not_good : (b : Block) → BlockAt s (a + 3) b → ((n : ℕ) → b ≡ Ok n → ⊥) → (w : Said) × Says s STRING_BLOCK a e w
       not_good b x h = (nothing, no_text (λ w m. let g = text_is_good (block_back w m) x in h g.0 g.1) (no_spoils (λ q. omega arith) (λ q. omega arith)))
 
       by : (b : Block) × BlockAt s (a + 3) b → (w : Said) × Says s STRING_BLOCK a e w
-      by (Good n, x) = let t = good_decodes x in (says t.0, its_text (block t.1))
-      by (UnexpectedEnd n, x) = not_good _ x (λ m q. let z : ◌≡◌ {A = ℕ} 0 1 = cc in omega arith)
-      by (MissingNewLine n, x) = not_good _ x (λ m q. let z : ◌≡◌ {A = ℕ} 0 1 = cc in omega arith)
-      by (MissingTermination n, x) = not_good _ x (λ m q. let z : ◌≡◌ {A = ℕ} 0 1 = cc in omega arith)
-      by (MissingIndent n, x) = not_good _ x (λ m q. let z : ◌≡◌ {A = ℕ} 0 1 = cc in omega arith)
+      by (Ok n, x) = let t = good_decodes x in (says t.0, its_text (block t.1))
+      by (Err f, x) = not_good _ x (λ m q. let z : ◌≡◌ {A = ℕ} 0 1 = cc in omega arith)
 
   pub no_meaning : (k : ℕ) → (k ≡ IDENT → ⊥) → (k ≡ FLOAT → ⊥) → (k ≡ STRING_DOUBLE → ⊥) → (k ≡ STRING_SINGLE → ⊥) → (k ≡ STRING_DOUBLE_VERBATIM → ⊥) → (k ≡ STRING_SINGLE_VERBATIM → ⊥)
       → (k ≡ STRING_BLOCK → ⊥) → (w : List ℕ) → Means s k a e w → ⊥

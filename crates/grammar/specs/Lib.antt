@@ -13,6 +13,7 @@ pub mod Writing
 pub mod Operators
 pub mod Records
 pub mod Layout
+pub mod Laid
 pub mod Source
 pub mod SameAnswers
 pub mod Spells

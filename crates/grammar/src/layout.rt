@@ -1,87 +1,77 @@
 // How records are laid out: one row for each tag, for whoever reads an image.
-ghost use Rattle.std.specs.Prelude.{◌≡◌};
-ghost use Rattle.grammar.specs.Layout.{layout_of, numbers};
+ghost use Rattle.std.specs.Prelude.{◌≡◌, map};
+ghost use Rattle.grammar.specs.Laid.{laid_out, part_of};
+ghost use Rattle.grammar.specs.Layout.{layout_of};
+ghost use Rattle.grammar.specs.Layout as specified;
 
 use crate::tags::Tag;
+use Part::{Below, Bits, Count, Has, Span, Text};
 
-// The parts of a payload, in their order, and the children that each tells of.
-#[derive(Drop)]
-pub struct Part {
-    pub code: u8,
+// A part of a payload, and the children that it tells of.
+#[derive(Clone, Copy, Debug, PartialEq, Eq)]
+pub enum Part {
+    Span,
+    Text, // to the payload's end
+    Count, // a number: so many children
+    Has, // a flag: a child if it is set
+    Bits, // a byte below 8: a child for each of 1, 2 and 4
+    Below(u8), // a byte below this: a flag, or a place in an enum
 }
 
-impl Part {
-    pub const END: u8 = 0; // no part more
-
-    pub const SPAN: u8 = 1;
-
-    pub const TEXT: u8 = 2; // to the payload's end
-
-    pub const COUNT: u8 = 3; // a number: so many children
-
-    pub const HAS: u8 = 4; // a flag: a child if it is set
-
-    pub const BITS: u8 = 5; // a byte below 8: a child for each of 1, 2 and 4
-
-    pub const FLAG: u8 = 10; // from here on 8 + n: a byte below n
-
-    pub const THREE: u8 = 11;
-
-    pub const SIGN: u8 = 12;
-
-    pub const OPERATOR: u8 = 28;
-
-    pub const UNKNOWN: u8 = 255; // no record has this tag
+// How many children every record of a tag has, then the parts of its payload, at most six.
+#[derive(Clone, Copy)]
+pub struct Row {
+    pub children: usize,
+    pub parts: &'static [Part],
 }
 
-// A record's row: how many children every record of this tag has, then the parts of its payload, at most six.
-pub fn layout(tag: u8) -> [u8; 7]
-    ensures { result ≡ numbers (layout_of tag) }
+fn of(children: usize, parts: &'static [Part]) -> Option<Row>
+    ensures { laid_out result ≡ specified.layout children (map part_of parts.now) }
+{
+    Some(Row { children, parts })
+}
+
+// The row of a tag, if records have it.
+#[tactic(auto, unfolding(crate::specs::Layout::layout_of))]
+pub fn layout(tag: u8) -> Option<Row>
+    ensures { laid_out result ≡ layout_of tag }
 {
     match tag {
-        Tag::IDENTITY => [0, Part::THREE, Part::SPAN, 0, 0, 0, 0],
-        Tag::NULL => [0, 0, 0, 0, 0, 0, 0],
-        Tag::BOOL => [0, Part::FLAG, 0, 0, 0, 0, 0],
-        Tag::NUMBER => [0, Part::TEXT, 0, 0, 0, 0, 0],
-        Tag::STRING => [0, Part::TEXT, 0, 0, 0, 0, 0],
-        Tag::VARIABLE => [0, Part::SPAN, Part::TEXT, 0, 0, 0, 0],
-        Tag::ARRAY => [0, Part::COUNT, 0, 0, 0, 0, 0],
-        Tag::ARRAY_COMP => [1, Part::COUNT, 0, 0, 0, 0, 0],
-        Tag::MEMBERS => [0, Part::COUNT, 0, 0, 0, 0, 0],
-        Tag::OBJECT_COMP => [0, Part::COUNT, Part::COUNT, 0, 0, 0, 0],
-        Tag::EXTENSION => [2, 0, 0, 0, 0, 0, 0],
-        Tag::PREFIX => [1, Part::SIGN, 0, 0, 0, 0, 0],
-        Tag::INFIX => [2, Part::OPERATOR, Part::SPAN, 0, 0, 0, 0],
-        Tag::ASSERT_EXPR => [2, 0, 0, 0, 0, 0, 0],
-        Tag::LOCAL => [1, Part::COUNT, 0, 0, 0, 0, 0],
-        Tag::IMPORT => [1, Part::THREE, Part::SPAN, 0, 0, 0, 0],
-        Tag::ERROR => [1, Part::SPAN, 0, 0, 0, 0, 0],
-        Tag::CALL => [1, Part::SPAN, Part::FLAG, Part::COUNT, Part::COUNT, 0, 0],
-        Tag::NAMED_ARGUMENT => [1, Part::TEXT, 0, 0, 0, 0, 0],
-        Tag::INDEX_PART => [2, Part::SPAN, Part::FLAG, Part::FLAG, 0, 0, 0],
-        Tag::FUNCTION => [1, Part::SPAN, Part::COUNT, 0, 0, 0, 0],
-        Tag::IF => [2, Part::SPAN, Part::HAS, 0, 0, 0, 0],
-        Tag::SLICE => [1, Part::BITS, Part::SPAN, Part::SPAN, Part::SPAN, 0, 0],
-        Tag::BIND => [2, Part::FLAG, Part::COUNT, 0, 0, 0, 0],
-        Tag::NAME_PATTERN => [0, Part::SPAN, Part::TEXT, 0, 0, 0, 0],
-        Tag::SKIP => [0, 0, 0, 0, 0, 0, 0],
-        Tag::ARRAY_PATTERN => [0, Part::COUNT, Part::THREE, Part::COUNT, Part::TEXT, 0, 0],
-        Tag::OBJECT_PATTERN => [0, Part::COUNT, Part::THREE, Part::TEXT, 0, 0, 0],
-        Tag::PATTERN_FIELD => [0, Part::HAS, Part::HAS, Part::SPAN, Part::TEXT, 0, 0],
-        Tag::PARAMETER => [1, Part::HAS, 0, 0, 0, 0, 0],
-        Tag::FIELD => [
-            2,
-            Part::SPAN,
-            Part::FLAG,
-            Part::FLAG,
-            Part::FLAG,
-            Part::COUNT,
-            Part::THREE,
-        ],
-        Tag::ASSERT => [1, Part::SPAN, Part::HAS, 0, 0, 0, 0],
-        Tag::FOR => [2, 0, 0, 0, 0, 0, 0],
-        Tag::IF_CLAUSE => [1, Part::SPAN, 0, 0, 0, 0, 0],
-        Tag::OBJECT_ITERATION => [2, Part::THREE, Part::TEXT, 0, 0, 0, 0],
-        _ => [Part::UNKNOWN, 0, 0, 0, 0, 0, 0],
+        Tag::IDENTITY => of(0, &[Below(3), Span]),
+        Tag::NULL => of(0, &[]),
+        Tag::BOOL => of(0, &[Below(2)]),
+        Tag::NUMBER => of(0, &[Text]),
+        Tag::STRING => of(0, &[Text]),
+        Tag::VARIABLE => of(0, &[Span, Text]),
+        Tag::ARRAY => of(0, &[Count]),
+        Tag::ARRAY_COMP => of(1, &[Count]),
+        Tag::MEMBERS => of(0, &[Count]),
+        Tag::OBJECT_COMP => of(0, &[Count, Count]),
+        Tag::EXTENSION => of(2, &[]),
+        Tag::PREFIX => of(1, &[Below(4)]),
+        Tag::INFIX => of(2, &[Below(20), Span]),
+        Tag::ASSERT_EXPR => of(2, &[]),
+        Tag::LOCAL => of(1, &[Count]),
+        Tag::IMPORT => of(1, &[Below(3), Span]),
+        Tag::ERROR => of(1, &[Span]),
+        Tag::CALL => of(1, &[Span, Below(2), Count, Count]),
+        Tag::NAMED_ARGUMENT => of(1, &[Text]),
+        Tag::INDEX_PART => of(2, &[Span, Below(2), Below(2)]),
+        Tag::FUNCTION => of(1, &[Span, Count]),
+        Tag::IF => of(2, &[Span, Has]),
+        Tag::SLICE => of(1, &[Bits, Span, Span, Span]),
+        Tag::BIND => of(2, &[Below(2), Count]),
+        Tag::NAME_PATTERN => of(0, &[Span, Text]),
+        Tag::SKIP => of(0, &[]),
+        Tag::ARRAY_PATTERN => of(0, &[Count, Below(3), Count, Text]),
+        Tag::OBJECT_PATTERN => of(0, &[Count, Below(3), Text]),
+        Tag::PATTERN_FIELD => of(0, &[Has, Has, Span, Text]),
+        Tag::PARAMETER => of(1, &[Has]),
+        Tag::FIELD => of(2, &[Span, Below(2), Below(2), Below(2), Count, Below(3)]),
+        Tag::ASSERT => of(1, &[Span, Has]),
+        Tag::FOR => of(2, &[]),
+        Tag::IF_CLAUSE => of(1, &[Span]),
+        Tag::OBJECT_ITERATION => of(2, &[Below(3), Text]),
+        _ => None,
     }
 }

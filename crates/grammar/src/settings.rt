@@ -1,4 +1,5 @@
 // What a setting is and switches on, each test once. The switches are named as the Rust's cargo features.
+// Kept as four functions: a test is one line, and one function over the switch's number would only move the numbers to its callers.
 ghost use Rattle.std.specs.Prelude.{◌≡◌};
 ghost use Rattle.grammar.specs.Productions.{exp_destruct, exp_object_iteration, exp_null_coaelse};
 ghost use Rattle.grammar.specs.Reading.{has, published};

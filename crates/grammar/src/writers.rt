@@ -49,10 +49,8 @@ fn put_some(out: &mut [u8], w: usize, s: &[u8]) -> usize
     if out.len() <= w {
         return w + s.len();
     }
-    let mut i = 0;
-    while i < s.len() {
-        put(out, w + i, s[i]);
-        i += 1;
+    for (i, b) in s.iter().enumerate() {
+        put(out, w + i, *b);
     }
     w + s.len()
 }
@@ -65,12 +63,9 @@ fn put_text(out: &mut [u8], w: usize, s: &[u8]) -> usize
     if out.len() < w + s.len() {
         return put_some(out, w, s);
     }
-    let mut i = 0;
-    while i < s.len() {
-        out[w + i] = s[i];
-        i += 1;
-    }
-    w + s.len()
+    let next = w + s.len();
+    out[w..next].copy_from_slice(s);
+    next
 }
 
 // A record's tag and the length of its payload.

@@ -13,7 +13,7 @@ use borrow.Author.Tests.{eqb-true, eqb-false, ltb-true, ltb-false}
 use Rattle.grammar.specs.Trees.{Field, Trees}
 use Rattle.grammar.specs.Trees as trees
 use Rattle.grammar.specs.Image.{entry, image}
-use Rattle.images.specs.declared.Answer.TheVariants.{Tree}
+use Rattle.std.proofs.Common.{Ok}
 use Rattle.images.specs.Images.{Accepted, records, links, ReadsBack}
 use Rattle.images.specs.Children.{Record, root_numbers, Holds, first_of, Backward, Found}
 use Rattle.images.proofs.LinkLaws.{links-length}
@@ -150,11 +150,11 @@ tree_told {bytes} {t} rest e r h = holds_told stored h
     stored = record { before = []; after = []; split = e ∙ sym (append-nil (image t)); place = refl; left = []; right = rest; linked = refl; number = refl }
 
 -- THE LINKS ARE THE TREE'S.
-pub links_are_the_trees : {bytes array : List ℕ} {room n : ℕ} → ReadsBack bytes room (Tree n) array
+pub links_are_the_trees : {bytes array : List ℕ} {room n : ℕ} → ReadsBack bytes room (Ok n) array
     → (t : Trees) × Accepted bytes t × (records t ≡ n) × ((r : Record) → Holds 0 0 t r → Told bytes array r)
 links_are_the_trees {bytes} {array} {room} {n} x = by room n array x
   where
-    by : (room n : ℕ) (array : List ℕ) → ReadsBack bytes room (Tree n) array
+    by : (room n : ℕ) (array : List ℕ) → ReadsBack bytes room (Ok n) array
         → (t : Trees) × Accepted bytes t × (records t ≡ n) × ((r : Record) → Holds 0 0 t r → Told bytes array r)
     by room n array (ReadsBack.accepted {t} h a) = (t, a, refl, tree_told (replicate (room - 2 * records t) 0) a.written)
     by room n array (ReadsBack.refused h x) = absurd (omega (arith, no_tree x))

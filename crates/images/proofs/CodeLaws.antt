@@ -1,7 +1,7 @@
 -- The definitions of specs/Inner.antt by the branches of the code that computes them.
 -- Assumes nothing.
 use mathlib.Core.Path.{◌≡◌, refl, sym, ap, subst, ◌∙◌}
-use mathlib.Core.Bool.{Bool, true, false, cond, not, ◌||◌}
+use mathlib.Core.Bool.{Bool, true, false, cond, not, ◌&&◌, ◌||◌}
 use mathlib.Core.List.{List, [], ◌∷◌}
 use Prim.Native.Nat.{ℕ, zero, suc, ◌+◌, ◌-◌, ◌/◌, ◌%◌, ◌≤◌, ◌<◌}
 use native.Mathlib.Omega.{arith}
@@ -12,16 +12,23 @@ use borrow.Author.Tests.{eqb-true, eqb-false, le-leb, lt-leb, eq-eqb, ne_eqb}
 use Rattle.grammar.specs.Layout.{bits_in, layout_of, numbers}
 use Rattle.grammar.specs.Tags.{INFIX}
 use Rattle.grammar.proofs.LayoutLaws.{NoneOf}
-use Rattle.images.specs.Inner.{BACKWARD, span_value, limit, told_by, unless, slice_fine, question, decoded, asks, row_of, rows, look, count_by, sort_by, text_by, fine_by, fines, is_a, code, sort_of, wide_code, dates, dated_row, onward, two_at, Gets, kids, Extends, tail_part, Worded, Ends}
+use Rattle.images.specs.Inner.{BACKWARD, span_value, limit, told_by, unless, slice_fine, question, decoded, asks, row_of, rows, look, count_by, sort_by, text_by, fine_by, fines, is_a, code, sort_of, wide_code, dates, dated_row, onward, two_at, Question, Extends, tail_part, Worded}
+use Rattle.images.specs.Inner.{coded, Asks, pick, forward, Gets}
+use Rattle.images.specs.declared.asks.Question as asked
+use Rattle.std.proofs.Common.{Option, None, Some}
+use Rattle.std.specs.Option.{option_or, option_eq}
+use Rattle.images.specs.declared.records.Age as ages
+use Rattle.images.specs.Inner.{age_code}
+use Rattle.std.specs.Bool.{then_some}
+use Rattle.std.specs.List.{list_all}
+use denote.Enum.Bare.{sameb}
+use denote.Enum.Declared.{tag_of}
+use Rattle.images.specs.contracts.sorts.Sort.{the_type}
+use Rattle.images.specs.declared.sorts.Sort as sorts
+use Rattle.images.specs.Inner.{sort_code}
 use Rattle.blocks.specs.Inside.{Says}
 use Rattle.strings.specs.Utf8.{Utf8}
 use Rattle.grammar.specs.Words.{NameText, NumberText}
-use Rattle.images.specs.declared.Answer.{Answer}
-use Rattle.images.specs.declared.records.Step.{Step}
-use Rattle.images.specs.declared.records.Extent.TheVariants.{End}
-use Rattle.images.specs.declared.asks.Question.{Question}
-use Rattle.images.specs.declared.parts.Got.{Got}
-use Rattle.images.specs.declared.parts.Got.TheVariants.{Value, Wrong}
 use Rattle.images.proofs.TableLaws.{all_among, look_none}
 use Rattle.images.proofs.TextLaws.{same}
 
@@ -85,21 +92,89 @@ named_as t z e = ap (λ (q : Question). question q.fine q.n1 q.s1 q.n2 q.s2 q.n3
 pub asks_tag : {tag : ℕ} (k : ℕ) (v : List ℕ) {q : Question} → tag ≡ k → q ≡ asks k v → q ≡ asks tag v
 asks_tag k v e h = h ∙ sym (ap (λ (t : ℕ). asks t v) e)
 
+pub asks_given : {tag : ℕ} (k : ℕ) (v : List ℕ) {r : Option asked.Question} (f : Bool) (q : asked.Question) → tag ≡ k → r ≡ then_some f q
+    → question f (coded q).n1 (coded q).s1 (coded q).n2 (coded q).s2 (coded q).n3 (coded q).s3 (coded q).text (coded q).size ≡ asks k v → Asks (asks tag v) r
+asks_given {tag} k v {r} f q t e h = subst (Asks (asks tag v)) (sym e) (by f h)
+  where
+    same_tag : asks k v ≡ asks tag v
+    same_tag = sym (ap (λ (i : ℕ). asks i v) t)
+
+    by : (b : Bool) → question b (coded q).n1 (coded q).s1 (coded q).n2 (coded q).s2 (coded q).n3 (coded q).s3 (coded q).text (coded q).size ≡ asks k v → Asks (asks tag v) (then_some b q)
+    by true h = h ∙ same_tag
+    by false h = sym (ap (λ (p : Question). p.fine) (h ∙ same_tag))
+
+pub pick_zero : (b x y : ℕ) → b ≡ 0 → x ≡ pick b x y
+unfolding pick
+pick_zero b x y e = rw (eq-eqb b 0 e)
+
+pub pick_other : (b x y : ℕ) → (b ≡ 0 → ⊥) → y ≡ pick b x y
+unfolding pick
+pick_other b x y n = rw (ne_eqb b 0 n)
+
 pub asks_none : (tag : ℕ) (v ks : List ℕ) → T (all_among rows ks) → NoneOf tag ks → question false 0 0 0 0 0 0 0 0 ≡ asks tag v
 unfolding asks row_of count_by sort_by text_by fine_by fines look
 asks_none tag v ks h n = sym (ap (λ (r : List ℕ). decoded r v) (look_none (7 ∷ 0 ∷ 0 ∷ 0 ∷ 0 ∷ 0 ∷ 0 ∷ 0 ∷ 0 ∷ []) tag ks rows h n))
 
 -- ── Sorts ─────────────────────────────────────────────────────────────────────────────────────────
 
-pub is_own : (tag w c : ℕ) → c ≡ code (sort_of tag) → c ≡ w → true ≡ is_a tag w
-unfolding is_a
-is_own tag w c e q = sym (ap (λ (t : Bool). t || eqb (wide_code (code (sort_of tag))) w) (eq-eqb (code (sort_of tag)) w (sym e ∙ q)))
+-- The numbers are the tags of the enum.
+tag_code : (s : sorts.Sort) → tag_of the_type s ≡ sort_code s
+tag_code sorts.TheVariants.Expression = refl
+tag_code sorts.TheVariants.String = refl
+tag_code sorts.TheVariants.Run = refl
+tag_code sorts.TheVariants.Object = refl
+tag_code sorts.TheVariants.Named = refl
+tag_code sorts.TheVariants.Param = refl
+tag_code sorts.TheVariants.Bind = refl
+tag_code sorts.TheVariants.Field = refl
+tag_code sorts.TheVariants.Assertion = refl
+tag_code sorts.TheVariants.Member = refl
+tag_code sorts.TheVariants.Iteration = refl
+tag_code sorts.TheVariants.IfClause = refl
+tag_code sorts.TheVariants.Clause = refl
+tag_code sorts.TheVariants.Pattern = refl
+tag_code sorts.TheVariants.NamePattern = refl
+tag_code sorts.TheVariants.PatternField = refl
+tag_code sorts.TheVariants.CompMember = refl
 
-pub is_wider : (tag w c d : ℕ) → c ≡ code (sort_of tag) → (c ≡ w → ⊥) → d ≡ wide_code c → eqb d w ≡ is_a tag w
+pub same_code : (a b : sorts.Sort) → sameb the_type a b ≡ eqb (sort_code a) (sort_code b)
+same_code a b = ap (λ (n : ℕ). eqb n (tag_of the_type b)) (tag_code a) ∙ ap (eqb (sort_code a)) (tag_code b)
+
+pub is_either : (tag : ℕ) (own wide wanted : sorts.Sort) → sort_code own ≡ code (sort_of tag) → sort_code wide ≡ wide_code (sort_code own)
+    → (sameb the_type own wanted || sameb the_type wide wanted) ≡ is_a tag (sort_code wanted)
 unfolding is_a
-is_wider tag w c d e n f =
-    ap (λ (k : ℕ). eqb k w) (f ∙ ap wide_code e)
-    ∙ sym (ap (λ (t : Bool). t || eqb (wide_code (code (sort_of tag))) w) (ne_eqb (code (sort_of tag)) w (λ q. n (e ∙ q))))
+is_either tag own wide wanted e f =
+    ap (λ (b : Bool). b || sameb the_type wide wanted) (same_code own wanted ∙ ap (λ (n : ℕ). eqb n (sort_code wanted)) e)
+    ∙ ap (λ (b : Bool). eqb (code (sort_of tag)) (sort_code wanted) || b) (same_code wide wanted ∙ ap (λ (n : ℕ). eqb n (sort_code wanted)) (f ∙ ap wide_code e))
+
+pub comp_code : (s : sorts.Sort) → sort_code s ≡ 16 → s ≡ sorts.TheVariants.CompMember
+comp_code sorts.TheVariants.Expression e = absurd (omega arith)
+comp_code sorts.TheVariants.String e = absurd (omega arith)
+comp_code sorts.TheVariants.Run e = absurd (omega arith)
+comp_code sorts.TheVariants.Object e = absurd (omega arith)
+comp_code sorts.TheVariants.Named e = absurd (omega arith)
+comp_code sorts.TheVariants.Param e = absurd (omega arith)
+comp_code sorts.TheVariants.Bind e = absurd (omega arith)
+comp_code sorts.TheVariants.Field e = absurd (omega arith)
+comp_code sorts.TheVariants.Assertion e = absurd (omega arith)
+comp_code sorts.TheVariants.Member e = absurd (omega arith)
+comp_code sorts.TheVariants.Iteration e = absurd (omega arith)
+comp_code sorts.TheVariants.IfClause e = absurd (omega arith)
+comp_code sorts.TheVariants.Clause e = absurd (omega arith)
+comp_code sorts.TheVariants.Pattern e = absurd (omega arith)
+comp_code sorts.TheVariants.NamePattern e = absurd (omega arith)
+comp_code sorts.TheVariants.PatternField e = absurd (omega arith)
+comp_code sorts.TheVariants.CompMember e = refl
+
+pub is_first : (tag : ℕ) (own wanted : sorts.Sort) → sort_code own ≡ code (sort_of tag) → sameb the_type own wanted ≡ true → true ≡ is_a tag (sort_code wanted)
+unfolding is_a
+is_first tag own wanted e t =
+    let q : eqb (code (sort_of tag)) (sort_code wanted) ≡ true = sym (ap (λ (n : ℕ). eqb n (sort_code wanted)) e) ∙ sym (same_code own wanted) ∙ t in
+    sym (ap (λ (b : Bool). b || eqb (wide_code (code (sort_of tag))) (sort_code wanted)) q)
+
+pub is_second : (tag : ℕ) (own wide wanted : sorts.Sort) → sort_code own ≡ code (sort_of tag) → sort_code wide ≡ wide_code (sort_code own) → sameb the_type own wanted ≡ false
+    → sameb the_type wide wanted ≡ is_a tag (sort_code wanted)
+is_second tag own wide wanted e f n = ap (λ (b : Bool). b || sameb the_type wide wanted) (sym n) ∙ is_either tag own wide wanted e f
 
 -- ── Ages ──────────────────────────────────────────────────────────────────────────────────────────
 
@@ -119,6 +194,29 @@ pub dates_new : (tag size age : ℕ) → tag ≡ INFIX → age ≡ 0 → (size �
 unfolding dates
 dates_new tag size age e z o = rw (eq-eqb tag INFIX e, eq-eqb age 0 z, ne_eqb size 1 o)
 
+pub aged_or : (tag size : ℕ) (age : Option ages.Age) (first : ages.Age) → tag ≡ INFIX → age_code (Some first) ≡ cond (eqb size 1) 1 2 → age_code (option_or age (Some first)) ≡ dates tag size (age_code age)
+unfolding dates
+aged_or tag size None first e q = rw (eq-eqb tag INFIX e) q
+aged_or tag size (Some ages.TheVariants.Old) first e q = rw (eq-eqb tag INFIX e)
+aged_or tag size (Some ages.TheVariants.New) first e q = rw (eq-eqb tag INFIX e)
+
+pub old_size : (size : ℕ) → size ≡ 1 → ◌≡◌ {A = ℕ} 1 (cond (eqb size 1) 1 2)
+old_size size e = rw (eq-eqb size 1 e)
+
+pub new_size : (size : ℕ) → (size ≡ 1 → ⊥) → ◌≡◌ {A = ℕ} 2 (cond (eqb size 1) 1 2)
+new_size size n = rw (ne_eqb size 1 n)
+
+-- The test of an age, by what it says of two ages.
+pub is_old : (E : ages.Age → ages.Age → Bool) → E ages.TheVariants.New ages.TheVariants.Old ≡ false → (age : Option ages.Age) → option_eq E age (Some ages.TheVariants.Old) ≡ true → age_code age ≡ 1
+is_old E n None e = cc
+is_old E n (Some ages.TheVariants.Old) e = refl
+is_old E n (Some ages.TheVariants.New) e = cc
+
+pub is_not_old : (E : ages.Age → ages.Age → Bool) → E ages.TheVariants.Old ages.TheVariants.Old ≡ true → (age : Option ages.Age) → option_eq E age (Some ages.TheVariants.Old) ≡ false → age_code age ≡ 1 → ⊥
+is_not_old E y None e k = omega arith
+is_not_old E y (Some ages.TheVariants.Old) e k = cc
+is_not_old E y (Some ages.TheVariants.New) e k = omega arith
+
 pub row_other : (tag age : ℕ) → (tag ≡ INFIX → ⊥) → numbers (layout_of tag) ≡ dated_row tag age
 unfolding dated_row
 row_other tag age n = rw (ne_eqb tag INFIX n)
@@ -133,18 +231,24 @@ row_new tag age e o = rw (eq-eqb tag INFIX e, ne_eqb age 1 o)
 
 -- ── Backward spans ────────────────────────────────────────────────────────────────────────────────
 
-pub onward_not : (v : ℕ) (b : Bool) → v ≡ BACKWARD → false ≡ onward v b
-onward_not v b e = rw (eq-eqb v BACKWARD e)
-
-pub onward_more : (v : ℕ) (b c : Bool) → (v ≡ BACKWARD → ⊥) → c ≡ b → c ≡ onward v b
-onward_more v b c n e = rw (ne_eqb v BACKWARD n) e
-
-pub onward_last : (v : ℕ) → not (eqb v BACKWARD) ≡ onward v true
-onward_last v = by (eqb v BACKWARD)
+onward_is : (x : ℕ) (p q : Bool) → p ≡ q → (not (eqb x BACKWARD) && p) ≡ onward x q
+onward_is x p q e = by (eqb x BACKWARD)
   where
-    by : (t : Bool) → not t ≡ cond t false true
+    by : (t : Bool) → (not t && p) ≡ cond t false q
     by true = refl
-    by false = refl
+    by false = e
+
+pub forward_all : (v : List ℕ) → length v ≡ 6 → list_all (λ (x : ℕ). not (eqb x BACKWARD)) v ≡ forward v
+unfolding forward
+forward_all [] h = absurd (omega arith)
+forward_all (a ∷ []) h = absurd (omega arith)
+forward_all (a ∷ b ∷ []) h = absurd (omega arith)
+forward_all (a ∷ b ∷ c ∷ []) h = absurd (omega arith)
+forward_all (a ∷ b ∷ c ∷ d ∷ []) h = absurd (omega arith)
+forward_all (a ∷ b ∷ c ∷ d ∷ e ∷ []) h = absurd (omega arith)
+forward_all (a ∷ b ∷ c ∷ d ∷ e ∷ f ∷ []) h =
+    onward_is a _ _ (onward_is b _ _ (onward_is c _ _ (onward_is d _ _ (onward_is e _ _ (onward_is f true true refl)))))
+forward_all (a ∷ b ∷ c ∷ d ∷ e ∷ f ∷ g ∷ l) h = absurd (omega arith)
 
 -- ── Parts as they are got ─────────────────────────────────────────────────────────────────────────
 
@@ -154,38 +258,16 @@ span_of a e x y p q h = let s : x + y ≡ a + e = omega arith in s ∙ span_forw
 pub span_back : (a e x y : ℕ) → x ≡ a → y ≡ e → y < x → BACKWARD ≡ span_value a e
 span_back a e x y p q h = span_backward a e (omega arith)
 
-module _ {bytes : List ℕ} {at end code : ℕ} where
-  pub get_no_span : code ≡ 1 → end < at + 4 → Gets bytes at end code Wrong
-  get_no_span e h = subst (λ (c : ℕ). Gets bytes at end c Wrong) (sym e) (Gets.no_span h)
-
-  pub get_span : {v : ℕ} → code ≡ 1 → at + 4 ≤ end → v ≡ span_value (two_at bytes at) (two_at bytes (at + 2)) → Gets bytes at end code (Value v (at + 4) 0)
-  get_span {v} e h q = subst (λ (c : ℕ). Gets bytes at end c (Value v (at + 4) 0)) (sym e) (subst (λ (w : ℕ). Gets bytes at end 1 (Value w (at + 4) 0)) (sym q) (Gets.a_span h))
-
-  pub get_text : {v : ℕ} → code ≡ 2 → v ≡ end - at → Gets bytes at end code (Value v end 0)
-  get_text {v} e q = subst (λ (c : ℕ). Gets bytes at end c (Value v end 0)) (sym e) (subst (λ (w : ℕ). Gets bytes at end 2 (Value w end 0)) (sym q) Gets.a_text)
-
-  pub get_no_count : code ≡ 3 → end < at + 2 → Gets bytes at end code Wrong
-  get_no_count e h = subst (λ (c : ℕ). Gets bytes at end c Wrong) (sym e) (Gets.no_count h)
-
-  pub get_count : {v : ℕ} → code ≡ 3 → at + 2 ≤ end → v ≡ two_at bytes at → Gets bytes at end code (Value v (at + 2) v)
-  get_count {v} e h q = subst (λ (c : ℕ). Gets bytes at end c (Value v (at + 2) v)) (sym e) (subst (λ (w : ℕ). Gets bytes at end 3 (Value w (at + 2) w)) (sym q) (Gets.a_count h))
-
-  pub get_byte : {v k : ℕ} → 4 ≤ code → at < end → v ≡ get_or bytes at 0 → v < limit code → k ≡ told_by code v → Gets bytes at end code (Value v (at + 1) k)
-  get_byte {v} {k} h l e i q =
-      let b : get_or bytes at 0 < limit code = omega (arith, e) in
-      subst (λ (j : ℕ). Gets bytes at end code (Value v (at + 1) j)) (sym q)
-      (subst (λ (w : ℕ). Gets bytes at end code (Value w (at + 1) (told_by code w))) (sym e) (Gets.a_byte h l b))
-
-  pub got_is : {r g : Got} → r ≡ g → Gets bytes at end code r → Gets bytes at end code g
-  got_is e x = subst (λ (g : Got). Gets bytes at end code g) e x
-
-pub kids_is : {r : Got} {v next k : ℕ} → r ≡ Value v next k → kids r ≤ 65535 → k ≤ 65535
-kids_is e h = subst (λ (g : Got). kids g ≤ 65535) e h
+pub get_byte : {bytes : List ℕ} {at end code v k : ℕ} → 4 ≤ code → at < end → v ≡ get_or bytes at 0 → v < limit code → k ≡ told_by code v → Gets bytes at end code v (at + 1) k
+get_byte {bytes} {at} {end} {code} {v} {k} h l e i q =
+    let b : get_or bytes at 0 < limit code = omega (arith, e) in
+    subst (λ (j : ℕ). Gets bytes at end code v (at + 1) j) (sym q)
+    (subst (λ (w : ℕ). Gets bytes at end code w (at + 1) (told_by code w)) (sym e) (Gets.a_byte h l b))
 
 -- ── Where a record ends ───────────────────────────────────────────────────────────────────────────
 
-pub ends_at : {bytes : List ℕ} {at n : ℕ} → n ≡ two_at bytes (at + 1) → at + 3 + n ≤ length bytes → Extends bytes at (End (at + 3 + n))
-ends_at {bytes} {at} {n} e h = subst (λ (m : ℕ). Extends bytes at (End (at + 3 + m))) (sym e) (Extends.end (omega arith))
+pub ends_at : {bytes : List ℕ} {at n : ℕ} → n ≡ two_at bytes (at + 1) → at + 3 + n ≤ length bytes → Extends bytes at (Some (at + 3 + n))
+ends_at {bytes} {at} {n} e h = subst (λ (m : ℕ). Extends bytes at (Some (at + 3 + m))) (sym e) (Extends.end (omega arith))
 
 pub part_length : (bytes : List ℕ) (size end : ℕ) → size ≤ end → end ≤ length bytes → length (tail_part size end bytes) ≡ size
 part_length bytes size end h l =
@@ -250,8 +332,3 @@ empty_says {w} {text} n e l = by (eqb n 0) refl
 
 pub none_says : {w : List ℕ} {text : ℕ} → (text ≤ 4 → ⊥) → Says (Worded text w) false
 none_says n = Says.fails (λ x. n (worded_kind x))
-
--- ── Refusals ──────────────────────────────────────────────────────────────────────────────────────
-
-pub ends_as : {s t : Step} {at : ℕ} {a : Answer} → s ≡ t → Ends t at a → Ends s at a
-ends_as {at = at} {a} e x = subst (λ (s : Step). Ends s at a) (sym e) x

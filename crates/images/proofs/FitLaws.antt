@@ -14,8 +14,7 @@ use Rattle.grammar.specs.Records.{Sort, Is, Fits, times}
 use Rattle.grammar.specs.Records as records
 use Rattle.grammar.proofs.Chosen.{and_left, and_right}
 use Rattle.grammar.proofs.Sorts.{fits_append, fits-length, times-length}
-use Rattle.images.specs.declared.asks.Question.{Question}
-use Rattle.images.specs.Inner.{Entry, ◌is◌, look, code, sort_of, sorts, wides, wide_code, is_a, COMP, Each, OneField, Group, Fit}
+use Rattle.images.specs.Inner.{Question, Entry, ◌is◌, look, code, sort_of, sorts, wides, wide_code, is_a, COMP, Each, OneField, Group, Fit}
 use Rattle.images.proofs.FormLaws.{numbered, sort_at, groups, Wanted}
 use Rattle.images.proofs.RowLaws.{fits_as, back, back_append, back_onto, back_back, take_back, drop_back}
 

@@ -12,8 +12,7 @@ use Rattle.grammar.specs.Trees.{Field, byte, number, span, text}
 use Rattle.grammar.specs.Records.{Sort, times, Spans, Has, First, Part, Rest, Name, Method, Form}
 use Rattle.grammar.specs.Records as records
 use Rattle.grammar.specs.Layout.{bits_in}
-use Rattle.images.specs.declared.asks.Question.{Question}
-use Rattle.images.specs.Inner.{span_value, unless, slice_fine, method_fine, pick, count_by, sort_by, text_by, fine_by, fines, Entry, ◌is◌, look, row_of, rows, asks, sort_of, sorts, Worded, COMP}
+use Rattle.images.specs.Inner.{Question, span_value, unless, slice_fine, method_fine, pick, count_by, sort_by, text_by, fine_by, fines, Entry, ◌is◌, look, row_of, rows, asks, sort_of, sorts, Worded, COMP}
 use Rattle.images.proofs.PartLaws.{value}
 
 -- The values of fields, in six numbers.

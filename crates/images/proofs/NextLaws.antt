@@ -3,11 +3,11 @@
 use mathlib.Core.Path.{◌≡◌, refl, sym, ap, subst, ◌∙◌}
 use mathlib.Core.Bool.{Bool, true, false, cond}
 use mathlib.Core.List.{List, [], ◌∷◌, ◌++◌}
-use Prim.Native.Nat.{ℕ, suc, ◌+◌, ◌-◌, ◌*◌, ◌≤◌, ◌<◌}
+use Prim.Native.Nat.{ℕ, ◌+◌, ◌-◌, ◌*◌, ◌≤◌, ◌<◌}
 use native.Mathlib.Nat.{min-le_left}
 use native.Mathlib.Omega.{arith}
 use lib.Dec.{eqb}
-use lib.ListN.{length, drop, get_or, length-take, replicate, length-append, length-replicate}
+use lib.ListN.{length, drop, get_or, length-take, length-drop, replicate, length-append, length-replicate}
 use Rattle.grammar.specs.Trees.{Field, Trees, tree, ◌⊕◌, count}
 use Rattle.grammar.specs.Image.{entry, image}
 use Rattle.grammar.specs.Tags.{INFIX}
@@ -15,16 +15,18 @@ use Rattle.grammar.specs.Layout.{Part, Layout, layout, unknown, layout_of, codes
 use Rattle.grammar.specs.Trees as trees
 use Rattle.grammar.proofs.ImageLaws.{count-row, image-length}
 use Rattle.images.specs.declared.parts.Parts.{Parts}
-use Rattle.images.specs.declared.roots.Roots.{Roots}
-use Rattle.images.specs.declared.roots.Roots.TheVariants.{From, Other}
-use Rattle.images.specs.declared.records.Extent.{Extent}
-use Rattle.images.specs.declared.records.Extent.TheVariants.{End}
-use Rattle.images.specs.declared.records.Step.TheVariants.{Next, Missing, Underived}
+use Rattle.images.specs.declared.records.Age.{Age}
+use Rattle.images.specs.declared.records.Next.{Next}
+use Rattle.images.specs.declared.records.Wrong.{Wrong}
+use Rattle.images.specs.declared.records.Wrong.TheVariants.{Missing, Underived}
+use Rattle.std.proofs.Common.{Option, None, Some, Result, Ok, Err}
+use Rattle.std.specs.Result.{IsErrAnd}
+use Rattle.std.specs.Option.{ok_or}
+use Rattle.images.proofs.PartWalk.{codes-length}
 use Rattle.images.specs.Images.{Stands, More, dated}
 use Rattle.images.specs.Images as images
-use Rattle.images.specs.Inner.{two_at, Takes, Fails, Walks, Extends, dates, dated_row, asks, pops, beyond, Chain, Checks, Checked, Dating, State, Stepped, roots}
+use Rattle.images.specs.Inner.{two_at, Takes, Fails, Walks, Extends, age_code, dates, dated_row, asks, pops, beyond, Chain, Checks, Checked, Dating, State, Stepped, roots}
 use Rattle.images.proofs.FormLaws.{values, words_of}
-use Rattle.images.proofs.RootLaws.{no_true}
 use Rattle.images.proofs.RowLaws.{tags, tags_count, roots_back, back_length, row_less}
 use Rattle.images.proofs.StepLaws.{age_of, row_age}
 use Rattle.images.proofs.EntryLaws.{Known, known as known-layout, entry_there}
@@ -37,21 +39,22 @@ use Rattle.images.proofs.RecordLaws.{LayoutIs, fs, is_here, stands, taken, over_
 pub roots-length : (ts : Trees) → length (roots ts []) ≡ count ts
 roots-length ts = ap length (roots_back ts []) ∙ (let l = back_length (tags ts) [] in omega (arith, l, tags_count ts))
 
-pub walks_row : {bytes : List ℕ} {from end : ℕ} {row other : List ℕ} {p : Parts} → row ≡ other → Walks bytes from end (drop 1 row) p → Walks bytes from end (drop 1 other) p
-walks_row {bytes} {from} {end} {p = p} e w = subst (λ (r : List ℕ). Walks bytes from end (drop 1 r) p) e w
+pub walks_row : {bytes : List ℕ} {from end : ℕ} {row other : List ℕ} {p : Option Parts} → row ≡ other → Walks bytes from end row p → Walks bytes from end other p
+walks_row {bytes} {from} {end} {p = p} e w = subst (λ (r : List ℕ). Walks bytes from end r p) e w
 
-pub walks_bad : {bytes : List ℕ} {from end : ℕ} {codes : List ℕ} {p : Parts} → Walks bytes from end codes p → p.good ≡ false → Fails bytes end from codes
-walks_bad (Walks.good g t c v) e = absurd (no_true g e)
-walks_bad (Walks.bad g f) e = f
+pub walks_bad : {bytes : List ℕ} {from end : ℕ} {codes : List ℕ} → Walks bytes from end codes None → Fails bytes end from codes
+walks_bad (Walks.bad f) = f
 
 pub record Walk (bytes : List ℕ) (from end : ℕ) (codes : List ℕ) (p : Parts) : Type 0 where
   pub vs : List ℕ
   pub takes : Takes bytes end from codes vs p.children
   pub values : p.values ≡ six vs
 
-pub walks_good : {bytes : List ℕ} {from end : ℕ} {codes : List ℕ} {p : Parts} → Walks bytes from end codes p → p.good ≡ true → Walk bytes from end codes p
-walks_good {bytes} {from} {end} {codes} (Walks.good {vs = vs} g t c v) e = record { vs = vs; takes = subst (λ (n : ℕ). Takes bytes end from codes vs n) (sym c) t; values = v }
-walks_good (Walks.bad g f) e = absurd (no_true e g)
+pub walks_good : {bytes : List ℕ} {from end : ℕ} {codes : List ℕ} {p : Parts} → Walks bytes from end codes (Some p) → Walk bytes from end codes p
+walks_good {bytes} {from} {end} {codes} (Walks.good {vs = vs} t c v) = record { vs = vs; takes = subst (λ (n : ℕ). Takes bytes end from codes vs n) (sym c) t; values = v }
+
+abbrev pub next : ℕ → ℕ → ℕ → Option Age → Result Next Wrong
+next end first standing age = Ok (record { end = end; first = first; standing = standing; age = age })
 
 module _ {bytes array : List ℕ} {at n standing age : ℕ} (small : (i : ℕ) → get_or bytes i 0 < 256) (inside : at < length bytes) (s : State bytes array at n standing age)
     {end : ℕ} (is_end : end ≡ at + 3 + two_at bytes (at + 1)) (within : end ≤ length bytes) (known : layout_of (get_or bytes at 0) ≡ unknown → ⊥) (k : LayoutIs (get_or bytes at 0))
@@ -59,14 +62,14 @@ module _ {bytes array : List ℕ} {at n standing age : ℕ} (small : (i : ℕ) �
   pub here : Here bytes at end (get_or bytes at 0) (age_of (dates (get_or bytes at 0) (end - at - 3) age)) vs m
   here = is_here small inside s is_end within k t
 
-  pub is_missing : standing < here.own + m → Stepped bytes array at s.ts Missing
+  pub is_missing : standing < here.own + m → Stepped bytes array at s.ts (Err Missing)
   is_missing h = Stepped.missing (stands small inside s is_end within k here) (omega (arith, s.opened))
 
   -- the checks fail
   same_tag : (x : More s.ts (drop at bytes)) → x.tag ≡ get_or bytes at 0
   same_tag x = (entry_there bytes at x.tag x.fields x.after (omega arith) x.here).tagged
 
-  pub is_underived : here.own + m ≤ standing → (Checks bytes (get_or bytes at 0) end (six vs) (roots s.ts []) → ⊥) → Stepped bytes array at s.ts Underived
+  pub is_underived : here.own + m ≤ standing → (Checks bytes (get_or bytes at 0) end (six vs) (roots s.ts []) → ⊥) → Stepped bytes array at s.ts (Err Underived)
   is_underived h never = Stepped.underived (stands small inside s is_end within k here) (omega (arith, s.opened)) (λ x. never (by x.tag (same_tag x) x refl))
     where
       by : (g : ℕ) → g ≡ get_or bytes at 0 → (x : More s.ts (drop at bytes)) → x.tag ≡ g → Checks bytes (get_or bytes at 0) end (six vs) (roots s.ts [])
@@ -80,8 +83,8 @@ module _ {bytes array : List ℕ} {at n standing age : ℕ} (small : (i : ℕ) �
   pub is_next : {first : ℕ} → here.own + m ≤ standing → Checks bytes (get_or bytes at 0) end (six vs) (roots s.ts [])
       → Chain bytes array first (beyond (asks (get_or bytes at 0) (six vs)) (roots s.ts []))
       → first ≡ pops array n ((asks (get_or bytes at 0) (six vs)).n3 + ((asks (get_or bytes at 0) (six vs)).n2 + (asks (get_or bytes at 0) (six vs)).n1))
-      → Stepped bytes array at s.ts (Next end first (standing - (here.own + m) + 1) (dates (get_or bytes at 0) (end - at - 3) age))
-  is_next {first} h c ch lands =
+      → {kind : Option Age} → age_code kind ≡ dates (get_or bytes at 0) (end - at - 3) age → Stepped bytes array at s.ts (next end first (standing - (here.own + m) + 1) kind)
+  is_next {first} h c ch lands {kind} kept =
       let tag = get_or bytes at 0 in
       let v = sym here.valued in
       let c' = subst (λ (w : List ℕ). Checks bytes tag end w (roots s.ts [])) v c in
@@ -94,37 +97,56 @@ module _ {bytes array : List ℕ} {at n standing age : ℕ} (small : (i : ℕ) �
       let f : first ≡ images.records x.us =
       l' ∙ ap (pops array n) sum ∙ ap (λ (i : ℕ). pops array i (count x.children)) (s.number ∙ ap images.records x.whole) ∙ pops-row (count x.children) array s.rest x.us x.children refl stored in
       let cr = ap count x.whole ∙ count-row x.us x.children in
-      Stepped.next {standing = standing - (here.own + m) + 1} tag here.fields x.us x.children x.whole here.there here.ends f (omega (arith, s.opened, cr, x.many))
+      Stepped.next {x = record { end = end; first = first; standing = standing - (here.own + m) + 1; age = kind }} tag here.fields x.us x.children x.whole here.there here.ends f (omega (arith, s.opened, cr, x.many))
+      (subst (λ (k : ℕ). Dating (x.us ⊕ tree tag here.fields x.children) k) (sym kept)
       (dating_more x.us x.children tag here.fields (end - at - 3) (subst (λ (u : Trees). Dating u age) x.whole s.dating)
-      (subst (λ (u : Trees). images.Row (age_of (dates tag (end - at - 3) age)) u) x.whole (row_age tag (end - at - 3) s.dating)) x.over)
+      (subst (λ (u : Trees). images.Row (age_of (dates tag (end - at - 3) age)) u) x.whole (row_age tag (end - at - 3) s.dating)) x.over))
       (subst (λ (w : List ℕ). Chain bytes array first w) x.beyond ch')
 
 -- ── What the functions of `record` say ────────────────────────────────────────────────────────────
 
-pub ext_as : {bytes : List ℕ} {at : ℕ} {r q : Extent} → r ≡ q → Extends bytes at r → Extends bytes at q
-ext_as {bytes} {at} e x = subst (λ (r : Extent). Extends bytes at r) e x
-
-pub ext_end : {bytes : List ℕ} {at e : ℕ} → Extends bytes at (End e) → (e ≡ at + 3 + two_at bytes (at + 1)) × (e ≤ length bytes)
+pub ext_end : {bytes : List ℕ} {at e : ℕ} → Extends bytes at (Some e) → (e ≡ at + 3 + two_at bytes (at + 1)) × (e ≤ length bytes)
 ext_end (Extends.end h) = (refl, h)
-
-codes-length : (ps : List Part) → length (codes ps) ≡ length ps
-unfolding codes
-codes-length [] = refl
-codes-length (p ∷ ps) = ap suc (codes-length ps)
 
 seven_numbers : (l : Layout) → Known l → length (numbers l) ≡ 7
 unfolding numbers
 seven_numbers unknown k = refl
 seven_numbers (layout own ps) (Known.some h p q) = omega (arith, length-append (codes ps) (replicate (6 - length ps) 0), codes-length ps, length-replicate {A = ℕ} (6 - length ps) 0)
 
-pub seven : (tag kind : ℕ) {row : List ℕ} → row ≡ dated_row tag kind → length row ≡ 7
+pub six_numbers : (tag kind : ℕ) → length (drop 1 (dated_row tag kind)) ≡ 6
 unfolding dated_row
-seven tag kind e = ap length e ∙ by (eqb tag INFIX) (eqb kind 1)
+six_numbers tag kind = by (eqb tag INFIX) (eqb kind 1)
   where
-    by : (b c : Bool) → length (cond b (cond c (2 ∷ 28 ∷ replicate 5 0) (numbers (layout_of tag))) (numbers (layout_of tag))) ≡ 7
+    less_one : (l : List ℕ) → length l ≡ 7 → length (drop 1 l) ≡ 6
+    less_one l e = omega (arith, e, length-drop 1 l)
+
+    by : (b c : Bool) → length (drop 1 (cond b (cond c (2 ∷ 28 ∷ replicate 5 0) (numbers (layout_of tag))) (numbers (layout_of tag)))) ≡ 6
     by true true = refl
-    by true false = seven_numbers (layout_of tag) (known-layout tag)
-    by false c = seven_numbers (layout_of tag) (known-layout tag)
+    by true false = less_one (numbers (layout_of tag)) (seven_numbers (layout_of tag) (known-layout tag))
+    by false c = less_one (numbers (layout_of tag)) (seven_numbers (layout_of tag) (known-layout tag))
+
+-- A tag's row, by its layout.
+pub row_known : (tag : ℕ) {own : ℕ} {ps : List Part} → layout own ps ≡ layout_of tag → layout_of tag ≡ unknown → ⊥
+row_known tag q e = let z = q ∙ e in cc
+
+pub row_few : (tag : ℕ) {own : ℕ} {ps : List Part} → layout own ps ≡ layout_of tag → own ≤ 2
+row_few tag {own} {ps} q = by own ps (subst Known (sym q) (known-layout tag))
+  where
+    by : (own : ℕ) (ps : List Part) → Known (layout own ps) → own ≤ 2
+    by own ps (Known.some h p q) = h
+
+pub row_own : (tag : ℕ) {own : ℕ} {ps : List Part} (n : ℕ) → layout own ps ≡ layout_of tag → own + n ≡ get_or (numbers (layout_of tag)) 0 0 + n
+unfolding numbers
+row_own tag n q = ap (λ (l : Layout). get_or (numbers l) 0 0 + n) q
+
+-- The way out of a `?` behind `ok_or`.
+pub refused_as : {A : Type 0} (o : Option A) {r : Result Next Wrong} {e w : Wrong} → IsErrAnd r (λ x. x ≡ e) → ◌≡◌ {A = Result A Wrong} (Err e) (ok_or o w) → r ≡ Err w
+refused_as {A} o {r} {e} {w} h q = by o r q h
+  where
+    by : (o : Option A) (r : Result Next Wrong) → ◌≡◌ {A = Result A Wrong} (Err e) (ok_or o w) → IsErrAnd r (λ x. x ≡ e) → r ≡ Err w
+    by (Some x) r q h = cc
+    by None (Ok x) q h = absurd h
+    by None (Err x) q h = let z : e ≡ w = cc in ap Err (h ∙ z)
 
 -- All that is known of a record once its parts are taken.
 pub record Ready (bytes : List ℕ) (at age end : ℕ) (p : Parts) : Type 0 where
@@ -143,16 +165,16 @@ module _ {bytes array : List ℕ} {at n standing age end : ℕ} {p : Parts} (r :
   pub told_children : get_or (numbers (layout_of (get_or bytes at 0))) 0 0 + p.children ≡ record_here.own + p.children
   told_children = ap (λ (i : ℕ). i + p.children) record_here.first
 
-  pub ready_missing : {k : ℕ} → k ≡ get_or (numbers (layout_of (get_or bytes at 0))) 0 0 + p.children → standing < k → Stepped bytes array at s.ts Missing
+  pub ready_missing : {k : ℕ} → k ≡ get_or (numbers (layout_of (get_or bytes at 0))) 0 0 + p.children → standing < k → Stepped bytes array at s.ts (Err Missing)
   ready_missing e h = is_missing r.small r.inside s r.is_end r.within r.known r.layout r.walk.takes (omega (arith, told_children))
 
   pub ready_underived : {k : ℕ} → k ≡ get_or (numbers (layout_of (get_or bytes at 0))) 0 0 + p.children → k ≤ standing
-      → Checked bytes array (get_or bytes at 0) end p.values (roots s.ts []) Other → Stepped bytes array at s.ts Underived
+      → Checked bytes array (get_or bytes at 0) end p.values (roots s.ts []) None → Stepped bytes array at s.ts (Err Underived)
   ready_underived e h c =
       is_underived r.small r.inside s r.is_end r.within r.known r.layout r.walk.takes (omega (arith, told_children))
       (λ x. no_checks c (subst (λ (w : List ℕ). Checks bytes (get_or bytes at 0) end w (roots s.ts [])) (sym r.walk.values) x))
     where
-      no_checks : {v tags : List ℕ} → Checked bytes array (get_or bytes at 0) end v tags Other → Checks bytes (get_or bytes at 0) end v tags → ⊥
+      no_checks : {v tags : List ℕ} → Checked bytes array (get_or bytes at 0) end v tags None → Checks bytes (get_or bytes at 0) end v tags → ⊥
       no_checks (Checked.other f) = f
 
   -- what number 16 looks at is there: as many roots as are asked for, and the text
@@ -165,17 +187,17 @@ module _ {bytes array : List ℕ} {at n standing age end : ℕ} {p : Parts} (r :
       ∙ x.0 (sym (ap (λ (w : List ℕ). (asks (get_or bytes at 0) w).fine) v) ∙ f) ∙ sym told_children
 
   pub ready_next : {k first : ℕ} → k ≡ get_or (numbers (layout_of (get_or bytes at 0))) 0 0 + p.children → k ≤ standing
-      → Checked bytes array (get_or bytes at 0) end p.values (roots s.ts []) (From first)
+      → Checked bytes array (get_or bytes at 0) end p.values (roots s.ts []) (Some first)
       → first ≡ pops array n ((asks (get_or bytes at 0) p.values).n3 + ((asks (get_or bytes at 0) p.values).n2 + (asks (get_or bytes at 0) p.values).n1))
-      → Stepped bytes array at s.ts (Next end first (standing - k + 1) (dates (get_or bytes at 0) (end - at - 3) age))
-  ready_next {k} {first} e h (Checked.from c ch) l =
+      → {kind : Option Age} → age_code kind ≡ dates (get_or bytes at 0) (end - at - 3) age → Stepped bytes array at s.ts (next end first (standing - k + 1) kind)
+  ready_next {k} {first} e h (Checked.from c ch) l {kind} kept =
       let w = r.walk.values in
       let q : standing - (record_here.own + p.children) + 1 ≡ standing - k + 1 = omega (arith, told_children, e) in
-      subst (λ (i : ℕ). Stepped bytes array at s.ts (Next end first i (dates (get_or bytes at 0) (end - at - 3) age))) q
+      subst (λ (i : ℕ). Stepped bytes array at s.ts (next end first i kind)) q
       (is_next r.small r.inside s r.is_end r.within r.known r.layout r.walk.takes (omega (arith, told_children, e))
       (subst (λ (v : List ℕ). Checks bytes (get_or bytes at 0) end v (roots s.ts [])) w c)
       (subst (λ (v : List ℕ). Chain bytes array first (beyond (asks (get_or bytes at 0) v) (roots s.ts []))) w ch)
-      (subst (λ (v : List ℕ). first ≡ pops array n ((asks (get_or bytes at 0) v).n3 + ((asks (get_or bytes at 0) v).n2 + (asks (get_or bytes at 0) v).n1))) w l))
+      (subst (λ (v : List ℕ). first ≡ pops array n ((asks (get_or bytes at 0) v).n3 + ((asks (get_or bytes at 0) v).n2 + (asks (get_or bytes at 0) v).n1))) w l) kept)
 
   pub ready_size : (asks (get_or bytes at 0) p.values).size ≤ end
   ready_size =
@@ -186,14 +208,8 @@ module _ {bytes array : List ℕ} {at n standing age end : ℕ} {p : Parts} (r :
       let l = length-take (end - (end - n)) (drop (end - n) bytes) in
       omega (arith, ap (λ (w : List ℕ). (asks (get_or bytes at 0) w).size) v, x.1, ap length record_here.words, l, min-le_left (end - (end - n)) (length (drop (end - n) bytes)))
 
-pub checked_as : {bytes array : List ℕ} {tag end : ℕ} {values tags : List ℕ} {r q : Roots} → r ≡ q → Checked bytes array tag end values tags r → Checked bytes array tag end values tags q
-checked_as {bytes} {array} {tag} {end} {values} {tags} e x = subst (λ (r : Roots). Checked bytes array tag end values tags r) e x
-
 -- A row has no more trees than a third of its bytes.
 pub count-image : (ts : Trees) → count ts * 3 ≤ length (image ts)
 unfolding count
 count-image trees.none = omega arith
 count-image (trees.node tag fields children ts) = omega (arith, image-length tag fields children ts, count-image ts)
-
-pub next_as : {bytes array : List ℕ} {at end first standing kind other : ℕ} {ts : Trees} → other ≡ kind → Stepped bytes array at ts (Next end first standing kind) → Stepped bytes array at ts (Next end first standing other)
-next_as {bytes} {array} {at} {end} {first} {standing} {ts = ts} e x = subst (λ (k : ℕ). Stepped bytes array at ts (Next end first standing k)) (sym e) x

@@ -12,8 +12,7 @@ use lib.Seq.{slice, slice_empty, slice-cons, length-slice}
 use Rattle.grammar.specs.Trees.{Field, byte, number, span, text}
 use Rattle.grammar.specs.Image.{two, payload}
 use Rattle.grammar.specs.Layout.{Part, place, words, count, has, bits, below, bits_in, Laid, over, a_span, a_text, a_count, a_flag, a_slice, a_byte, code, codes}
-use Rattle.images.specs.declared.parts.Got.TheVariants.{Value, Wrong}
-use Rattle.images.specs.Inner.{two_at, span_value, limit, told_by, Gets, Takes, Fails}
+use Rattle.images.specs.Inner.{two_at, span_value, limit, told_by, Gets, Lacks, Takes, Fails}
 use Rattle.images.proofs.CodeLaws.{limit_other, told_other}
 
 -- A field in one number.
@@ -186,7 +185,7 @@ module _ (bytes : List ℕ) (end : ℕ) (within : end ≤ length bytes) where
         let q : at + 1 + 1 ≡ at + 2 = omega arith in
         (omega (arith, y.0), two_is n (get_or bytes at 0) (get_or bytes (at + 1) 0) x.1 y.1, y.2 ∙ ap (λ (i : ℕ). slice i end bytes) q)
 
-    more_as : {at v w next onto k n m c : ℕ} {cs vs : List ℕ} → (c ≡ 0 → ⊥) → Gets bytes at end c (Value v next k) → next ≡ onto → v ≡ w → k + n ≡ m → Takes bytes end onto cs vs n
+    more_as : {at v w next onto k n m c : ℕ} {cs vs : List ℕ} → (c ≡ 0 → ⊥) → Gets bytes at end c v next k → next ≡ onto → v ≡ w → k + n ≡ m → Takes bytes end onto cs vs n
         → Takes bytes end at (c ∷ cs) (w ∷ vs) m
     more_as {at} {v} {w} {next} {onto} {k} {n} {m} {c} {cs} {vs} z g e f h t =
         subst (λ (i : ℕ). Takes bytes end at (c ∷ cs) (i ∷ vs) m) f
@@ -224,21 +223,21 @@ module _ (bytes : List ℕ) (end : ℕ) (within : end ≤ length bytes) where
 
 -- ── Never both ────────────────────────────────────────────────────────────────────────────────────
 
-gets_not : {bytes : List ℕ} {at end c v next k : ℕ} → Gets bytes at end c (Value v next k) → Gets bytes at end c Wrong → ⊥
-gets_not (Gets.a_span h) (Gets.no_span g) = omega arith
-gets_not (Gets.a_span h) (Gets.no_byte f g) = omega arith
-gets_not (Gets.a_span h) (Gets.bad_byte f g i) = omega arith
-gets_not Gets.a_text (Gets.no_byte f g) = omega arith
-gets_not Gets.a_text (Gets.bad_byte f g i) = omega arith
-gets_not (Gets.a_count h) (Gets.no_count g) = omega arith
-gets_not (Gets.a_count h) (Gets.no_byte f g) = omega arith
-gets_not (Gets.a_count h) (Gets.bad_byte f g i) = omega arith
-gets_not (Gets.a_byte h i j) (Gets.no_span g) = omega arith
-gets_not (Gets.a_byte h i j) (Gets.no_count g) = omega arith
-gets_not (Gets.a_byte h i j) (Gets.no_byte f g) = omega arith
-gets_not (Gets.a_byte h i j) (Gets.bad_byte f g l) = omega arith
+gets_not : {bytes : List ℕ} {at end c v next k : ℕ} → Gets bytes at end c v next k → Lacks bytes at end c → ⊥
+gets_not (Gets.a_span h) (Lacks.no_span g) = omega arith
+gets_not (Gets.a_span h) (Lacks.no_byte f g) = omega arith
+gets_not (Gets.a_span h) (Lacks.bad_byte f g i) = omega arith
+gets_not Gets.a_text (Lacks.no_byte f g) = omega arith
+gets_not Gets.a_text (Lacks.bad_byte f g i) = omega arith
+gets_not (Gets.a_count h) (Lacks.no_count g) = omega arith
+gets_not (Gets.a_count h) (Lacks.no_byte f g) = omega arith
+gets_not (Gets.a_count h) (Lacks.bad_byte f g i) = omega arith
+gets_not (Gets.a_byte h i j) (Lacks.no_span g) = omega arith
+gets_not (Gets.a_byte h i j) (Lacks.no_count g) = omega arith
+gets_not (Gets.a_byte h i j) (Lacks.no_byte f g) = omega arith
+gets_not (Gets.a_byte h i j) (Lacks.bad_byte f g l) = omega arith
 
-pub gets_equal : {bytes : List ℕ} {at end c v w next onto k l : ℕ} → Gets bytes at end c (Value v next k) → Gets bytes at end c (Value w onto l) → (onto ≡ next) × (v ≡ w)
+pub gets_equal : {bytes : List ℕ} {at end c v w next onto k l : ℕ} → Gets bytes at end c v next k → Gets bytes at end c w onto l → (onto ≡ next) × (v ≡ w)
 gets_equal (Gets.a_span h) (Gets.a_span g) = (refl, refl)
 gets_equal (Gets.a_span h) (Gets.a_byte f g i) = absurd (omega arith)
 gets_equal Gets.a_text Gets.a_text = (refl, refl)

@@ -15,9 +15,8 @@ use Rattle.grammar.specs.Layout.{Part, Layout, layout, unknown, layout_of, Laid,
 use Rattle.grammar.specs.Records.{Fits}
 use Rattle.grammar.proofs.LayoutLaws.{form_laid}
 use Rattle.grammar.proofs.Spanned.{forwards}
-use Rattle.images.specs.declared.records.Extent.TheVariants.{Cut}
+use Rattle.std.proofs.Common.{None}
 use Rattle.images.specs.Images.{Age, old, new, dated, Row, Stands}
-use Rattle.images.specs.declared.parts.Got.TheVariants.{Value}
 use Rattle.images.specs.Inner.{two_at, tail_part, Gets, Takes, Fails, Extends, dates, dated_row, asks, forward, sort_of, Worded, Fit, Checks, State, roots}
 use Rattle.images.proofs.PartLaws.{proper, gets_equal, takes_fails}
 use Rattle.images.proofs.EntryLaws.{Known, known, Entry, entry_there}
@@ -66,13 +65,13 @@ module _ {bytes array : List ℕ} {at n standing age : ℕ} (small : (i : ℕ) �
   abbrev tag : ℕ
   tag = get_or bytes at 0
 
-  pub is_cut : Extends bytes at Cut → (k : ℕ) → Stands s.ts (drop at bytes) tag k → ⊥
+  pub is_cut : Extends bytes at None → (k : ℕ) → Stands s.ts (drop at bytes) tag k → ⊥
   is_cut x k st = by x
     where
       there : Entry bytes at tag st.fields st.after
       there = entry_there bytes at tag st.fields st.after (omega arith) st.here
 
-      by : Extends bytes at Cut → ⊥
+      by : Extends bytes at None → ⊥
       by (Extends.cut_header h) = omega (arith, there.within)
       by (Extends.cut_payload h g) = omega (arith, there.within, there.sized)
 
@@ -155,7 +154,7 @@ takes_alike Takes.over (Takes.more z g t) q = absurd (z refl)
 takes_alike Takes.last Takes.last q = refl
 takes_alike (Takes.more z g t) Takes.over q = absurd (z refl)
 takes_alike {bytes} {end} (Takes.more {v = v} {next = next} {k = k} {c = c} z g t) (Takes.more {vs = us} y f u) q =
-    let e = gets_equal (subst (λ (i : ℕ). Gets bytes i end c (Value v next k)) q g) f in
+    let e = gets_equal (subst (λ (i : ℕ). Gets bytes i end c v next k) q g) f in
     ap (λ (l : List ℕ). v ∷ l) (takes_alike t u (sym e.0)) ∙ ap (λ (i : ℕ). i ∷ us) e.1
 
 takes_same : {bytes : List ℕ} {end at n m : ℕ} {cs vs ws : List ℕ} → Takes bytes end at cs vs n → Takes bytes end at cs ws m → vs ≡ ws

@@ -7,10 +7,8 @@ use Prim.Native.Nat.{ℕ, zero, suc, ◌+◌, ◌-◌, ◌*◌, ◌≤◌, ◌<�
 use native.Mathlib.Omega.{arith}
 use lib.ListN.{length, take, drop, get_or, length-drop}
 use Rattle.grammar.specs.Tags.{FIELD}
-use Rattle.images.specs.declared.asks.Question.{Question}
-use Rattle.images.specs.declared.roots.Roots.{Roots}
-use Rattle.images.specs.declared.roots.Roots.TheVariants.{From, Other}
-use Rattle.images.specs.Inner.{is_a, sort_of, code, wide_code, COMP, Chain, pops, Lands, Each, OneField, Group, Walked, Fitted}
+use Rattle.std.proofs.Common.{Option, None, Some}
+use Rattle.images.specs.Inner.{Question, is_a, sort_of, code, wide_code, COMP, Chain, pops, Lands, Each, OneField, Group, Walked, Fitted}
 
 pub no_true : {b : Bool} → b ≡ true → b ≡ false → ⊥
 no_true {b} e f = by (sym e ∙ f)
@@ -42,18 +40,12 @@ unfolding pops
 pops_add array m zero l = let e : l ≡ 0 + l = omega arith in ap (pops array m) e
 pops_add array m (suc k) l = let e : suc (k + l) ≡ suc k + l = omega arith in pops_add array (get_or array ((m - 1) * 2 + 1) 0) k l ∙ ap (pops array m) e
 
-pub lands_as : {array : List ℕ} {from m k l : ℕ} {r : Roots} → pops array m l ≡ pops array from k → Lands array m l r → Lands array from k r
+pub lands_as : {array : List ℕ} {from m k l : ℕ} {r : Option ℕ} → pops array m l ≡ pops array from k → Lands array m l r → Lands array from k r
 lands_as e (Lands.at h) = Lands.at (h ∙ e)
 lands_as e Lands.nowhere = Lands.nowhere
 
-landed : {array : List ℕ} {from k m : ℕ} → Lands array from k (From m) → m ≡ pops array from k
-landed (Lands.at h) = h
-
-pub lands_from : {array : List ℕ} {from k m : ℕ} {r : Roots} → r ≡ From m → Lands array from k r → m ≡ pops array from k
-lands_from {array} {from} {k} e h = landed (subst (λ (q : Roots). Lands array from k q) e h)
-
-pub lands_other : {array : List ℕ} {from k : ℕ} {r : Roots} → r ≡ Other → Lands array from k r
-lands_other {array} {from} {k} e = subst (λ (q : Roots). Lands array from k q) (sym e) Lands.nowhere
+pub lands_at : {array : List ℕ} {from k m : ℕ} → Lands array from k (Some m) → m ≡ pops array from k
+lands_at (Lands.at h) = h
 
 module _ (bytes array : List ℕ) where
   -- The tag of a record by its number.
@@ -92,7 +84,7 @@ module _ (bytes array : List ℕ) where
     pub rest : List ℕ
     pub chain : Chain bytes array m rest
     pub enough : left ≤ length rest
-    pub back : (r : Roots) → Walked bytes array P left rest r → Walked bytes array P n tags r
+    pub back : (r : Option ℕ) → Walked bytes array P left rest r → Walked bytes array P n tags r
 
   module _ {P : List ℕ → Type 0} {n : ℕ} {tags : List ℕ} where
     pub starts : {from : ℕ} → Chain bytes array from tags → n ≤ length tags → Pending P n tags from n
@@ -103,7 +95,7 @@ module _ (bytes array : List ℕ) where
       last h = top x.chain (omega (arith, x.enough))
 
       -- the next root does not decide
-      pub goes_on : 0 < left → ((l : ℕ) (rest : List ℕ) (r : Roots) → Walked bytes array P l rest r → Walked bytes array P (suc l) (tag_at (m - 1) ∷ rest) r)
+      pub goes_on : 0 < left → ((l : ℕ) (rest : List ℕ) (r : Option ℕ) → Walked bytes array P l rest r → Walked bytes array P (suc l) (tag_at (m - 1) ∷ rest) r)
           → Pending P n tags (first_at (m - 1)) (left - 1)
       goes_on h f =
           let t = last h in
@@ -117,18 +109,18 @@ module _ (bytes array : List ℕ) where
           }
 
       -- it does
-      pub decides : 0 < left → (r : Roots) → ((t : Top m x.rest) → Walked bytes array P (suc (left - 1)) (tag_at (m - 1) ∷ t.rest) r) → Walked bytes array P n tags r
+      pub decides : 0 < left → (r : Option ℕ) → ((t : Top m x.rest) → Walked bytes array P (suc (left - 1)) (tag_at (m - 1) ∷ t.rest) r) → Walked bytes array P n tags r
       decides h r f =
           let t = last h in
           let e : suc (left - 1) ≡ left = omega arith in
           x.back r (subst (λ (k : ℕ). Walked bytes array P k x.rest r) e (subst (λ (ts : List ℕ). Walked bytes array P (suc (left - 1)) ts r) (sym t.here) (f t)))
 
       -- none is left
-      pub ends : left ≡ 0 → P [] → Walked bytes array P n tags (From m)
-      ends e p = x.back (From m) (subst (λ (k : ℕ). Walked bytes array P k x.rest (From m)) (sym e) (Walked.from p x.chain))
+      pub ends : left ≡ 0 → P [] → Walked bytes array P n tags (Some m)
+      ends e p = x.back (Some m) (subst (λ (k : ℕ). Walked bytes array P k x.rest (Some m)) (sym e) (Walked.from p x.chain))
 
-      pub ends_other : left ≡ 0 → (P [] → ⊥) → Walked bytes array P n tags Other
-      ends_other e p = x.back Other (subst (λ (k : ℕ). Walked bytes array P k x.rest Other) (sym e) (Walked.other p))
+      pub ends_other : left ≡ 0 → (P [] → ⊥) → Walked bytes array P n tags None
+      ends_other e p = x.back None (subst (λ (k : ℕ). Walked bytes array P k x.rest None) (sym e) (Walked.other p))
 
   -- ── Each of a sort ──────────────────────────────────────────────────────────────────────────────
 
@@ -138,12 +130,12 @@ module _ (bytes array : List ℕ) where
   each_head : {sort tag : ℕ} {tags : List ℕ} → Each sort (tag ∷ tags) → is_a tag sort ≡ true
   each_head (Each.more i e) = i
 
-  pub each_more : {sort tag : ℕ} → is_a tag sort ≡ true → (l : ℕ) (rest : List ℕ) (r : Roots) → Walked bytes array (Each sort) l rest r
+  pub each_more : {sort tag : ℕ} → is_a tag sort ≡ true → (l : ℕ) (rest : List ℕ) (r : Option ℕ) → Walked bytes array (Each sort) l rest r
       → Walked bytes array (Each sort) (suc l) (tag ∷ rest) r
   each_more i l rest r (Walked.from e c) = Walked.from (Each.more i e) c
   each_more i l rest r (Walked.other n) = Walked.other (λ e. n (each_tail e))
 
-  pub each_not : {sort tag : ℕ} {l : ℕ} {rest : List ℕ} → is_a tag sort ≡ false → Walked bytes array (Each sort) (suc l) (tag ∷ rest) Other
+  pub each_not : {sort tag : ℕ} {l : ℕ} {rest : List ℕ} → is_a tag sort ≡ false → Walked bytes array (Each sort) (suc l) (tag ∷ rest) None
   each_not i = Walked.other (λ e. no_true (each_head e) i)
 
   -- ── One field ───────────────────────────────────────────────────────────────────────────────────
@@ -159,7 +151,7 @@ module _ (bytes array : List ℕ) where
   is_field : {tag : ℕ} {tags : List ℕ} → tag ≡ FIELD → OneField (tag ∷ tags) → Each 6 tags
   is_field {tag} {tags} e o = field-first (subst (λ (t : ℕ). OneField (t ∷ tags)) e o)
 
-  pub field_then : {tag l : ℕ} {rest : List ℕ} {r : Roots} → tag ≡ FIELD → Walked bytes array (Each 6) l rest r → Walked bytes array OneField (suc l) (tag ∷ rest) r
+  pub field_then : {tag l : ℕ} {rest : List ℕ} {r : Option ℕ} → tag ≡ FIELD → Walked bytes array (Each 6) l rest r → Walked bytes array OneField (suc l) (tag ∷ rest) r
   field_then {tag} {l} {rest} e (Walked.from x c) = Walked.from (subst (λ (t : ℕ). OneField (t ∷ take l rest)) (sym e) (OneField.here x)) c
   field_then e (Walked.other n) = Walked.other (λ o. n (is_field e o))
 
@@ -167,22 +159,16 @@ module _ (bytes array : List ℕ) where
   not_field n (OneField.here e) = absurd (n refl)
   not_field n (OneField.before i o) = (i, o)
 
-  pub bind_more : {tag : ℕ} → (tag ≡ FIELD → ⊥) → is_a tag 6 ≡ true → (l : ℕ) (rest : List ℕ) (r : Roots) → Walked bytes array OneField l rest r
+  pub bind_more : {tag : ℕ} → (tag ≡ FIELD → ⊥) → is_a tag 6 ≡ true → (l : ℕ) (rest : List ℕ) (r : Option ℕ) → Walked bytes array OneField l rest r
       → Walked bytes array OneField (suc l) (tag ∷ rest) r
   bind_more n i l rest r (Walked.from o c) = Walked.from (OneField.before i o) c
   bind_more n i l rest r (Walked.other m) = Walked.other (λ o. m (not_field n o).1)
 
-  pub bind_not : {tag l : ℕ} {rest : List ℕ} → (tag ≡ FIELD → ⊥) → is_a tag 6 ≡ false → Walked bytes array OneField (suc l) (tag ∷ rest) Other
+  pub bind_not : {tag l : ℕ} {rest : List ℕ} → (tag ≡ FIELD → ⊥) → is_a tag 6 ≡ false → Walked bytes array OneField (suc l) (tag ∷ rest) None
   bind_not n i = Walked.other (λ o. no_true (not_field n o).0 i)
 
   pub rest_enough : {P : List ℕ → Type 0} {n m left : ℕ} {tags : List ℕ} (x : Pending P n tags m left) (t : Top m x.rest) → left - 1 ≤ length t.rest
   rest_enough x t = omega (arith, x.enough, ap length t.here)
-
-  pub walked_as : {P : List ℕ → Type 0} {n : ℕ} {tags : List ℕ} {r q : Roots} → r ≡ q → Walked bytes array P n tags r → Walked bytes array P n tags q
-  walked_as {P} {n} {tags} e w = subst (λ (r : Roots). Walked bytes array P n tags r) e w
-
-  pub fitted_as : {a : Question} {tags : List ℕ} {r q : Roots} → r ≡ q → Fitted bytes array a tags r → Fitted bytes array a tags q
-  fitted_as {a} {tags} e w = subst (λ (r : Roots). Fitted bytes array a tags r) e w
 
   -- ── Groups ──────────────────────────────────────────────────────────────────────────────────────
 
@@ -190,7 +176,7 @@ module _ (bytes array : List ℕ) where
   group_comp (Group.each n e) = absurd (n refl)
   group_comp (Group.comp o) = o
 
-  pub comp_group : {sort n : ℕ} {tags : List ℕ} {r : Roots} → sort ≡ COMP → Walked bytes array OneField n tags r → Walked bytes array (Group sort) n tags r
+  pub comp_group : {sort n : ℕ} {tags : List ℕ} {r : Option ℕ} → sort ≡ COMP → Walked bytes array OneField n tags r → Walked bytes array (Group sort) n tags r
   comp_group {sort} {n} {tags} e (Walked.from o c) = Walked.from (subst (λ (s : ℕ). Group s (take n tags)) (sym e) (Group.comp o)) c
   comp_group {sort} {n} {tags} e (Walked.other m) = Walked.other (λ g. m (group_comp (subst (λ (s : ℕ). Group s (take n tags)) e g)))
 
@@ -198,26 +184,26 @@ module _ (bytes array : List ℕ) where
   group_each m (Group.each n e) = e
   group_each m (Group.comp o) = absurd (m refl)
 
-  pub each_group : {sort n : ℕ} {tags : List ℕ} {r : Roots} → (sort ≡ COMP → ⊥) → Walked bytes array (Each sort) n tags r → Walked bytes array (Group sort) n tags r
+  pub each_group : {sort n : ℕ} {tags : List ℕ} {r : Option ℕ} → (sort ≡ COMP → ⊥) → Walked bytes array (Each sort) n tags r → Walked bytes array (Group sort) n tags r
   each_group m (Walked.from e c) = Walked.from (Group.each m e) c
   each_group m (Walked.other n) = Walked.other (λ g. n (group_each m g))
 
   -- ── Three groups ────────────────────────────────────────────────────────────────────────────────
 
-  pub from_of : {P : List ℕ → Type 0} {n m : ℕ} {tags : List ℕ} → Walked bytes array P n tags (From m) → P (take n tags) × Chain bytes array m (drop n tags)
+  pub from_of : {P : List ℕ → Type 0} {n m : ℕ} {tags : List ℕ} → Walked bytes array P n tags (Some m) → P (take n tags) × Chain bytes array m (drop n tags)
   from_of (Walked.from p c) = (p, c)
 
-  pub other_of : {P : List ℕ → Type 0} {n : ℕ} {tags : List ℕ} → Walked bytes array P n tags Other → P (take n tags) → ⊥
+  pub other_of : {P : List ℕ → Type 0} {n : ℕ} {tags : List ℕ} → Walked bytes array P n tags None → P (take n tags) → ⊥
   other_of (Walked.other n) = n
 
   module _ (a : Question) (tags : List ℕ) where
-    pub fit_third : Walked bytes array (Group a.s3) a.n3 tags Other → Fitted bytes array a tags Other
+    pub fit_third : Walked bytes array (Group a.s3) a.n3 tags None → Fitted bytes array a tags None
     fit_third w = Fitted.other (λ f. other_of w f.third)
 
-    pub fit_second : Walked bytes array (Group a.s2) a.n2 (drop a.n3 tags) Other → Fitted bytes array a tags Other
+    pub fit_second : Walked bytes array (Group a.s2) a.n2 (drop a.n3 tags) None → Fitted bytes array a tags None
     fit_second w = Fitted.other (λ f. other_of w f.second)
 
-    pub fit_first : {r : Roots} → Group a.s3 (take a.n3 tags) → Group a.s2 (take a.n2 (drop a.n3 tags))
+    pub fit_first : {r : Option ℕ} → Group a.s3 (take a.n3 tags) → Group a.s2 (take a.n2 (drop a.n3 tags))
         → Walked bytes array (Group a.s1) a.n1 (drop a.n2 (drop a.n3 tags)) r → Fitted bytes array a tags r
     fit_first g h (Walked.from p c) = Fitted.from (record { third = g; second = h; first = p }) c
     fit_first g h (Walked.other n) = Fitted.other (λ f. n f.first)

@@ -21,9 +21,9 @@ use Rattle.grammar.proofs.ImageLaws.{count-row, entry_length}
 use Rattle.grammar.proofs.LayoutLaws.{form_laid}
 use Rattle.grammar.proofs.Obeys.{obeys_length}
 use Rattle.grammar.proofs.Derived.{whole_exactly}
-use Rattle.images.specs.declared.Answer.{Answer}
-use Rattle.images.specs.declared.Answer.TheVariants.{Tree, Unknown, Malformed, Children, Underived, Short}
-use Rattle.images.specs.Images.{Age, dated, dated_trees, Accepted, Row, Before, Stands, More, Refused, records, links, ReadsBack}
+use Rattle.images.specs.declared.Fault.TheVariants.{Unknown, Malformed, Children, Underived}
+use Rattle.std.proofs.Common.{Ok, Err}
+use Rattle.images.specs.Images.{Answer, Age, dated, dated_trees, Accepted, Row, Before, Stands, More, Refused, records, links, ReadsBack}
 use Rattle.images.proofs.EntryLaws.{entry_there}
 use Rattle.images.proofs.RowLaws.{records-row, image_more, row_less}
 use Rattle.images.proofs.Determined.{stands_once, more_stands, more_once, grown, dated_once}
@@ -176,15 +176,15 @@ dated_same g h (trees.node tag fields children ts) (Obeys.node f fits o p) (Obey
 
 -- The answer, by the row at the end of the walk and what is left.
 data Said (bytes : List ℕ) : Trees → List ℕ → Answer → Type 0 where
-  unknown : {ts : Trees} {tag : ℕ} {rest : List ℕ} → layout_of tag ≡ Layout.unknown → Said bytes ts (tag ∷ rest) (Unknown (length (image ts)))
+  unknown : {ts : Trees} {tag : ℕ} {rest : List ℕ} → layout_of tag ≡ Layout.unknown → Said bytes ts (tag ∷ rest) (Err (Unknown (length (image ts))))
   malformed : {ts : Trees} {tag : ℕ} {rest : List ℕ} → (layout_of tag ≡ Layout.unknown → ⊥) → ((n : ℕ) → Stands ts (tag ∷ rest) tag n → ⊥)
-      → Said bytes ts (tag ∷ rest) (Malformed (length (image ts)))
-  missing : {ts : Trees} {first : ℕ} {rest : List ℕ} {tag n : ℕ} → Stands ts (first ∷ rest) tag n → count ts < n → Said bytes ts (first ∷ rest) (Children (length (image ts)))
-  underived : {ts : Trees} {first : ℕ} {rest : List ℕ} {tag n : ℕ} → Stands ts (first ∷ rest) tag n → n ≤ count ts → Said bytes ts (first ∷ rest) (Underived (length (image ts)))
-  left_over : {ts : Trees} → (count ts ≡ 1 → ⊥) → Said bytes ts [] (Children (length bytes))
+      → Said bytes ts (tag ∷ rest) (Err (Malformed (length (image ts))))
+  missing : {ts : Trees} {first : ℕ} {rest : List ℕ} {tag n : ℕ} → Stands ts (first ∷ rest) tag n → count ts < n → Said bytes ts (first ∷ rest) (Err (Children (length (image ts))))
+  underived : {ts : Trees} {first : ℕ} {rest : List ℕ} {tag n : ℕ} → Stands ts (first ∷ rest) tag n → n ≤ count ts → Said bytes ts (first ∷ rest) (Err (Underived (length (image ts))))
+  left_over : {ts : Trees} → (count ts ≡ 1 → ⊥) → Said bytes ts [] (Err (Children (length bytes)))
   lone_root : {tag : ℕ} {fields : List Field} {children : Trees} {age : Age} → Row age (tree tag fields children)
-      → (Derived (prefix_power 7) 7 (dated_trees age (tree tag fields children)) → ⊥) → Said bytes (tree tag fields children) [] (Underived (length (image children)))
-  accepted : {t : Trees} {age : Age} → Row age t → Derived (prefix_power 7) 7 (dated_trees age t) → count t ≡ 1 → Said bytes t [] (Tree (records t))
+      → (Derived (prefix_power 7) 7 (dated_trees age (tree tag fields children)) → ⊥) → Said bytes (tree tag fields children) [] (Err (Underived (length (image children))))
+  accepted : {t : Trees} {age : Age} → Row age t → Derived (prefix_power 7) 7 (dated_trees age t) → count t ≡ 1 → Said bytes t [] (Ok (records t))
 
 derived_as : {g h : Age} {t : Trees} → Row g t → Row h t → Derived (prefix_power 7) 7 (dated_trees g t) → Derived (prefix_power 7) 7 (dated_trees h t)
 derived_as {g} {h} {t} r q d = subst (λ (u : Trees). Derived (prefix_power 7) 7 u) (dated_same g h t r.obeys q.obeys) d
@@ -237,12 +237,12 @@ refused_ended (Refused.unknown b e) = record { ts = _; rest = _; before = b; ove
 refused_ended (Refused.malformed b k n) = record { ts = _; rest = _; before = b; over = λ x. n _ (stands_there (more_stands x)); said = Said.malformed k n }
 refused_ended {bytes} (Refused.missing {ts} {rest} {tag} {n} b s h) = by rest b s
   where
-    by : (r : List ℕ) → Before bytes ts r → Stands ts r tag n → Ended bytes (Children (length (image ts)))
+    by : (r : List ℕ) → Before bytes ts r → Stands ts r tag n → Ended bytes (Err (Children (length (image ts))))
     by [] b s = absurd (nothing_stands s)
     by (first ∷ r) b s = record { ts = ts; rest = first ∷ r; before = b; over = λ x. omega (arith, enough s x); said = Said.missing s h }
 refused_ended {bytes} (Refused.underived {ts} {rest} {tag} {n} b s h never) = by rest b s never
   where
-    by : (r : List ℕ) → Before bytes ts r → Stands ts r tag n → (More ts r → ⊥) → Ended bytes (Underived (length (image ts)))
+    by : (r : List ℕ) → Before bytes ts r → Stands ts r tag n → (More ts r → ⊥) → Ended bytes (Err (Underived (length (image ts))))
     by [] b s never = absurd (nothing_stands s)
     by (first ∷ r) b s never = record { ts = ts; rest = first ∷ r; before = b; over = never; said = Said.underived s h }
 refused_ended (Refused.left_over b n) = record { ts = _; rest = []; before = b; over = no_more; said = Said.left_over n }
@@ -258,7 +258,7 @@ module _ {bytes : List ℕ} {t : Trees} (a : Accepted bytes t) where
   pub accepted_row : Row a.age t
   accepted_row = let w = (whole_exactly (prefix_power 7) (dated_trees a.age t)).1 (a.derived, a.spanned) in record { sorts = w.0 ∷ []; obeys = w.2 }
 
-  accepted_ended : Ended bytes (Tree (records t))
+  accepted_ended : Ended bytes (Ok (records t))
   unfolding accepted_row
   accepted_ended =
       let one : count t ≡ 1 = sym (dated-count a.age t) ∙ sym (obeys_length accepted_row.obeys) in
@@ -288,12 +288,8 @@ one_refusal x y = ended_once (refused_ended x) (refused_ended y)
 
 -- NEVER BOTH.
 abbrev pub is_tree : Answer → ℕ
-is_tree (Tree n) = 1
-is_tree (Unknown n) = 0
-is_tree (Malformed n) = 0
-is_tree (Children n) = 0
-is_tree (Underived n) = 0
-is_tree (Short n) = 0
+is_tree (Ok n) = 1
+is_tree (Err f) = 0
 
 pub no_tree : {bytes : List ℕ} {a : Answer} → Refused bytes a → is_tree a ≡ 0
 no_tree (Refused.unknown b e) = refl
@@ -313,7 +309,7 @@ reads_back_once (ReadsBack.short h) (ReadsBack.accepted g y) = absurd (omega ari
 reads_back_once (ReadsBack.short h) (ReadsBack.refused g y) = absurd (omega arith)
 reads_back_once (ReadsBack.accepted h x) (ReadsBack.short g) = absurd (omega arith)
 reads_back_once {room = room} (ReadsBack.accepted h x) (ReadsBack.accepted g y) =
-    let e = one_tree x y in (ap (λ (t : Trees). Tree (records t)) e, ap (λ (t : Trees). links 0 0 t ++ replicate (room - 2 * records t) 0) e)
+    let e = one_tree x y in (ap (λ (t : Trees). Ok (records t)) e, ap (λ (t : Trees). links 0 0 t ++ replicate (room - 2 * records t) 0) e)
 reads_back_once (ReadsBack.accepted h x) (ReadsBack.refused g y) = absurd (accepted_not_refused x y)
 reads_back_once (ReadsBack.refused h x) (ReadsBack.short g) = absurd (omega arith)
 reads_back_once (ReadsBack.refused h x) (ReadsBack.accepted g y) = absurd (accepted_not_refused y x)

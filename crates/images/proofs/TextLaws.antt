@@ -10,9 +10,13 @@ use native.Mathlib.Omega.{arith}
 use native.Mathlib.Numerals.{add-one}
 use native.Mathlib.Decide.{dec_lt}
 use lib.Dec.{T, leb, le→leb, eqb}
-use lib.ListN.{length, get_or, drop, length-drop, drop_of_length-le, get_or-eq_default}
-use lib.Seq.{drop-cons}
+use lib.ListN.{length, get_or, take, drop, length-drop, drop_of_length-le, get_or-eq_default}
+use native.Mathlib.Nat.{le_refl}
+use lib.Seq.{drop-cons, take_all, take-length}
 use borrow.Author.Tests.{ne_eqb}
+use Rattle.std.proofs.lemmas.Bool.{leb-true, leb-false, and_parts, and_cases}
+use Rattle.std.specs.List.{list_all}
+use Rattle.strings.specs.Utf8.{Utf8, ValidTo}
 use Rattle.regexes.specs.Regex.{within, in_class}
 use Rattle.regexes.proofs.Bools.{and, true_is, false_is, is_false, implies, implied}
 use Rattle.lexemes.specs.Rules.{◌–◌, alpha, alnum}
@@ -21,7 +25,7 @@ use Rattle.lexemes.proofs.Spaces.{within_to, within_from}
 use Rattle.numerals.specs.Value.{Verdict}
 use Rattle.grammar.specs.Words.{NameText, NumberText}
 use Rattle.blocks.specs.Inside.{Says, holds, fails}
-use Rattle.images.specs.Inner.{Digits, Some, some, Tail, tail}
+use Rattle.images.specs.Inner.{Digits, SomeDigits, some, Tail, tail}
 
 -- ── What is left of a text ────────────────────────────────────────────────────────────────────────
 
@@ -147,23 +151,23 @@ module _ (s : List ℕ) where
       by (no n) = subst Stops (sym (nothing_left s r (omega arith))) tt
 
   -- Digits up to the end: some, if there is one, and nothing else is.
-  pub some_left : {i r : ℕ} → Digits s i r → (r ≡ i → ⊥) → length s ≤ r → Some (drop i s)
+  pub some_left : {i r : ℕ} → Digits s i r → (r ≡ i → ⊥) → length s ≤ r → SomeDigits (drop i s)
   some_left {i} {r} d n h = by (run_of d).run (run_of d).all (run_of d).size ((run_of d).split ∙ ap (λ (l : List ℕ). (run_of d).run ++ l) (nothing_left s r h) ∙ append-nil (run_of d).run)
     where
-      by : (ds : List ℕ) → All is_digit ds → length ds ≡ r - i → drop i s ≡ ds → Some (drop i s)
+      by : (ds : List ℕ) → All is_digit ds → length ds ≡ r - i → drop i s ≡ ds → SomeDigits (drop i s)
       by [] a z e = absurd (n (omega (arith, d.forward)))
-      by (b ∷ ds) a z e = subst Some (sym e) (some a.0 a.1)
+      by (b ∷ ds) a z e = subst SomeDigits (sym e) (some a.0 a.1)
 
-  pub none_left : {i r : ℕ} → Digits s i r → r ≡ i → Some (drop i s) → ⊥
+  pub none_left : {i r : ℕ} → Digits s i r → r ≡ i → SomeDigits (drop i s) → ⊥
   none_left {i} {r} d e m = by (drop i s) (subst (λ (k : ℕ). Stops (drop k s)) e (stops d)) m
     where
-      by : (l : List ℕ) → Stops l → Some l → ⊥
+      by : (l : List ℕ) → Stops l → SomeDigits l → ⊥
       by _ st (some t a) = st t
 
-  pub more_left : {i r : ℕ} → Digits s i r → r < length s → Some (drop i s) → ⊥
+  pub more_left : {i r : ℕ} → Digits s i r → r < length s → SomeDigits (drop i s) → ⊥
   more_left {i} {r} d h m = by (drop i s) (run_of d).split m
     where
-      by : (l : List ℕ) → l ≡ (run_of d).run ++ drop r s → Some l → ⊥
+      by : (l : List ℕ) → l ≡ (run_of d).run ++ drop r s → SomeDigits l → ⊥
       by _ e (some {b} {bs} t a) =
           let q = once (b ∷ bs) (run_of d).run [] (drop r s) (t, a) (run_of d).all tt (stops d) (append-nil (b ∷ bs) ∙ e) in
           let z : 0 ≡ length s - r = ap length q ∙ length-drop r s in
@@ -190,17 +194,17 @@ pub exponent_alone : {c : ℕ} → Exponent (c ∷ []) → ⊥
 exponent_alone E = ⊎_elim (λ z. omega (arith, z)) (λ z. omega (arith, z)) (exponent-length E)
 
 -- After an `e` with a sign, and without.
-pub with_sign : {c g : ℕ} {l : List ℕ} → T (is_e c) → T (is_sign g) → Some l → Exponent (c ∷ g ∷ l)
+pub with_sign : {c g : ℕ} {l : List ℕ} → T (is_e c) → T (is_sign g) → SomeDigits l → Exponent (c ∷ g ∷ l)
 with_sign e g (some d a) = Exponent.signed e g d a
 
-pub from_sign : {c g : ℕ} {l : List ℕ} → T (is_sign g) → Exponent (c ∷ g ∷ l) → Some l
+pub from_sign : {c g : ℕ} {l : List ℕ} → T (is_sign g) → Exponent (c ∷ g ∷ l) → SomeDigits l
 from_sign {c} {g} t (Exponent.unsigned e d a) = absurd (sign_no_digit g t d)
 from_sign t (Exponent.signed e g d a) = some d a
 
-pub without_sign : {c : ℕ} {l : List ℕ} → T (is_e c) → Some l → Exponent (c ∷ l)
+pub without_sign : {c : ℕ} {l : List ℕ} → T (is_e c) → SomeDigits l → Exponent (c ∷ l)
 without_sign e (some d a) = Exponent.unsigned e d a
 
-pub from_digits : {c g : ℕ} {l : List ℕ} → (T (is_sign g) → ⊥) → Exponent (c ∷ g ∷ l) → Some (g ∷ l)
+pub from_digits : {c g : ℕ} {l : List ℕ} → (T (is_sign g) → ⊥) → Exponent (c ∷ g ∷ l) → SomeDigits (g ∷ l)
 from_digits n (Exponent.unsigned e d a) = some d a
 from_digits n (Exponent.signed e g d a) = absurd (n g)
 
@@ -431,12 +435,12 @@ module _ (s : List ℕ) (i : ℕ) (h : i < length s) where
     both : drop i s ≡ get_or s i 0 ∷ get_or s (i + 1) 0 ∷ drop (i + 2) s
     both = left s i h ∙ ap (λ (l : List ℕ). get_or s i 0 ∷ l) second
 
-    pub exponent-signed : {r : Bool} → T (is_e (get_or s i 0)) → T (is_sign (get_or s (i + 1) 0)) → Says (Some (drop (i + 2) s)) r → Says (Exponent (drop i s)) r
+    pub exponent-signed : {r : Bool} → T (is_e (get_or s i 0)) → T (is_sign (get_or s (i + 1) 0)) → Says (SomeDigits (drop (i + 2) s)) r → Says (Exponent (drop i s)) r
     exponent-signed e t d = same (λ m. subst Exponent (sym both) (with_sign e t m)) (λ E. from_sign t (subst Exponent both E)) d
 
-    pub exponent_unsigned : {r : Bool} → T (is_e (get_or s i 0)) → (T (is_sign (get_or s (i + 1) 0)) → ⊥) → Says (Some (drop (i + 1) s)) r → Says (Exponent (drop i s)) r
+    pub exponent_unsigned : {r : Bool} → T (is_e (get_or s i 0)) → (T (is_sign (get_or s (i + 1) 0)) → ⊥) → Says (SomeDigits (drop (i + 1) s)) r → Says (Exponent (drop i s)) r
     exponent_unsigned e n d =
-        same (λ m. subst Exponent (sym (left s i h)) (without_sign e m)) (λ E. subst Some (sym second) (from_digits n (subst Exponent both E))) d
+        same (λ m. subst Exponent (sym (left s i h)) (without_sign e m)) (λ E. subst SomeDigits (sym second) (from_digits n (subst Exponent both E))) d
 
   pub tail_other : {r : Bool} → (get_or s i 0 ≡ code "." → ⊥) → Says (Exponent (drop i s)) r → Says (Tail (drop i s)) r
   tail_other n d = same tail_exponent (λ t. subst Exponent (sym (left s i h)) (exponent_of_tail n (subst Tail (left s i h) t))) d
@@ -474,3 +478,43 @@ module _ (s : List ℕ) (h : 0 < length s) where
   numeral_whole ds t n d =
       same (λ m. subst Numeral (sym first) (whole_then s ds (get_or s 0 0) (no_zero (get_or s 0 0) t n) m))
       (λ m. after_whole s ds (get_or s 0 0) n (subst Numeral first m)) d
+
+pub utf8_whole : (s : List ℕ) (n : ℕ) → ValidTo s n → Says (Utf8 s) (leb (length s) n)
+utf8_whole s n v = by (leb (length s) n) refl
+  where
+    by : (b : Bool) → leb (length s) n ≡ b → Says (Utf8 s) b
+    by true e = holds (subst (λ (l : List ℕ). Utf8 l) (take_all n s (leb-true (length s) n e)) v.valid)
+    by false e = fails (λ u. let h = leb-false (length s) n e in omega (arith, h, v.longest (length s) (le_refl (length s)) (subst (λ (l : List ℕ). Utf8 l) (sym (take-length s)) u)))
+
+-- ── Names ─────────────────────────────────────────────────────────────────────────────────────────
+
+all_of : (f : ℕ → Bool) (l : List ℕ) → list_all f l ≡ true → All f l
+all_of f [] e = tt
+all_of f (b ∷ l) e = let p = and_parts (f b) (list_all f l) e in (subst (λ (x : Bool). T x) (sym p.0) tt, all_of f l p.1)
+
+none_of : (f : ℕ → Bool) (l : List ℕ) → list_all f l ≡ false → All f l → ⊥
+none_of f [] e a = no_such (sym e)
+none_of f (b ∷ l) e a = ⊎_elim (λ q. subst (λ (x : Bool). T x) q a.0) (λ q. none_of f l q a.1) (and_cases (f b) (list_all f l) e)
+
+behind : (s : List ℕ) → take (length s - 1) (drop 1 s) ≡ drop 1 s
+behind s = take_all (length s - 1) (drop 1 s) (omega (arith, length-drop 1 s))
+
+module _ (s : List ℕ) (h : 1 ≤ length s) where
+  pub name_told : {k : Bool} → T (in_class alpha (get_or s 0 0)) → list_all (in_class alnum) (take (length s - 1) (drop 1 s)) ≡ true → TellsKeyword s k → Says (NameText s) (not k)
+  name_told t e k = by s h t (sym (ap (list_all (in_class alnum)) (behind s)) ∙ e) k
+    where
+      by : (s : List ℕ) → 1 ≤ length s → {k : Bool} → T (in_class alpha (get_or s 0 0)) → list_all (in_class alnum) (drop 1 s) ≡ true → TellsKeyword s k → Says (NameText s) (not k)
+      by [] h t e k = absurd (omega arith)
+      by (b ∷ s) h t e (TellsKeyword.keyword m) = fails (λ n. n.no_keyword m)
+      by (b ∷ s) h t e (TellsKeyword.other n) = holds (record { identifier = (t, all_of (in_class alnum) s e); no_keyword = n })
+
+  pub no_word : list_all (in_class alnum) (take (length s - 1) (drop 1 s)) ≡ false → NameText s → ⊥
+  no_word e n = by s (sym (ap (list_all (in_class alnum)) (behind s)) ∙ e) n
+    where
+      by : (s : List ℕ) → list_all (in_class alnum) (drop 1 s) ≡ false → NameText s → ⊥
+      by [] e n = n.identifier
+      by (b ∷ s) e n = none_of (in_class alnum) s e n.identifier.1
+
+pub number_told : {t : List ℕ} {k : Bool} → Numeral t → Verdict t k → Says (NumberText t) (not k)
+number_told p (Verdict.too_large l) = fails (λ m. m.in_range l)
+number_told p (Verdict.in_range n) = holds (record { numeral = p; in_range = n })

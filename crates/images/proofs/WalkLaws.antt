@@ -3,7 +3,6 @@
 use mathlib.Core.Path.{◌≡◌, refl, sym, ap, subst, ◌∙◌}
 use mathlib.Core.List.{List, [], ◌∷◌, ◌++◌, map, append_assoc, append-nil}
 use mathlib.Core.Bool.{true, false}
-use mathlib.Core.Logic.{⊎_elim}
 use Prim.Native.Nat.{ℕ, ◌+◌, ◌-◌, ◌*◌, ◌≤◌, ◌<◌}
 use native.Mathlib.Omega.{arith}
 use lib.ListN.{drop_of_length-le, length, drop, get_or, set, length-set, length-append}
@@ -17,16 +16,14 @@ use Rattle.grammar.specs.Derived.{Derived}
 use Rattle.grammar.proofs.Derived.{whole_exactly, derived_obeys}
 use Rattle.grammar.proofs.Spanned.{spanned_obeys, obeys_spanned}
 use Rattle.grammar.proofs.ImageLaws.{count-row, image_close, image-length, close_length, entry_length}
-use Rattle.images.specs.declared.Answer.{Answer}
-use Rattle.images.specs.declared.records.Step.{Step}
-use Rattle.images.specs.declared.records.Step.TheVariants.{Next}
+use Rattle.images.specs.declared.Fault.{Fault}
+use Rattle.images.specs.declared.records.Next.{Next}
+use Rattle.images.specs.declared.records.Wrong.{Wrong}
+use Rattle.std.proofs.Common.{Ok, Err}
 use Rattle.images.specs.Images.{Age, dated_trees, Row, Before, Stands, Accepted, Refused}
 use Rattle.images.specs.Images as images
-use Rattle.images.specs.Inner.{Chain, Dating, State, Stepped, Ends, Whole, roots, is_a, sort_of, look}
+use Rattle.images.specs.Inner.{Chain, Dating, State, Stepped, age_code, refusal_at, Whole, roots, is_a, sort_of, look}
 use Rattle.strings.proofs.Stores.{drop-next}
-use types.Run.{OneOf}
-use denote.Enum.Declared.{tag_of}
-use Rattle.images.specs.contracts.records.Step.{the_type}
 use Rattle.images.proofs.StepLaws.{row_age}
 use Rattle.images.proofs.EntryLaws.{entry_there}
 use Rattle.images.proofs.RowLaws.{records-row, image_more, roots-row, tags, row-sorts, obeys_sorts, tags_dated}
@@ -113,30 +110,30 @@ unfolding roots
 tree-roots us cs tag fields = sym (roots-row us (tree tag fields cs) [])
 
 module _ {bytes before array : List ℕ} {at n standing age : ℕ} (w : Walking bytes before array at n standing age) (inside : at < length bytes) (room : n * 2 + 1 < length array) where
-  pub goes_on : {end first roots-now kind : ℕ} → Stepped bytes array at w.state.ts (Next end first roots-now kind)
-      → Walking bytes before (set (set array (n * 2) at) (n * 2 + 1) first) end (n + 1) roots-now kind
-  goes_on {end} {first} {roots-now} {kind} (Stepped.next tag fields us children whole there ends is_first op dating chain) =
+  pub goes_on : {x : Next} → Stepped bytes array at w.state.ts (Ok x)
+      → Walking bytes before (set (set array (n * 2) at) (n * 2 + 1) x.first) x.end (n + 1) x.standing (age_code x.age)
+  goes_on {x} (Stepped.next tag fields us children whole there ends is_first op dating chain) =
       let s = w.state in
       let ts' = us ⊕ tree tag fields children in
       let im : image ts' ≡ image s.ts ++ entry tag fields = image_more us children tag fields ∙ ap (λ (t : Trees). image t ++ entry tag fields) (sym whole) in
-      let e = entry_there bytes at tag fields (drop end bytes) (omega arith) there in
+      let e = entry_there bytes at tag fields (drop x.end bytes) (omega arith) there in
       let rr = records-row us children in
       let rn = ap images.records whole in
       let nr : n + 1 ≡ images.records ts' = more_records n us children tag fields (s.number ∙ rn) in
       let here : array ≡ images.links 0 0 (us ⊕ children) ++ s.rest = s.stored ∙ ap (λ (t : Trees). images.links 0 0 t ++ s.rest) whole in
       let ll : length (images.links 0 0 (us ⊕ children)) ≡ n * 2 = links-length 0 0 (us ⊕ children) ∙ ap (λ (i : ℕ). i * 2) (sym (s.number ∙ rn)) in
-      let array' = set (set array (n * 2) at) (n * 2 + 1) first in
+      let array' = set (set array (n * 2) at) (n * 2 + 1) x.first in
       let st : array' ≡ images.links 0 0 ts' ++ drop 2 s.rest =
-      ap (λ (a : List ℕ). set (set a (n * 2) at) (n * 2 + 1) first) here
-      ∙ two_stores (images.links 0 0 (us ⊕ children)) s.rest (n * 2) at first ll (subst (λ (a : List ℕ). n * 2 + 1 < length a) here room)
-      ∙ ap (λ (i : ℕ). (images.links 0 0 (us ⊕ children) ++ i ∷ first ∷ []) ++ drop 2 s.rest) (s.place ∙ ap (λ (t : Trees). length (image t)) whole)
+      ap (λ (a : List ℕ). set (set a (n * 2) at) (n * 2 + 1) x.first) here
+      ∙ two_stores (images.links 0 0 (us ⊕ children)) s.rest (n * 2) at x.first ll (subst (λ (a : List ℕ). n * 2 + 1 < length a) here room)
+      ∙ ap (λ (i : ℕ). (images.links 0 0 (us ⊕ children) ++ i ∷ x.first ∷ []) ++ drop 2 s.rest) (s.place ∙ ap (λ (t : Trees). length (image t)) whole)
       ∙ ap (λ (i : ℕ). (images.links 0 0 (us ⊕ children) ++ length (image (us ⊕ children)) ∷ i ∷ []) ++ drop 2 s.rest) is_first
       ∙ ap (λ (l : List ℕ). l ++ drop 2 s.rest) (sym (links_more us children tag fields)) in
       record {
         state = record {
           ts = ts';
           dating = dating;
-          split = s.split ∙ ap (λ (l : List ℕ). image s.ts ++ l) there ∙ sym (append_assoc (image s.ts) (entry tag fields) (drop end bytes)) ∙ ap (λ (l : List ℕ). l ++ drop end bytes) (sym im);
+          split = s.split ∙ ap (λ (l : List ℕ). image s.ts ++ l) there ∙ sym (append_assoc (image s.ts) (entry tag fields) (drop x.end bytes)) ∙ ap (λ (l : List ℕ). l ++ drop x.end bytes) (sym im);
           place = omega (arith, ends, s.place, ap length im, length-append (image s.ts) (entry tag fields));
           number = nr;
           opened = op ∙ one_more us children tag fields;
@@ -144,7 +141,7 @@ module _ {bytes before array : List ℕ} {at n standing age : ℕ} (w : Walking 
           rest = drop 2 s.rest;
           stored = st;
         };
-        long = length-set (set array (n * 2) at) (n * 2 + 1) first ∙ length-set array (n * 2) at ∙ w.long;
+        long = length-set (set array (n * 2) at) (n * 2 + 1) x.first ∙ length-set array (n * 2) at ∙ w.long;
         within = omega (arith, e.within, ends, entry_length tag fields);
       }
 
@@ -156,20 +153,15 @@ before_of s = record { age = _; row = row_age 0 0 s.dating; split = s.split }
 next_byte : {bytes array : List ℕ} {at n standing age : ℕ} (s : State bytes array at n standing age) → at < length bytes → Before bytes s.ts (get_or bytes at 0 ∷ drop (at + 1) bytes)
 next_byte {bytes} {at = at} s h = subst (λ (r : List ℕ). Before bytes s.ts r) (drop-next bytes at h) (before_of s)
 
--- a step that is no record more is a refusal at its place
-pub refusal : {bytes array : List ℕ} {at n standing age : ℕ} (s : State bytes array at n standing age) → at < length bytes → (step : Step) (a : Answer)
-    → OneOf (1 ∷ 2 ∷ 3 ∷ 4 ∷ []) (tag_of the_type step) → Stepped bytes array at s.ts step → Ends step at a → Refused bytes a
-refusal {bytes} {at = at} s h step a o (Stepped.unknown e) Ends.unknown =
-    subst (λ (i : ℕ). Refused bytes (Answer.Unknown i)) (sym s.place) (Refused.unknown (next_byte s h) e)
-refusal {bytes} {at = at} s h step a o (Stepped.malformed k n) Ends.malformed =
-    subst (λ (i : ℕ). Refused bytes (Answer.Malformed i)) (sym s.place)
+-- where no record can stand, that is refused
+pub refusal : {bytes array : List ℕ} {at n standing age : ℕ} (s : State bytes array at n standing age) → at < length bytes → (wrong : Wrong) → Stepped bytes array at s.ts (Err wrong)
+    → Refused bytes (Err (refusal_at wrong at))
+refusal {bytes} {at = at} s h _ (Stepped.unknown e) = subst (λ (i : ℕ). Refused bytes (Err (Fault.Unknown i))) (sym s.place) (Refused.unknown (next_byte s h) e)
+refusal {bytes} {at = at} s h _ (Stepped.malformed k n) =
+    subst (λ (i : ℕ). Refused bytes (Err (Fault.Malformed i))) (sym s.place)
     (Refused.malformed (next_byte s h) k (λ m x. n m (subst (λ (r : List ℕ). Stands s.ts r (get_or bytes at 0) m) (sym (drop-next bytes at h)) x)))
-refusal {bytes} {at = at} s h step a o (Stepped.missing x l) Ends.missing = subst (λ (i : ℕ). Refused bytes (Answer.Children i)) (sym s.place) (Refused.missing (before_of s) x l)
-refusal {bytes} {at = at} s h step a o (Stepped.underived x l n) Ends.underived = subst (λ (i : ℕ). Refused bytes (Answer.Underived i)) (sym s.place) (Refused.underived (before_of s) x l n)
-refusal {bytes} {at = at} s h step a o (Stepped.next tag fields us children w t e f op d c) Ends.next = absurd (no_next o)
-  where
-    no_next : OneOf (1 ∷ 2 ∷ 3 ∷ 4 ∷ []) 0 → ⊥
-    no_next x = ⊎_elim (λ e. omega arith) (λ y. ⊎_elim (λ e. omega arith) (λ z. ⊎_elim (λ e. omega arith) (λ e. omega arith) z) y) x
+refusal {bytes} {at = at} s h _ (Stepped.missing x l) = subst (λ (i : ℕ). Refused bytes (Err (Fault.Children i))) (sym s.place) (Refused.missing (before_of s) x l)
+refusal {bytes} {at = at} s h _ (Stepped.underived x l n) = subst (λ (i : ℕ). Refused bytes (Err (Fault.Underived i))) (sym s.place) (Refused.underived (before_of s) x l n)
 
 -- ── The end ───────────────────────────────────────────────────────────────────────────────────────
 
@@ -180,8 +172,8 @@ module _ {bytes array : List ℕ} {at n standing age : ℕ} (s : State bytes arr
   at_last : Before bytes s.ts []
   at_last = subst (λ (r : List ℕ). Before bytes s.ts r) (all_taken bytes at over) (before_of s)
 
-  pub leaves_roots : (standing ≡ 1 → ⊥) → Refused bytes (Answer.Children at)
-  leaves_roots n = let e : length bytes ≡ at = omega arith in subst (λ (i : ℕ). Refused bytes (Answer.Children i)) e (Refused.left_over at_last (λ c. n (s.opened ∙ c)))
+  pub leaves_roots : (standing ≡ 1 → ⊥) → Refused bytes (Err (Fault.Children at))
+  leaves_roots n = let e : length bytes ≡ at = omega arith in subst (λ (i : ℕ). Refused bytes (Err (Fault.Children i))) e (Refused.left_over at_last (λ c. n (s.opened ∙ c)))
 
   module _ (one : standing ≡ 1) where
     pub root : Single s.ts
@@ -235,7 +227,7 @@ module _ {bytes array : List ℕ} {at n standing age : ℕ} (s : State bytes arr
         let q = head_sort (obeys_sorts f ∙ ap (map sort_of) (tags_dated at_last.age s.ts) ∙ one_sort) in
         of_is root.tag 0 (omega arith) (subst (λ (σ : Sort). Is σ Sort.expression) q x.1)
 
-    pub refuses_root : is_a root.tag 0 ≡ false → Refused bytes (Answer.Underived (length (image root.children)))
+    pub refuses_root : is_a root.tag 0 ≡ false → Refused bytes (Err (Fault.Underived (length (image root.children))))
     refuses_root e =
         let r = root in
         let b : Before bytes (tree r.tag r.fields r.children) [] = record {
@@ -247,22 +239,19 @@ module _ {bytes array : List ℕ} {at n standing age : ℕ} (s : State bytes arr
 
 -- ── Numbers of the walk ───────────────────────────────────────────────────────────────────────────
 
-pub next_longer : {bytes array : List ℕ} {at end first standing kind : ℕ} {ts : Trees} → Stepped bytes array at ts (Next end first standing kind) → at + 3 ≤ end
+pub next_longer : {bytes array : List ℕ} {at : ℕ} {x : Next} {ts : Trees} → Stepped bytes array at ts (Ok x) → at + 3 ≤ x.end
 next_longer (Stepped.next tag fields us children w t ends f op d c) = omega (arith, ends, entry_length tag fields)
 
-pub stepped_as : {bytes array : List ℕ} {at : ℕ} {ts : Trees} {r q : Step} → r ≡ q → Stepped bytes array at ts r → Stepped bytes array at ts q
-stepped_as {bytes} {array} {at} {ts} e x = subst (λ (r : Step). Stepped bytes array at ts r) e x
-
-pub room : {bytes before array : List ℕ} {at n standing age end first roots-now kind : ℕ} (w : Walking bytes before array at n standing age) → at < length bytes
-    → images.needed bytes ≤ length before → Stepped bytes array at w.state.ts (Next end first roots-now kind) → n * 2 + 1 < length array
+pub room : {bytes before array : List ℕ} {at n standing age : ℕ} {x : Next} (w : Walking bytes before array at n standing age) → at < length bytes
+    → images.needed bytes ≤ length before → Stepped bytes array at w.state.ts (Ok x) → n * 2 + 1 < length array
 room w h need x =
     let g = longer w h x in
     omega (arith, w.long, w.state.number, w.state.place, records-image w.state.ts, g)
   where
-    longer : {bytes before array : List ℕ} {at n standing age end first roots-now kind : ℕ} (w : Walking bytes before array at n standing age) → at < length bytes
-        → Stepped bytes array at w.state.ts (Next end first roots-now kind) → at + 3 ≤ length bytes
-    longer {bytes} {at = at} w h (Stepped.next {end = end} tag fields us children e there ends f op d c) =
-        let x = entry_there bytes at tag fields (drop end bytes) (omega arith) there in omega (arith, x.within)
+    longer : {bytes before array : List ℕ} {at n standing age : ℕ} {x : Next} (w : Walking bytes before array at n standing age) → at < length bytes
+        → Stepped bytes array at w.state.ts (Ok x) → at + 3 ≤ length bytes
+    longer {bytes} {at = at} w h (Stepped.next {x = x} tag fields us children e there ends f op d c) =
+        let y = entry_there bytes at tag fields (drop x.end bytes) (omega arith) there in omega (arith, y.within)
 
 pub count-records : (ts : Trees) → count ts ≤ images.records ts
 unfolding count images.records
@@ -286,13 +275,13 @@ module _ {bytes before array : List ℕ} {at n standing age : ℕ} (w : Walking 
   tag_is : get_or bytes (get_or array (n * 2 - 2) 0) 0 ≡ (root w.state over w.within one).tag
   tag_is = ap (λ (i : ℕ). get_or bytes i 0) (last_offset w.state over w.within one) ∙ last_tag w.state over w.within one
 
-  pub ends_refused : is_a (get_or bytes (get_or array (n * 2 - 2) 0) 0) 0 ≡ false → Whole bytes (length before) (Answer.Underived (get_or array (n * 2 - 2) 0)) array
+  pub ends_refused : is_a (get_or bytes (get_or array (n * 2 - 2) 0) 0) 0 ≡ false → Whole bytes (length before) (Err (Fault.Underived (get_or array (n * 2 - 2) 0))) array
   ends_refused e =
-      Whole.refused w.long (subst (λ (i : ℕ). Refused bytes (Answer.Underived i)) (sym (last_offset w.state over w.within one))
+      Whole.refused w.long (subst (λ (i : ℕ). Refused bytes (Err (Fault.Underived i))) (sym (last_offset w.state over w.within one))
       (refuses_root w.state over w.within one (sym (ap (λ (t : ℕ). is_a t 0) tag_is) ∙ e)))
 
-  pub ends_accepted : is_a (get_or bytes (get_or array (n * 2 - 2) 0) 0) 0 ≡ true → Whole bytes (length before) (Answer.Tree n) array
+  pub ends_accepted : is_a (get_or bytes (get_or array (n * 2 - 2) 0) 0) 0 ≡ true → Whole bytes (length before) (Ok n) array
   ends_accepted e =
       let s = w.state in
-      subst (λ (i : ℕ). Whole bytes (length before) (Answer.Tree i) array) (sym s.number)
+      subst (λ (i : ℕ). Whole bytes (length before) (Ok i) array) (sym s.number)
       (Whole.accepted s.rest (accepts s over w.within one (sym (ap (λ (t : ℕ). is_a t 0) tag_is) ∙ e)) s.stored w.long)

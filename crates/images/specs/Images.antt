@@ -1,7 +1,7 @@
 -- Reading an image back: 02, Item 1, with Item 8's two kinds of infix records. What is accepted is stated over derivations; what is refused, by
 -- the first record that cannot stand there.
 -- Assumes nothing.
-use Rattle.std.specs.Prelude.{◌≡◌, cond, List, [], ◌∷◌, ◌++◌, ℕ, suc, ◌+◌, ◌-◌, ◌*◌, ◌/◌, ◌≤◌, ◌<◌, eqb, length, replicate}
+use Rattle.std.specs.Prelude.{◌≡◌, cond, Result, Ok, Err, List, [], ◌∷◌, ◌++◌, ℕ, suc, ◌+◌, ◌-◌, ◌*◌, ◌/◌, ◌≤◌, ◌<◌, eqb, length, get_or, replicate}
 use Rattle.grammar.specs.Tags.{INFIX}
 use Rattle.grammar.specs.Trees.{Field, span, Trees, none, node, tree, ◌⊕◌, count}
 use Rattle.grammar.specs.Image.{entry, image}
@@ -9,8 +9,12 @@ use Rattle.grammar.specs.Records.{Sort, Spans, Obeys}
 use Rattle.grammar.specs.Layout.{Layout, layout_of, Tells}
 use Rattle.grammar.specs.Answer.{prefix_power}
 use Rattle.grammar.specs.Derived.{Spanned, Derived}
-use Rattle.images.specs.declared.Answer.{Answer}
-use Rattle.images.specs.declared.Answer.TheVariants.{Tree, Unknown, Malformed, Children, Underived, Short}
+use Rattle.images.specs.declared.Fault.{Fault}
+use Rattle.images.specs.declared.Fault.TheVariants.{Unknown, Malformed, Children, Underived, Short}
+
+-- "Numbers are two bytes, high first"
+abbrev pub two_at : List ℕ → ℕ → ℕ
+two_at bytes at = get_or bytes at 0 * 256 + get_or bytes (at + 1) 0
 
 -- ── Old images ────────────────────────────────────────────────────────────────────────────────────
 
@@ -37,6 +41,12 @@ pub record Accepted (bytes : List ℕ) (t : Trees) : Type 0 where
   pub derived : Derived (prefix_power 7) 7 (dated_trees age t)
   pub spanned : Spanned (dated_trees age t)
   pub written : bytes ≡ image t
+
+-- ── What becomes of an image ──────────────────────────────────────────────────────────────────────
+
+-- The number of its records, or why it is refused.
+abbrev pub Answer : Type 0
+Answer = Result ℕ Fault
 
 -- ── What is refused ───────────────────────────────────────────────────────────────────────────────
 
@@ -76,20 +86,20 @@ pub record More (ts : Trees) (rest : List ℕ) : Type 0 where
 -- R52. Why an image is refused, and at which offset.
 pub data Refused (bytes : List ℕ) : Answer → Type 0 where
   -- "13 unknown tag"
-  unknown : {ts : Trees} {tag : ℕ} {rest : List ℕ} → Before bytes ts (tag ∷ rest) → layout_of tag ≡ Layout.unknown → Refused bytes (Unknown (length (image ts)))
+  unknown : {ts : Trees} {tag : ℕ} {rest : List ℕ} → Before bytes ts (tag ∷ rest) → layout_of tag ≡ Layout.unknown → Refused bytes (Err (Unknown (length (image ts))))
   -- "14 wrong length, flag or enum byte"; "a cut header is 14"; "a mixture is 14, at the first record that disagrees with the first infix record"
   malformed : {ts : Trees} {tag : ℕ} {rest : List ℕ} → Before bytes ts (tag ∷ rest) → (layout_of tag ≡ Layout.unknown → ⊥)
-      → ((n : ℕ) → Stands ts (tag ∷ rest) tag n → ⊥) → Refused bytes (Malformed (length (image ts)))
+      → ((n : ℕ) → Stands ts (tag ∷ rest) tag n → ⊥) → Refused bytes (Err (Malformed (length (image ts))))
   -- "15 children missing"
-  missing : {ts : Trees} {rest : List ℕ} {tag n : ℕ} → Before bytes ts rest → Stands ts rest tag n → count ts < n → Refused bytes (Children (length (image ts)))
+  missing : {ts : Trees} {rest : List ℕ} {tag n : ℕ} → Before bytes ts rest → Stands ts rest tag n → count ts < n → Refused bytes (Err (Children (length (image ts))))
   -- "16 a text, name, shape .. that no derivation gives, or a span backward or, where absent, not 0"
   underived : {ts : Trees} {rest : List ℕ} {tag n : ℕ} → Before bytes ts rest → Stands ts rest tag n → n ≤ count ts → (More ts rest → ⊥)
-      → Refused bytes (Underived (length (image ts)))
+      → Refused bytes (Err (Underived (length (image ts))))
   -- "an empty image, or roots left over at the end, is 15 at the image's length"
-  left_over : {ts : Trees} → Before bytes ts [] → (count ts ≡ 1 → ⊥) → Refused bytes (Children (length bytes))
+  left_over : {ts : Trees} → Before bytes ts [] → (count ts ≡ 1 → ⊥) → Refused bytes (Err (Children (length bytes)))
   -- 16 "a .. lone root that no derivation gives", at its own record
   lone_root : {tag : ℕ} {fields : List Field} {children : Trees} (b : Before bytes (tree tag fields children) [])
-      → (Derived (prefix_power 7) 7 (dated_trees b.age (tree tag fields children)) → ⊥) → Refused bytes (Underived (length (image children)))
+      → (Derived (prefix_power 7) 7 (dated_trees b.age (tree tag fields children)) → ⊥) → Refused bytes (Err (Underived (length (image children))))
 
 -- ── The lent array ────────────────────────────────────────────────────────────────────────────────
 
@@ -113,6 +123,6 @@ needed bytes = length bytes / 3 * 2
 -- R50 to R53. Of an image and an array of so many numbers: the answer, and the array as it is left.
 pub data ReadsBack (bytes : List ℕ) (room : ℕ) : Answer → List ℕ → Type 0 where
   -- "24 the array is shorter", "before all others"
-  short : room < needed bytes → ReadsBack bytes room (Short (needed bytes)) (replicate room 0)
-  accepted : {t : Trees} → needed bytes ≤ room → Accepted bytes t → ReadsBack bytes room (Tree (records t)) (links 0 0 t ++ replicate (room - 2 * records t) 0)
+  short : room < needed bytes → ReadsBack bytes room (Err (Short (needed bytes))) (replicate room 0)
+  accepted : {t : Trees} → needed bytes ≤ room → Accepted bytes t → ReadsBack bytes room (Ok (records t)) (links 0 0 t ++ replicate (room - 2 * records t) 0)
   refused : {b : Answer} → needed bytes ≤ room → Refused bytes b → ReadsBack bytes room b (replicate room 0)

@@ -1,31 +1,34 @@
 -- What the functions below `back` promise each other: a numeral by its parts, a record's bytes by the parts of its layout, what it asks of its children, the
 -- row of open roots in the lent array. The definitions here follow the code; what they amount to is proved (proofs/). No public contract cites them.
 -- Assumes nothing.
-use Rattle.std.specs.Prelude.{◌≡◌, Bool, true, false, cond, ◌&&◌, ◌||◌, List, [], ◌∷◌, ◌++◌, ℕ, zero, suc, ◌+◌, ◌-◌, ◌*◌, ◌/◌, ◌%◌, ◌≤◌, ◌<◌, T, eqb, leb, ltb, length, take, drop, get_or, replicate}
+use Rattle.std.specs.Prelude.{◌≡◌, Bool, true, false, cond, ◌&&◌, ◌||◌, Option, None, Some, Result, Ok, Err, List, [], ◌∷◌, ◌++◌, ℕ, zero, suc, ◌+◌, ◌-◌, ◌*◌, ◌/◌, ◌%◌, ◌≤◌, ◌<◌, T, eqb, leb, ltb, length, take, drop, get_or, replicate}
 use Rattle.strings.specs.Utf8.{Utf8}
 use Rattle.lexemes.specs.Texts.{All, is_digit, Fraction, Exponent}
 use Rattle.grammar.specs.Tags.{IDENTITY, NULL, BOOL, NUMBER, STRING, VARIABLE, ARRAY, ARRAY_COMP, MEMBERS, OBJECT_COMP, EXTENSION, PREFIX, INFIX, ASSERT_EXPR, LOCAL, IMPORT, ERROR, CALL}
 use Rattle.grammar.specs.Tags.{NAMED_ARGUMENT, INDEX_PART, FUNCTION, IF, SLICE, BIND, NAME_PATTERN, SKIP, ARRAY_PATTERN, OBJECT_PATTERN, PATTERN_FIELD, PARAMETER, FIELD, ASSERT, FOR, IF_CLAUSE, OBJECT_ITERATION}
 use Rattle.grammar.specs.Words.{NameText, NumberText}
-use Rattle.grammar.specs.Trees.{Field, Trees, tree, ◌⊕◌, count}
+use Rattle.grammar.specs.Trees.{Trees, tree, ◌⊕◌, count}
 use Rattle.grammar.specs.Trees as trees
 use Rattle.grammar.specs.Image.{entry, image}
 use Rattle.grammar.specs.Records.{Sort}
 use Rattle.grammar.specs.Records as records
-use Rattle.grammar.specs.Layout.{Layout, layout_of, bits_in, numbers as layout-numbers}
-use Rattle.images.specs.Images.{Age, old, new, Accepted, Row, Stands, More, Refused, links}
+use Rattle.grammar.specs.Layout.{Part, Layout, layout_of, bits_in, numbers as layout-numbers}
+use Rattle.images.specs.Images.{Answer, Age, old, new, Accepted, Row, Stands, More, Refused, links}
 use Rattle.images.specs.Images as images
-use Rattle.images.specs.declared.Answer.{Answer}
-use Rattle.images.specs.declared.asks.Question.{Question}
+pub use Rattle.images.specs.Images.{two_at}
+use Rattle.images.specs.declared.Fault.{Fault}
+use Rattle.images.specs.declared.sorts.Sort as sorts-of-code
+use Rattle.images.specs.declared.sorts.Sort.TheVariants.{Expression, String, Run, Object, Named, Param, Bind, Field, Assertion, Member, Iteration, IfClause, Clause, Pattern, NamePattern, PatternField, CompMember}
+use Rattle.images.specs.declared.asks.Text.{Text}
+use Rattle.images.specs.declared.asks.Text.TheVariants.{Free, Number, Utf8 as Utf8Text, Name, Empty}
+use Rattle.images.specs.declared.asks.Question as asked
 use Rattle.images.specs.declared.parts.Got.{Got}
-use Rattle.images.specs.declared.parts.Got.TheVariants.{Value, Wrong}
 use Rattle.images.specs.declared.parts.Parts.{Parts}
-use Rattle.images.specs.declared.roots.Roots.{Roots}
-use Rattle.images.specs.declared.roots.Roots.TheVariants.{From, Other}
-use Rattle.images.specs.declared.records.Extent.{Extent}
-use Rattle.images.specs.declared.records.Extent.TheVariants.{End, Cut}
-use Rattle.images.specs.declared.records.Step.{Step}
-use Rattle.images.specs.declared.records.Step.TheVariants.{Next, Unknown, Malformed, Missing, Underived}
+use Rattle.images.specs.declared.records.Age as ages
+use Rattle.images.specs.declared.records.Age.TheVariants.{Old, New}
+use Rattle.images.specs.declared.records.Next.{Next}
+use Rattle.images.specs.declared.records.Wrong.{Wrong}
+use Rattle.images.specs.declared.records.Wrong.TheVariants.{Unknown, Malformed, Missing, Underived}
 
 -- ── Numerals ──────────────────────────────────────────────────────────────────────────────────────
 
@@ -38,18 +41,14 @@ pub record Digits (s : List ℕ) (i r : ℕ) : Type 0 where
   pub over : T (is_digit (get_or s r 0)) → ⊥
 
 -- A digit or more.
-pub data Some : List ℕ → Type 0 where
-  some : {b : ℕ} {bs : List ℕ} → T (is_digit b) → All is_digit bs → Some (b ∷ bs)
+pub data SomeDigits : List ℕ → Type 0 where
+  some : {b : ℕ} {bs : List ℕ} → T (is_digit b) → All is_digit bs → SomeDigits (b ∷ bs)
 
 -- What may stand behind a numeral's whole part.
 pub data Tail : List ℕ → Type 0 where
   tail : {f e : List ℕ} → Fraction f → Exponent e → Tail (f ++ e)
 
 -- ── A record's bytes ──────────────────────────────────────────────────────────────────────────────
-
--- "Numbers are two bytes, high first"
-abbrev pub two_at : List ℕ → ℕ → ℕ
-two_at bytes at = get_or bytes at 0 * 256 + get_or bytes (at + 1) 0
 
 -- A span in one number: 0 for 0, 0 alone, and one that no other span has where it runs backward.
 abbrev pub BACKWARD : ℕ
@@ -65,39 +64,45 @@ limit code = cond (eqb code 4) 2 (cond (eqb code 5) 8 (code - 8))
 unfoldable pub told_by : ℕ → ℕ → ℕ
 told_by code b = cond (eqb code 4) b (cond (eqb code 5) (bits_in b) 0)
 
--- A part by its code (grammar::layout), at a place of a payload that ends at `end`: its value, the place after it, the children that it tells of.
-pub data Gets (bytes : List ℕ) (at end : ℕ) : ℕ → Got → Type 0 where
-  a_span : at + 4 ≤ end → Gets bytes at end 1 (Value (span_value (two_at bytes at) (two_at bytes (at + 2))) (at + 4) 0)
-  no_span : end < at + 4 → Gets bytes at end 1 Wrong
-  a_text : Gets bytes at end 2 (Value (end - at) end 0)
-  a_count : at + 2 ≤ end → Gets bytes at end 3 (Value (two_at bytes at) (at + 2) (two_at bytes at))
-  no_count : end < at + 2 → Gets bytes at end 3 Wrong
-  a_byte : {code : ℕ} → 4 ≤ code → at < end → get_or bytes at 0 < limit code → Gets bytes at end code (Value (get_or bytes at 0) (at + 1) (told_by code (get_or bytes at 0)))
-  no_byte : {code : ℕ} → 4 ≤ code → end ≤ at → Gets bytes at end code Wrong
-  bad_byte : {code : ℕ} → 4 ≤ code → at < end → limit code ≤ get_or bytes at 0 → Gets bytes at end code Wrong
+-- A part by its code (grammar's Layout.antt), at a place of a payload that ends at `end`: its value, the place after it, the children that it tells of.
+pub data Gets (bytes : List ℕ) (at end : ℕ) : ℕ → ℕ → ℕ → ℕ → Type 0 where
+  a_span : at + 4 ≤ end → Gets bytes at end 1 (span_value (two_at bytes at) (two_at bytes (at + 2))) (at + 4) 0
+  a_text : Gets bytes at end 2 (end - at) end 0
+  a_count : at + 2 ≤ end → Gets bytes at end 3 (two_at bytes at) (at + 2) (two_at bytes at)
+  a_byte : {code : ℕ} → 4 ≤ code → at < end → get_or bytes at 0 < limit code → Gets bytes at end code (get_or bytes at 0) (at + 1) (told_by code (get_or bytes at 0))
 
-abbrev pub kids : Got → ℕ
-kids (Value v next k) = k
-kids Wrong = 0
+-- Or no such part is there.
+pub data Lacks (bytes : List ℕ) (at end : ℕ) : ℕ → Type 0 where
+  no_span : end < at + 4 → Lacks bytes at end 1
+  no_count : end < at + 2 → Lacks bytes at end 3
+  no_byte : {code : ℕ} → 4 ≤ code → end ≤ at → Lacks bytes at end code
+  bad_byte : {code : ℕ} → 4 ≤ code → at < end → limit code ≤ get_or bytes at 0 → Lacks bytes at end code
+
+abbrev pub Gives : List ℕ → ℕ → ℕ → ℕ → Option Got → Type 0
+Gives bytes at end code (Some g) = Gets bytes at end code g.value g.next g.children × (g.children ≤ 65535)
+Gives bytes at end code None = Lacks bytes at end code
 
 -- All of them, up to the code 0 or the last: their values, and the children they tell of.
 pub data Takes (bytes : List ℕ) (end : ℕ) : ℕ → List ℕ → List ℕ → ℕ → Type 0 where
   over : {cs : List ℕ} → Takes bytes end end (0 ∷ cs) [] 0
   last : Takes bytes end end [] [] 0
-  more : {at v next k n c : ℕ} {cs vs : List ℕ} → (c ≡ 0 → ⊥) → Gets bytes at end c (Value v next k) → Takes bytes end next cs vs n → Takes bytes end at (c ∷ cs) (v ∷ vs) (k + n)
+  more : {at v next k n c : ℕ} {cs vs : List ℕ} → (c ≡ 0 → ⊥) → Gets bytes at end c v next k → Takes bytes end next cs vs n → Takes bytes end at (c ∷ cs) (v ∷ vs) (k + n)
 
 -- Or one of them is wrong, or bytes are left over.
 pub data Fails (bytes : List ℕ) (end : ℕ) : ℕ → List ℕ → Type 0 where
   left : {at : ℕ} {cs : List ℕ} → (at ≡ end → ⊥) → Fails bytes end at (0 ∷ cs)
   left_last : {at : ℕ} → (at ≡ end → ⊥) → Fails bytes end at []
-  wrong : {at c : ℕ} {cs : List ℕ} → (c ≡ 0 → ⊥) → Gets bytes at end c Wrong → Fails bytes end at (c ∷ cs)
-  later : {at v next k c : ℕ} {cs : List ℕ} → (c ≡ 0 → ⊥) → Gets bytes at end c (Value v next k) → Fails bytes end next cs → Fails bytes end at (c ∷ cs)
+  wrong : {at c : ℕ} {cs : List ℕ} → (c ≡ 0 → ⊥) → Lacks bytes at end c → Fails bytes end at (c ∷ cs)
+  later : {at v next k c : ℕ} {cs : List ℕ} → (c ≡ 0 → ⊥) → Gets bytes at end c v next k → Fails bytes end next cs → Fails bytes end at (c ∷ cs)
+
+-- The numbers of a row's parts, zeros behind them.
+abbrev pub padded : List Part → List ℕ
+padded ps = drop 1 (layout-numbers (Layout.layout 0 ps))
 
 -- The values stand in six numbers, zeros behind them.
-pub data Walks (bytes : List ℕ) (from end : ℕ) (codes : List ℕ) (p : Parts) : Type 0 where
-  good : {vs : List ℕ} {n : ℕ} → p.good ≡ true → Takes bytes end from codes vs n → p.children ≡ n → p.values ≡ vs ++ replicate (6 - length vs) 0
-      → Walks bytes from end codes p
-  bad : p.good ≡ false → Fails bytes end from codes → Walks bytes from end codes p
+pub data Walks (bytes : List ℕ) (from end : ℕ) (codes : List ℕ) : Option Parts → Type 0 where
+  good : {p : Parts} {vs : List ℕ} {n : ℕ} → Takes bytes end from codes vs n → p.children ≡ n → p.values ≡ vs ++ replicate (6 - length vs) 0 → Walks bytes from end codes (Some p)
+  bad : Fails bytes end from codes → Walks bytes from end codes None
 
 -- ── What a record asks ────────────────────────────────────────────────────────────────────────────
 
@@ -131,6 +136,25 @@ code records.pattern_field = 15
 
 abbrev pub COMP : ℕ
 COMP = 16
+
+abbrev pub sort_code : sorts-of-code.Sort → ℕ
+sort_code Expression = 0
+sort_code String = 1
+sort_code Run = 2
+sort_code Object = 3
+sort_code Named = 4
+sort_code Param = 5
+sort_code Bind = 6
+sort_code Field = 7
+sort_code Assertion = 8
+sort_code Member = 9
+sort_code Iteration = 10
+sort_code IfClause = 11
+sort_code Clause = 12
+sort_code Pattern = 13
+sort_code NamePattern = 14
+sort_code PatternField = 15
+sort_code CompMember = COMP
 
 -- What a record is, by its tag.
 unfoldable pub sorts : List (Entry Sort)
@@ -270,6 +294,18 @@ unfoldable pub fine_by : ℕ → List ℕ → Bool
 unfolding look fines
 fine_by c v = look false c (fines v)
 
+-- Three groups of children, how many and of which sort, the text's kind and length, and whether the fields go together.
+pub record Question : Type 0 where
+  pub fine : Bool
+  pub n1 : ℕ
+  pub s1 : ℕ
+  pub n2 : ℕ
+  pub s2 : ℕ
+  pub n3 : ℕ
+  pub s3 : ℕ
+  pub text : ℕ
+  pub size : ℕ
+
 abbrev pub question : Bool → ℕ → ℕ → ℕ → ℕ → ℕ → ℕ → ℕ → ℕ → Question
 question fine n1 s1 n2 s2 n3 s3 text size = record { fine = fine; n1 = n1; s1 = s1; n2 = n2; s2 = s2; n3 = n3; s3 = s3; text = text; size = size }
 
@@ -281,6 +317,21 @@ decoded r v =
 unfoldable pub asks : ℕ → List ℕ → Question
 unfolding row_of count_by sort_by text_by fine_by
 asks tag v = decoded (row_of tag) v
+
+-- The same as the code has it: nothing is asked where the fields do not go together.
+abbrev pub text_code : Text → ℕ
+text_code Free = 0
+text_code Number = 1
+text_code Utf8Text = 2
+text_code Name = 3
+text_code Empty = 4
+
+abbrev pub coded : asked.Question → Question
+coded q = question true q.first.count (sort_code q.first.sort) q.second.count (sort_code q.second.sort) q.third.count (sort_code q.third.sort) (text_code q.text) q.size
+
+abbrev pub Asks : Question → Option asked.Question → Type 0
+Asks p (Some q) = coded q ≡ p
+Asks p None = p.fine ≡ false
 
 -- No span runs backward.
 abbrev pub onward : ℕ → Bool → Bool
@@ -304,9 +355,9 @@ pops array m zero = m
 pops array m (suc k) = pops array (get_or array ((m - 1) * 2 + 1) 0) k
 
 -- It ends there, if it does.
-pub data Lands (array : List ℕ) (from k : ℕ) : Roots → Type 0 where
-  at : {m : ℕ} → m ≡ pops array from k → Lands array from k (From m)
-  nowhere : Lands array from k Other
+pub data Lands (array : List ℕ) (from k : ℕ) : Option ℕ → Type 0 where
+  at : {m : ℕ} → m ≡ pops array from k → Lands array from k (Some m)
+  nowhere : Lands array from k None
 
 -- So many of them there are.
 pub record Open (bytes array : List ℕ) (n k : ℕ) : Type 0 where
@@ -328,9 +379,9 @@ pub data Group : ℕ → List ℕ → Type 0 where
   comp : {tags : List ℕ} → OneField tags → Group COMP tags
 
 -- The last n roots are such a group, and where the roots before them end; or they are none.
-pub data Walked (bytes array : List ℕ) (P : List ℕ → Type 0) (n : ℕ) (tags : List ℕ) : Roots → Type 0 where
-  from : {m : ℕ} → P (take n tags) → Chain bytes array m (drop n tags) → Walked bytes array P n tags (From m)
-  other : (P (take n tags) → ⊥) → Walked bytes array P n tags Other
+pub data Walked (bytes array : List ℕ) (P : List ℕ → Type 0) (n : ℕ) (tags : List ℕ) : Option ℕ → Type 0 where
+  from : {m : ℕ} → P (take n tags) → Chain bytes array m (drop n tags) → Walked bytes array P n tags (Some m)
+  other : (P (take n tags) → ⊥) → Walked bytes array P n tags None
 
 -- The last roots are the three groups, the last group first.
 pub record Fit (a : Question) (tags : List ℕ) : Type 0 where
@@ -341,9 +392,9 @@ pub record Fit (a : Question) (tags : List ℕ) : Type 0 where
 abbrev pub beyond : Question → List ℕ → List ℕ
 beyond a tags = drop a.n1 (drop a.n2 (drop a.n3 tags))
 
-pub data Fitted (bytes array : List ℕ) (a : Question) (tags : List ℕ) : Roots → Type 0 where
-  from : {m : ℕ} → Fit a tags → Chain bytes array m (beyond a tags) → Fitted bytes array a tags (From m)
-  other : (Fit a tags → ⊥) → Fitted bytes array a tags Other
+pub data Fitted (bytes array : List ℕ) (a : Question) (tags : List ℕ) : Option ℕ → Type 0 where
+  from : {m : ℕ} → Fit a tags → Chain bytes array m (beyond a tags) → Fitted bytes array a tags (Some m)
+  other : (Fit a tags → ⊥) → Fitted bytes array a tags None
 
 -- All that number 16 asks of a record whose bytes and children are there.
 pub record Checks (bytes : List ℕ) (tag end : ℕ) (values tags : List ℕ) : Type 0 where
@@ -352,9 +403,9 @@ pub record Checks (bytes : List ℕ) (tag end : ℕ) (values tags : List ℕ) : 
   pub worded : Worded (asks tag values).text (tail_part (asks tag values).size end bytes)
   pub fit : Fit (asks tag values) tags
 
-pub data Checked (bytes array : List ℕ) (tag end : ℕ) (values tags : List ℕ) : Roots → Type 0 where
-  from : {m : ℕ} → Checks bytes tag end values tags → Chain bytes array m (beyond (asks tag values) tags) → Checked bytes array tag end values tags (From m)
-  other : (Checks bytes tag end values tags → ⊥) → Checked bytes array tag end values tags Other
+pub data Checked (bytes array : List ℕ) (tag end : ℕ) (values tags : List ℕ) : Option ℕ → Type 0 where
+  from : {m : ℕ} → Checks bytes tag end values tags → Chain bytes array m (beyond (asks tag values) tags) → Checked bytes array tag end values tags (Some m)
+  other : (Checks bytes tag end values tags → ⊥) → Checked bytes array tag end values tags None
 
 -- ── One record more ───────────────────────────────────────────────────────────────────────────────
 
@@ -363,6 +414,11 @@ pub data Dating (ts : Trees) : ℕ → Type 0 where
   undated : ((age : Age) → Row age ts) → Dating ts 0
   is_old : Row old ts → (Row new ts → ⊥) → Dating ts 1
   is_new : Row new ts → (Row old ts → ⊥) → Dating ts 2
+
+abbrev pub age_code : Option ages.Age → ℕ
+age_code None = 0
+age_code (Some Old) = 1
+age_code (Some New) = 2
 
 -- The tags of the roots, the last one first, before those given.
 unfoldable pub roots : Trees → List ℕ → List ℕ
@@ -382,10 +438,10 @@ pub record State (bytes array : List ℕ) (at n standing age : ℕ) : Type 0 whe
   pub stored : array ≡ links 0 0 ts ++ rest
 
 -- Where a record's payload ends, by its length bytes.
-pub data Extends (bytes : List ℕ) (at : ℕ) : Extent → Type 0 where
-  end : at + 3 + two_at bytes (at + 1) ≤ length bytes → Extends bytes at (End (at + 3 + two_at bytes (at + 1)))
-  cut_header : length bytes < at + 3 → Extends bytes at Cut
-  cut_payload : at + 3 ≤ length bytes → length bytes < at + 3 + two_at bytes (at + 1) → Extends bytes at Cut
+pub data Extends (bytes : List ℕ) (at : ℕ) : Option ℕ → Type 0 where
+  end : at + 3 + two_at bytes (at + 1) ≤ length bytes → Extends bytes at (Some (at + 3 + two_at bytes (at + 1)))
+  cut_header : length bytes < at + 3 → Extends bytes at None
+  cut_payload : at + 3 ≤ length bytes → length bytes < at + 3 + two_at bytes (at + 1) → Extends bytes at None
 
 -- The kind of infix records with a record of this tag and length, and the layout's row by it.
 unfoldable pub dates : ℕ → ℕ → ℕ → ℕ
@@ -395,26 +451,25 @@ unfoldable pub dated_row : ℕ → ℕ → List ℕ
 dated_row tag age = cond (eqb tag INFIX) (cond (eqb age 1) (2 ∷ 28 ∷ replicate 5 0) (layout-numbers (layout_of tag))) (layout-numbers (layout_of tag))
 
 -- What becomes of the next record.
-pub data Stepped (bytes array : List ℕ) (at : ℕ) (ts : Trees) : Step → Type 0 where
-  next : {end first standing age : ℕ} (tag : ℕ) (fields : List Field) (us children : Trees) → ts ≡ us ⊕ children → drop at bytes ≡ entry tag fields ++ drop end bytes
-      → end ≡ at + length (entry tag fields) → first ≡ images.records us → standing ≡ count us + 1 → Dating (us ⊕ tree tag fields children) age
-      → Chain bytes array first (roots us []) → Stepped bytes array at ts (Next end first standing age)
-  unknown : layout_of (get_or bytes at 0) ≡ Layout.unknown → Stepped bytes array at ts Unknown
-  malformed : (layout_of (get_or bytes at 0) ≡ Layout.unknown → ⊥) → ((n : ℕ) → Stands ts (drop at bytes) (get_or bytes at 0) n → ⊥) → Stepped bytes array at ts Malformed
-  missing : {n : ℕ} → Stands ts (drop at bytes) (get_or bytes at 0) n → count ts < n → Stepped bytes array at ts Missing
-  underived : {n : ℕ} → Stands ts (drop at bytes) (get_or bytes at 0) n → n ≤ count ts → (More ts (drop at bytes) → ⊥) → Stepped bytes array at ts Underived
+pub data Stepped (bytes array : List ℕ) (at : ℕ) (ts : Trees) : Result Next Wrong → Type 0 where
+  next : {x : Next} (tag : ℕ) (fields : List trees.Field) (us children : Trees) → ts ≡ us ⊕ children → drop at bytes ≡ entry tag fields ++ drop x.end bytes
+      → x.end ≡ at + length (entry tag fields) → x.first ≡ images.records us → x.standing ≡ count us + 1 → Dating (us ⊕ tree tag fields children) (age_code x.age)
+      → Chain bytes array x.first (roots us []) → Stepped bytes array at ts (Ok x)
+  unknown : layout_of (get_or bytes at 0) ≡ Layout.unknown → Stepped bytes array at ts (Err Unknown)
+  malformed : (layout_of (get_or bytes at 0) ≡ Layout.unknown → ⊥) → ((n : ℕ) → Stands ts (drop at bytes) (get_or bytes at 0) n → ⊥) → Stepped bytes array at ts (Err Malformed)
+  missing : {n : ℕ} → Stands ts (drop at bytes) (get_or bytes at 0) n → count ts < n → Stepped bytes array at ts (Err Missing)
+  underived : {n : ℕ} → Stands ts (drop at bytes) (get_or bytes at 0) n → n ≤ count ts → (More ts (drop at bytes) → ⊥) → Stepped bytes array at ts (Err Underived)
 
 -- ── The whole walk ────────────────────────────────────────────────────────────────────────────────
 
 -- A refusal at an offset.
-pub data Ends : Step → ℕ → Answer → Type 0 where
-  unknown : {at : ℕ} → Ends Unknown at (Answer.Unknown at)
-  malformed : {at : ℕ} → Ends Malformed at (Answer.Malformed at)
-  missing : {at : ℕ} → Ends Missing at (Answer.Children at)
-  underived : {at : ℕ} → Ends Underived at (Answer.Underived at)
-  next : {at a b c d : ℕ} → Ends (Next a b c d) at (Answer.Underived at)
+abbrev pub refusal_at : Wrong → ℕ → Fault
+refusal_at Unknown offset = Fault.Unknown offset
+refusal_at Malformed offset = Fault.Malformed offset
+refusal_at Missing offset = Fault.Children offset
+refusal_at Underived offset = Fault.Underived offset
 
 -- The array begins with the links of a tree that is accepted; behind them, and where there is none, it holds whatever it holds then.
 pub data Whole (bytes : List ℕ) (room : ℕ) : Answer → List ℕ → Type 0 where
-  accepted : {t : Trees} {array : List ℕ} (rest : List ℕ) → Accepted bytes t → array ≡ links 0 0 t ++ rest → length array ≡ room → Whole bytes room (Answer.Tree (images.records t)) array
+  accepted : {t : Trees} {array : List ℕ} (rest : List ℕ) → Accepted bytes t → array ≡ links 0 0 t ++ rest → length array ≡ room → Whole bytes room (Ok (images.records t)) array
   refused : {b : Answer} {array : List ℕ} → length array ≡ room → Refused bytes b → Whole bytes room b array

@@ -1,8 +1,8 @@
 -- An answer in 02's numbers.
 -- Assumes nothing.
-use Rattle.std.specs.Prelude.{ℕ}
-use Rattle.images.specs.declared.Answer.{Answer}
-use Rattle.images.specs.declared.Answer.TheVariants.{Tree, Unknown, Malformed, Children, Underived, Short}
+use Rattle.std.specs.Prelude.{ℕ, Ok, Err}
+use Rattle.images.specs.declared.Fault.TheVariants.{Unknown, Malformed, Children, Underived, Short}
+use Rattle.images.specs.Images.{Answer}
 use Rattle.images.specs.declared.fields.Fields.{Fields}
 
 -- 02's number, the record's offset, the number of records, and for 24 the count of numbers that are needed. "Unused fields are 0."
@@ -15,12 +15,12 @@ abbrev pub refusal : ℕ → ℕ → Numbers
 refusal n a = record { number = n; offset = a; count = 0 }
 
 unfoldable pub numbers : Answer → Numbers
-numbers (Tree n) = record { number = 0; offset = 0; count = n }
-numbers (Unknown a) = refusal 13 a
-numbers (Malformed a) = refusal 14 a
-numbers (Children a) = refusal 15 a
-numbers (Underived a) = refusal 16 a
-numbers (Short n) = record { number = 24; offset = 0; count = n }
+numbers (Ok n) = record { number = 0; offset = 0; count = n }
+numbers (Err (Unknown a)) = refusal 13 a
+numbers (Err (Malformed a)) = refusal 14 a
+numbers (Err (Children a)) = refusal 15 a
+numbers (Err (Underived a)) = refusal 16 a
+numbers (Err (Short n)) = record { number = 24; offset = 0; count = n }
 
 -- The same three, as the code hands them back.
 abbrev pub answered : Fields → Numbers

@@ -2,7 +2,7 @@
 ghost use Rattle.std.specs.Prelude.{◌≡◌};
 ghost use Rattle.images.specs.Numbers.{numbers as numbers02, refusal as refusal02, answered};
 
-use crate::Answer;
+use crate::{Answer, Fault};
 
 // What a case does not use is 0.
 #[derive(Drop)]
@@ -22,20 +22,21 @@ fn refusal(number: u64, at: usize) -> Fields
     }
 }
 
+#[tactic(auto, unfolding(crate::specs::Numbers::numbers))]
 pub fn numbers(a: Answer) -> Fields
     ensures { answered result ≡ numbers02 a }
 {
     match a {
-        Answer::Tree(n) => Fields {
+        Ok(n) => Fields {
             number: 0,
             offset: 0,
             count: n as u64,
         },
-        Answer::Unknown(at) => refusal(13, at),
-        Answer::Malformed(at) => refusal(14, at),
-        Answer::Children(at) => refusal(15, at),
-        Answer::Underived(at) => refusal(16, at),
-        Answer::Short(n) => Fields {
+        Err(Fault::Unknown(at)) => refusal(13, at),
+        Err(Fault::Malformed(at)) => refusal(14, at),
+        Err(Fault::Children(at)) => refusal(15, at),
+        Err(Fault::Underived(at)) => refusal(16, at),
+        Err(Fault::Short(n)) => Fields {
             number: 24,
             offset: 0,
             count: n as u64,

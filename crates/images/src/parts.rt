@@ -1,20 +1,23 @@
 // A record's payload, taken apart by its layout: each part's value, and how many children the parts tell of.
-ghost use Rattle.std.specs.Prelude.{◌≡◌, ◌+◌, ◌*◌, ◌≤◌, ◌<◌, length, get_or, drop};
-ghost use Rattle.grammar.specs.Layout.{bits_in};
-ghost use Rattle.images.specs.Inner.{two_at, span_value, limit as limit-of, told_by, Gets, kids, Walks};
+ghost use Rattle.std.specs.Prelude.{◌≡◌, ◌+◌, ◌*◌, ◌≤◌, ◌<◌, ◌⊎◌, length, get_or, map, IfSome, MatchOption};
+ghost use Rattle.grammar.specs.Laid.{part_of};
+ghost use Rattle.grammar.specs.Layout.{bits_in, code};
+ghost use Rattle.images.specs.Images.{two_at};
+ghost use Rattle.images.specs.Inner.{span_value, Gives, padded, Walks};
 
 use grammar::layout::Part;
 
 // A part's value, the place after it, and the children that it tells of.
-#[derive(Drop)]
-pub enum Got {
-    Value(usize, usize, usize),
-    Wrong,
+#[derive(Clone, Copy)]
+pub struct Got {
+    pub value: usize,
+    pub next: usize,
+    pub children: usize,
 }
 
-#[derive(Drop)]
+// The values of all parts, zeros behind them, and the children that they tell of.
+#[derive(Clone, Copy)]
 pub struct Parts {
-    pub good: bool,
     pub children: usize,
     pub values: [usize; 6],
 }
@@ -22,20 +25,13 @@ pub struct Parts {
 // The value of a span that runs backward.
 pub const BACKWARD: usize = 131_072;
 
-pub(crate) fn wide(b: u8) -> usize
-    ensures { (result ≡ b) × (result ≤ 255) }
-{
-    b as usize
-}
-
 // The number of two bytes, the high one first.
-pub(crate) fn number(bytes: &[u8], at: usize) -> usize
+pub fn number(bytes: &[u8], at: usize) -> usize
     requires { at + 1 < length bytes.now }
-    ensures { (result ≡ two_at bytes.now at) × (result ≤ 65535) }
+    ensures value { result ≡ two_at bytes.now at }
+    ensures small { result ≤ 65535 }
 {
-    let high = wide(bytes[at]);
-    let low = wide(bytes[at + 1]);
-    high * 256 + low
+    usize::from(bytes[at]) * 256 + usize::from(bytes[at + 1])
 }
 
 fn span(bytes: &[u8], at: usize) -> usize
@@ -44,127 +40,81 @@ fn span(bytes: &[u8], at: usize) -> usize
 {
     let start = number(bytes, at);
     let end = number(bytes, at + 2);
-    if start <= end {
-        return start + end;
-    }
-    BACKWARD
+    if start <= end { start + end } else { BACKWARD }
 }
 
 // How many of its three parts a slice's byte has.
 pub(crate) fn bits(b: usize) -> usize
-    ensures { (result ≡ bits_in b) × (result ≤ 3) }
+    ensures value { result ≡ bits_in b }
+    ensures few { result ≤ 3 }
 {
     b % 2 + (b / 2 % 2 + b / 4 % 2)
 }
 
-fn limit(code: u8) -> usize
-    requires { 4 ≤ code }
-    ensures { result ≡ limit-of code }
-{
-    if 8 <= code {
-        return wide(code - 8);
-    }
-    if code == Part::HAS {
-        return 2;
-    }
-    if code == Part::BITS {
-        return 8;
-    }
-    0
-}
-
-fn told(code: u8, b: usize) -> usize
-    requires { b ≤ 255 }
-    ensures { (result ≡ told_by code b) × (result ≤ 255) }
-{
-    if 8 <= code {
-        return 0;
-    }
-    if code == Part::HAS {
-        return b;
-    }
-    if code == Part::BITS {
-        return bits(b);
-    }
-    0
-}
-
-fn byte_part(bytes: &[u8], at: usize, end: usize, code: u8) -> Got
-    requires { (at ≤ end) × (end ≤ length bytes.now) × (4 ≤ code) }
-    ensures { (Gets bytes.now at end code result) × (kids result ≤ 65535) }
+// The byte at a place, if it is there and below a limit.
+fn byte_below(bytes: &[u8], at: usize, end: usize, limit: usize) -> Option<usize>
+    requires { (at ≤ end) × (end ≤ length bytes.now) }
+    ensures { MatchOption result ((end ≤ at) ⊎ ((at < end) × (limit ≤ get_or bytes.now at 0))) (λ b. (at < end) × (b ≡ get_or bytes.now at 0) × (b < limit) × (b ≤ 255)) }
 {
     if end <= at {
-        return Got::Wrong;
+        return None;
     }
-    let b = wide(bytes[at]);
-    let most = limit(code);
-    if most <= b {
-        return Got::Wrong;
-    }
-    let n = told(code, b);
-    Got::Value(b, at + 1, n)
+    let b = usize::from(bytes[at]);
+    if b < limit { Some(b) } else { None }
 }
 
-// A part by its code.
-fn part(bytes: &[u8], at: usize, end: usize, code: u8) -> Got
-    requires { (at ≤ end) × (end ≤ length bytes.now) × (1 ≤ code) }
-    ensures { (Gets bytes.now at end code result) × (kids result ≤ 65535) }
+// A part, if the bytes from a place on have it.
+fn get(bytes: &[u8], at: usize, end: usize, part: Part) -> Option<Got>
+    requires { (at ≤ end) × (end ≤ length bytes.now) }
+    ensures { Gives bytes.now at end (code (part_of part)) result }
 {
     let left = end - at;
-    if code == Part::SPAN {
-        if left < 4 {
-            return Got::Wrong;
+    let (size, value, children) = match part {
+        Part::Span => {
+            if left < 4 {
+                return None;
+            }
+            (4, span(bytes, at), 0)
         }
-        let place = span(bytes, at);
-        return Got::Value(place, at + 4, 0);
-    }
-    if code == Part::TEXT {
-        return Got::Value(left, end, 0);
-    }
-    if code == Part::COUNT {
-        if left < 2 {
-            return Got::Wrong;
+        Part::Text => (left, left, 0),
+        Part::Count => {
+            if left < 2 {
+                return None;
+            }
+            let n = number(bytes, at);
+            (2, n, n)
         }
-        let n = number(bytes, at);
-        return Got::Value(n, at + 2, n);
-    }
-    byte_part(bytes, at, end, code)
+        Part::Has => {
+            let b = byte_below(bytes, at, end, 2)?;
+            (1, b, b)
+        }
+        Part::Bits => {
+            let b = byte_below(bytes, at, end, 8)?;
+            (1, b, bits(b))
+        }
+        Part::Below(limit) => (1, byte_below(bytes, at, end, usize::from(limit))?, 0),
+    };
+    Some(Got {
+        value,
+        next: at + size,
+        children,
+    })
 }
 
-// All the parts of a row of grammar::layout.
-pub(crate) fn taken(bytes: &[u8], from: usize, end: usize, row: [u8; 7]) -> Parts
-    requires { (from ≤ end) × (end ≤ length bytes.now) × (length row ≡ 7) }
-    ensures { (Walks bytes.now from end (drop 1 row) result) × (result.children ≤ 393210) }
+// All the parts of a payload, if it has them and nothing else.
+pub(crate) fn taken(bytes: &[u8], from: usize, end: usize, parts: &[Part]) -> Option<Parts>
+    requires { (from ≤ end) × (end ≤ length bytes.now) × (length parts.now ≤ 6) }
+    ensures walk { Walks bytes.now from end (padded (map part_of parts.now)) result }
+    ensures few { IfSome result (λ p. p.children ≤ 393210) }
 {
     let mut values = [0; 6];
     let mut at = from;
     let mut children = 0;
-    let mut i = 0;
-    while i < 6 {
-        let code = row[i + 1];
-        if code == Part::END {
-            return Parts {
-                good: at == end,
-                children: children,
-                values: values,
-            };
-        }
-        let got = part(bytes, at, end, code);
-        let Got::Value(value, next, n) = got else {
-            return Parts {
-                good: false,
-                children: children,
-                values: values,
-            };
-        };
-        values[i] = value;
-        children += n;
-        at = next;
-        i += 1;
+    for (i, part) in parts.iter().enumerate() {
+        let got = get(bytes, at, end, *part)?;
+        values[i] = got.value;
+        children += got.children;
+        at = got.next;
     }
-    Parts {
-        good: at == end,
-        children: children,
-        values: values,
-    }
+    (at == end).then_some(Parts { children, values })
 }

@@ -1,122 +1,108 @@
-// One record more: whether it can stand after those before it, and which roots are its children.
-ghost use Rattle.std.specs.Prelude.{◌≡◌, true, List, ℕ, ◌+◌, ◌-◌, ◌≤◌, ◌<◌, length, get_or};
-ghost use Rattle.grammar.specs.Layout.{numbers as Numbers-of};
+// One record more: its bytes, its children, and what it asks of them.
+ghost use Rattle.std.specs.Prelude.{◌≡◌, true, List, ℕ, ◌+◌, ◌-◌, ◌≤◌, ◌<◌, length, get_or, map, drop};
+ghost use Rattle.grammar.specs.Laid.{laid_out, part_of};
+ghost use Rattle.grammar.specs.Layout.{layout_of};
 ghost use Rattle.blocks.specs.Inside.{Says};
-ghost use Rattle.images.specs.Inner.{two_at, tail_part, Worded, Chain, Open, asks as asked_by, Lands, Checked, dates, dated_row, Extends, State, Stepped};
+ghost use Rattle.images.specs.Inner.{tail_part, padded, Worded, text_code, Chain, Open, asks as asked_by, Lands, Checked, dates, age_code, dated_row, Extends, State, Stepped};
 
 use crate::asks::{Text, asks, forward};
-use crate::parts::{number, taken, wide};
-use crate::roots::{Roots, fit};
+use crate::parts::{number, taken};
+use crate::roots::Records;
 use crate::texts::{is_name, is_number, is_utf8};
-use grammar::layout::{Part, layout};
+use grammar::layout::{Part, Row, layout};
 use grammar::tags::Tag;
 
-// Of a good record: where it ends, the first record of its tree, how many roots there are then, and the kind of infix records so far.
-#[derive(Drop)]
-pub enum Step {
-    Next(usize, usize, usize, u8),
+// Why no record can stand at a place.
+#[derive(Clone, Copy, Debug, PartialEq, Eq)]
+pub enum Wrong {
     Unknown,
     Malformed,
     Missing,
     Underived,
 }
 
+// Of a good record: where it ends, the first record of its tree, how many roots there are then, and the kind of infix records so far.
+#[derive(Clone, Copy)]
+pub struct Next {
+    pub end: usize,
+    pub first: usize,
+    pub standing: usize,
+    pub age: Option<Age>,
+}
+
+// The kind of infix records: old ones without the operator's span, new ones.
+#[derive(Clone, Copy, Debug, PartialEq, Eq)]
+pub enum Age {
+    Old,
+    New,
+}
+
 // Where the payload of a record ends, if it is there.
-#[derive(Drop)]
-pub enum Extent {
-    End(usize),
-    Cut,
-}
-
-// The kind of infix records: none seen yet, old ones without the operator's span, new ones.
-#[derive(Drop)]
-pub struct Age {
-    pub code: u8,
-}
-
-impl Age {
-    pub const NONE: u8 = 0;
-
-    pub const OLD: u8 = 1;
-
-    pub const NEW: u8 = 2;
-}
-
-fn payload_end(bytes: &[u8], at: usize) -> Extent
+fn payload_end(bytes: &[u8], at: usize) -> Option<usize>
     requires { at < length bytes.now }
     ensures { Extends bytes.now at result }
 {
     let left = bytes.len() - at;
     if left < 3 {
-        return Extent::Cut;
+        return None;
     }
     let size = number(bytes, at + 1);
     if left - 3 < size {
-        return Extent::Cut;
+        return None;
     }
-    Extent::End(at + 3 + size)
+    Some(at + 3 + size)
 }
 
 // The kind of infix records with this one: the first of them decides.
-fn aged(tag: u8, size: usize, age: u8) -> u8
-    ensures { result ≡ dates tag size age }
+fn aged(tag: u8, size: usize, age: Option<Age>) -> Option<Age>
+    ensures { age_code result ≡ dates tag size (age_code age) }
 {
     if tag != Tag::INFIX {
         return age;
     }
-    if age != Age::NONE {
-        return age;
-    }
-    if size == 1 {
-        return Age::OLD;
-    }
-    Age::NEW
+    age.or(Some(if size == 1 { Age::Old } else { Age::New }))
 }
 
-fn row(tag: u8, age: u8) -> [u8; 7]
-    ensures { result ≡ dated_row tag age }
+// The parts of a record: an old infix record has the operator alone.
+fn parts(tag: u8, row: Row, age: Option<Age>) -> &'static [Part]
+    requires { laid_out (Some row) ≡ layout_of tag }
+    ensures { padded (map part_of result.now) ≡ drop 1 (dated_row tag (age_code age)) }
 {
-    if tag != Tag::INFIX {
-        return layout(tag);
+    if tag == Tag::INFIX && age == Some(Age::Old) {
+        &[Part::Below(20)]
+    } else {
+        row.parts
     }
-    if age == Age::OLD {
-        return [2, Part::OPERATOR, 0, 0, 0, 0, 0];
-    }
-    layout(tag)
 }
 
 // Whether the text at the end of a payload is of a kind.
-fn worded(bytes: &[u8], end: usize, text: u8, size: usize) -> bool
+fn worded(bytes: &[u8], end: usize, text: Text, size: usize) -> bool
     requires { (size ≤ end) × (end ≤ length bytes.now) }
-    ensures { Says (Worded text (tail_part size end bytes.now)) result }
+    ensures { Says (Worded (text_code text) (tail_part size end bytes.now)) result }
 {
-    let from = end - size;
+    let words = &bytes[end - size..end];
     match text {
-        Text::FREE => true,
-        Text::NUMBER => is_number(&bytes[from..end]),
-        Text::UTF8 => is_utf8(&bytes[from..end]),
-        Text::NAME => is_name(&bytes[from..end]),
-        Text::EMPTY => size == 0,
-        _ => false,
+        Text::Free => true,
+        Text::Number => is_number(words),
+        Text::Utf8 => is_utf8(words),
+        Text::Name => is_name(words),
+        Text::Empty => words.is_empty(),
     }
 }
 
-// Whether a record whose bytes and children are there is one that some derivation gives, and where its children begin.
-fn checked(bytes: &[u8], links: &[usize], tag: u8, end: usize, v: [usize; 6], from: usize) -> Roots
-    requires { ((asked_by tag v).fine ≡ true → Open bytes.now links.now from ((asked_by tag v).n3 + (asked_by tag v).n2 + (asked_by tag v).n1)) × ((asked_by tag v).size ≤ end) × (end ≤ length bytes.now) }
-    ensures { ((tags : List ℕ) → Chain bytes.now links.now from tags → ((asked_by tag v).fine ≡ true → (asked_by tag v).n3 + (asked_by tag v).n2 + (asked_by tag v).n1 ≤ length tags) → Checked bytes.now links.now tag end v tags result) × Lands links.now from ((asked_by tag v).n3 + ((asked_by tag v).n2 + (asked_by tag v).n1)) result }
+// Where the children begin of a record whose bytes and children are there, if some derivation gives such a record.
+fn checked(records: Records<'_>, tag: u8, end: usize, v: [usize; 6], from: usize) -> Option<usize>
+    requires { ((asked_by tag v).fine ≡ true → Open records.bytes.now records.links.now from ((asked_by tag v).n3 + (asked_by tag v).n2 + (asked_by tag v).n1)) × ((asked_by tag v).size ≤ end) × (end ≤ length records.bytes.now) }
+    ensures { ((tags : List ℕ) → Chain records.entry.bytes.now records.entry.links.now from tags → ((asked_by tag v).fine ≡ true → (asked_by tag v).n3 + (asked_by tag v).n2 + (asked_by tag v).n1 ≤ length tags) → Checked records.entry.bytes.now records.entry.links.now tag end v tags result) × Lands records.entry.links.now from ((asked_by tag v).n3 + ((asked_by tag v).n2 + (asked_by tag v).n1)) result }
 {
     if !forward(v) {
-        return Roots::Other;
+        return None;
     }
-    let a = asks(tag, v);
-    if !a.fine {
-        return Roots::Other;
+    let asked = asks(tag, v)?;
+    if !worded(records.bytes, end, asked.text, asked.size) {
+        return None;
     }
-    if !worded(bytes, end, a.text, a.size) {
-        return Roots::Other;
-    }
-    fit(bytes, links, from, a)
+    records.fit(from, asked)
 }
 
 // The record at a place, after so many records and so many roots.
@@ -126,33 +112,26 @@ pub(crate) fn record(
     at: usize,
     n: usize,
     standing: usize,
-    age: u8,
-) -> Step
-    requires { (State bytes.now links.now at n standing age) × (at < length bytes.now) }
-    ensures { (s : State bytes.now links.now at n standing age) → Stepped bytes.now links.now at s.ts result }
+    age: Option<Age>,
+) -> Result<Next, Wrong>
+    requires { (State bytes.now links.now at n standing (age_code age)) × (at < length bytes.now) }
+    ensures { (s : State bytes.now links.now at n standing (age_code age)) → Stepped bytes.now links.now at s.ts result }
 {
     let tag = bytes[at];
-    let own = layout(tag);
-    if own[0] == Part::UNKNOWN {
-        return Step::Unknown;
-    }
-    let place = payload_end(bytes, at);
-    let Extent::End(end) = place else {
-        return Step::Malformed;
-    };
-    let kind = aged(tag, end - at - 3, age);
-    let p = taken(bytes, at + 3, end, row(tag, kind));
-    if !p.good {
-        return Step::Malformed;
-    }
-    let children = wide(own[0]) + p.children;
+    let row = layout(tag).ok_or(Wrong::Unknown)?;
+    let end = payload_end(bytes, at).ok_or(Wrong::Malformed)?;
+    let age = aged(tag, end - at - 3, age);
+    let found = taken(bytes, at + 3, end, parts(tag, row, age)).ok_or(Wrong::Malformed)?;
+    let children = row.children + found.children;
     if standing < children {
-        return Step::Missing;
+        return Err(Wrong::Missing);
     }
-    let values = p.values;
-    let found = checked(bytes, links, tag, end, values, n);
-    let Roots::From(first) = found else {
-        return Step::Underived;
-    };
-    Step::Next(end, first, standing - children + 1, kind)
+    let records = Records { bytes, links };
+    let first = checked(records, tag, end, found.values, n).ok_or(Wrong::Underived)?;
+    Ok(Next {
+        end,
+        first,
+        standing: standing - children + 1,
+        age,
+    })
 }

@@ -1,82 +1,88 @@
 // The row of open roots, found in the lent array: the last root is the last record, and before the first record of its tree stands the next.
-ghost use Rattle.std.specs.Prelude.{◌+◌, List, ℕ, ◌≤◌, length};
-ghost use Rattle.images.specs.Inner.{Chain, Open, Each, OneField, Group, Lands, Walked, Fitted};
+ghost use Rattle.std.specs.Prelude.{◌≡◌, ◌+◌, ◌*◌, List, ℕ, ◌<◌, ◌≤◌, length, get_or};
+ghost use Rattle.images.specs.Inner.{Chain, Open, Each, OneField, Group as GroupOf, Lands, Walked, Fitted, coded, sort_code};
 
-use crate::asks::Question;
+use crate::asks::{Group, Question};
 use crate::sorts::{Sort, is};
 use grammar::tags::Tag;
 
-// Where the roots before some others end: their number of records.
-#[derive(Drop)]
-pub enum Roots {
-    From(usize),
-    Other,
+// The records so far: the image, and two numbers for each record, its offset and the first record of its own tree. Where the last roots are sought, the
+// answer is the number of records before them.
+#[derive(Clone, Copy)]
+pub struct Records<'a> {
+    pub bytes: &'a [u8],
+    pub links: &'a [usize],
 }
 
-// The last n roots from a record on back, each of a sort.
-fn each(bytes: &[u8], links: &[usize], from: usize, n: usize, sort: u8) -> Roots
-    requires { Open bytes.now links.now from n }
-    ensures { ((tags : List ℕ) → Chain bytes.now links.now from tags → n ≤ length tags → Walked bytes.now links.now (Each sort) n tags result) × Lands links.now from n result }
-{
-    let mut m = from;
-    let mut left = n;
-    while left > 0 {
-        let last = m - 1;
-        let at = links[last * 2];
-        if !is(bytes[at], sort) {
-            return Roots::Other;
-        }
-        m = links[last * 2 + 1];
-        left -= 1;
+impl Records<'_> {
+    // The tag of a record.
+    fn tag(self, n: usize) -> u8
+        requires linked { n * 2 + 1 < length self.links.now }
+        requires inside { get_or self.links.now (n * 2) 0 < length self.bytes.now }
+        ensures { result ≡ get_or self.entry.bytes.now (get_or self.entry.links.now (n * 2) 0) 0 }
+    {
+        self.bytes[self.links[n * 2]]
     }
-    Roots::From(m)
-}
 
-// The last n roots, one a field and the others binds.
-fn one_field(bytes: &[u8], links: &[usize], from: usize, n: usize) -> Roots
-    requires { Open bytes.now links.now from n }
-    ensures { ((tags : List ℕ) → Chain bytes.now links.now from tags → n ≤ length tags → Walked bytes.now links.now OneField n tags result) × Lands links.now from n result }
-{
-    let mut m = from;
-    let mut left = n;
-    while left > 0 {
-        let last = m - 1;
-        let at = links[last * 2];
-        let tag = bytes[at];
-        m = links[last * 2 + 1];
-        left -= 1;
-        if tag == Tag::FIELD {
-            return each(bytes, links, m, left, Sort::BIND);
-        }
-        if !is(tag, Sort::BIND) {
-            return Roots::Other;
-        }
+    // The first record of a record's tree.
+    fn first(self, n: usize) -> usize
+        requires { n * 2 + 1 < length self.links.now }
+        ensures { result ≡ get_or self.entry.links.now (n * 2 + 1) 0 }
+    {
+        self.links[n * 2 + 1]
     }
-    Roots::Other
-}
 
-fn group(bytes: &[u8], links: &[usize], from: usize, n: usize, sort: u8) -> Roots
-    requires { Open bytes.now links.now from n }
-    ensures { ((tags : List ℕ) → Chain bytes.now links.now from tags → n ≤ length tags → Walked bytes.now links.now (Group sort) n tags result) × Lands links.now from n result }
-{
-    if sort == Sort::COMP_MEMBER {
-        return one_field(bytes, links, from, n);
+    // The last n roots, each of a sort.
+    fn each(self, from: usize, n: usize, sort: Sort) -> Option<usize>
+        requires { Open self.bytes.now self.links.now from n }
+        ensures { ((tags : List ℕ) → Chain self.entry.bytes.now self.entry.links.now from tags → n ≤ length tags → Walked self.entry.bytes.now self.entry.links.now (Each (sort_code sort)) n tags result) × Lands self.entry.links.now from n result }
+    {
+        let mut m = from;
+        for _left in (0..n).rev() {
+            if !is(self.tag(m - 1), sort) {
+                return None;
+            }
+            m = self.first(m - 1);
+        }
+        Some(m)
     }
-    each(bytes, links, from, n, sort)
-}
 
-// The three groups that a record asks for, the last one first.
-pub(crate) fn fit(bytes: &[u8], links: &[usize], from: usize, a: Question) -> Roots
-    requires { Open bytes.now links.now from (a.n3 + a.n2 + a.n1) }
-    ensures { ((tags : List ℕ) → Chain bytes.now links.now from tags → a.n3 + a.n2 + a.n1 ≤ length tags → Fitted bytes.now links.now a tags result) × Lands links.now from (a.n3 + (a.n2 + a.n1)) result }
-{
-    let third = group(bytes, links, from, a.n3, a.s3);
-    let Roots::From(k) = third else {
-        return third;
-    };
-    let second = group(bytes, links, k, a.n2, a.s2);
-    let Roots::From(l) = second else {
-        return second;
-    };
-    group(bytes, links, l, a.n1, a.s1)
+    // The last n roots, one a field and the others binds.
+    fn one_field(self, from: usize, n: usize) -> Option<usize>
+        requires { Open self.bytes.now self.links.now from n }
+        ensures { ((tags : List ℕ) → Chain self.entry.bytes.now self.entry.links.now from tags → n ≤ length tags → Walked self.entry.bytes.now self.entry.links.now OneField n tags result) × Lands self.entry.links.now from n result }
+    {
+        let mut m = from;
+        for left in (0..n).rev() {
+            let tag = self.tag(m - 1);
+            m = self.first(m - 1);
+            if tag == Tag::FIELD {
+                return self.each(m, left, Sort::Bind);
+            }
+            if !is(tag, Sort::Bind) {
+                return None;
+            }
+        }
+        None
+    }
+
+    fn group(self, from: usize, group: Group) -> Option<usize>
+        requires { Open self.bytes.now self.links.now from group.count }
+        ensures { ((tags : List ℕ) → Chain self.entry.bytes.now self.entry.links.now from tags → group.count ≤ length tags → Walked self.entry.bytes.now self.entry.links.now (GroupOf (sort_code group.sort)) group.count tags result) × Lands self.entry.links.now from group.count result }
+    {
+        if group.sort == Sort::CompMember {
+            return self.one_field(from, group.count);
+        }
+        self.each(from, group.count, group.sort)
+    }
+
+    // The three groups that a record asks for, the last one first.
+    pub(crate) fn fit(self, from: usize, asked: Question) -> Option<usize>
+        requires { Open self.bytes.now self.links.now from ((coded asked).n3 + (coded asked).n2 + (coded asked).n1) }
+        ensures { ((tags : List ℕ) → Chain self.entry.bytes.now self.entry.links.now from tags → (coded asked).n3 + (coded asked).n2 + (coded asked).n1 ≤ length tags → Fitted self.entry.bytes.now self.entry.links.now (coded asked) tags result) × Lands self.entry.links.now from ((coded asked).n3 + ((coded asked).n2 + (coded asked).n1)) result }
+    {
+        let second = self.group(from, asked.third)?;
+        let first = self.group(second, asked.second)?;
+        self.group(first, asked.first)
+    }
 }

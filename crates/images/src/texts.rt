@@ -1,114 +1,64 @@
 // The texts of records: whether a name is one, a number, and UTF-8.
 ghost use Rattle.std.specs.Prelude.{◌≡◌, drop};
+ghost use Rattle.std.specs.List.{list_all};
 ghost use Rattle.regexes.specs.Regex.{in_class};
 ghost use Rattle.strings.specs.Utf8.{Utf8};
 ghost use Rattle.lexemes.specs.Rules.{alpha, alnum};
 ghost use Rattle.lexemes.specs.Texts.{Numeral, Exponent, is_digit, is_e, is_sign};
 ghost use Rattle.grammar.specs.Words.{NameText, NumberText};
 ghost use Rattle.blocks.specs.Inside.{Says};
-ghost use Rattle.images.specs.Inner.{Digits, Some, Tail};
+ghost use Rattle.images.specs.Inner.{Digits, SomeDigits, Tail};
 
 use lexemes::words;
 use strings::utf8;
 
-// A byte of `[_a-zA-Z]`. Small letters, of which most names are, come first.
+// A byte of `[_a-zA-Z]`.
 fn is_alpha(b: u8) -> bool
     ensures { result ≡ in_class alpha b }
 {
-    if b'a' <= b {
-        if b'z' < b {
-            return false;
-        }
-        return true;
-    }
-    if b < b'A' {
-        return false;
-    }
-    if b <= b'Z' {
-        return true;
-    }
-    if b < b'_' {
-        return false;
-    }
-    if b == b'_' {
-        return true;
-    }
-    false
+    matches!(b, b'a'..=b'z' | b'A'..=b'Z' | b'_')
 }
 
 // A byte of `[_a-zA-Z0-9]`.
 fn is_alnum(b: u8) -> bool
     ensures { result ≡ in_class alnum b }
 {
-    if b < b'0' {
-        return false;
-    }
-    if b <= b'9' {
-        return true;
-    }
-    if is_alpha(b) {
-        return true;
-    }
-    false
+    is_alpha(b) || is_digit(b)
+}
+
+// Whether a text is letters and digits.
+fn is_word(text: &[u8]) -> bool
+    ensures { result ≡ list_all (in_class alnum) text.now }
+{
+    text.iter().all(|b| is_alnum(*b))
 }
 
 // A name: an identifier and no keyword.
 pub(crate) fn is_name(text: &[u8]) -> bool
     ensures { Says (NameText text.now) result }
 {
-    if text.len() == 0 {
-        return false;
+    match text {
+        [first, rest @ ..] => is_alpha(*first) && is_word(rest) && !words::is_keyword(text),
+        [] => false,
     }
-    if !is_alpha(text[0]) {
-        return false;
-    }
-    let mut i = 1;
-    while i < text.len() {
-        if !is_alnum(text[i]) {
-            return false;
-        }
-        i += 1;
-    }
-    if words::is_keyword(text) {
-        return false;
-    }
-    true
 }
 
 fn is_digit(b: u8) -> bool
     ensures { result ≡ is_digit b }
 {
-    if b < b'0' {
-        return false;
-    }
-    if b'9' < b {
-        return false;
-    }
-    true
+    matches!(b, b'0'..=b'9')
 }
 
 fn is_sign(b: u8) -> bool
     ensures { result ≡ is_sign b }
 {
-    if b == b'+' {
-        return true;
-    }
-    if b == b'-' {
-        return true;
-    }
-    false
+    matches!(b, b'+' | b'-')
 }
 
 fn is_e(b: u8) -> bool
     ensures { result ≡ is_e b }
 {
-    if b == b'e' {
-        return true;
-    }
-    if b == b'E' {
-        return true;
-    }
-    false
+    matches!(b, b'e' | b'E')
 }
 
 // The end of the digits from i on.
@@ -127,7 +77,7 @@ fn digits(text: &[u8], i: usize) -> usize
 
 // Whether digits stand from i on to the end, at least one.
 fn is_digits(text: &[u8], i: usize) -> bool
-    ensures { Says (Some (drop i text.now)) result }
+    ensures { Says (SomeDigits (drop i text.now)) result }
 {
     let end = digits(text, i);
     if end == i {
@@ -196,20 +146,11 @@ fn is_numeral(text: &[u8]) -> bool
 pub(crate) fn is_number(text: &[u8]) -> bool
     ensures { Says (NumberText text.now) result }
 {
-    if !is_numeral(text) {
-        return false;
-    }
-    if numerals::too_large(text) {
-        return false;
-    }
-    true
+    is_numeral(text) && !numerals::too_large(text)
 }
 
 pub(crate) fn is_utf8(text: &[u8]) -> bool
     ensures { Says (Utf8 text.now) result }
 {
-    if utf8::valid_to(text) < text.len() {
-        return false;
-    }
-    true
+    utf8::valid_to(text) >= text.len()
 }

@@ -6,13 +6,13 @@ use Prim.Native.Nat.{ℕ, ◌*◌, ◌/◌, ◌≤◌, ◌<◌}
 use native.Mathlib.Omega.{arith}
 use lib.ListN.{length, replicate, length-replicate}
 use Rattle.images.specs.Images.{Refused, needed, ReadsBack}
-use Rattle.images.specs.Numbers as in-numbers
-use Rattle.images.specs.declared.Answer as images
-use Rattle.images.specs.declared.Answer.TheVariants.{Tree}
-use Rattle.images.specs.declared.Answer.TheVariants as back
-use Rattle.mass.specs.declared.Answer.{Answer}
-use Rattle.mass.specs.declared.Answer.TheVariants.{Listed, ListShort, Short}
-use Rattle.mass.specs.Mass.{Kept, Answers, MassDepth}
+use Rattle.images.specs.declared.Fault as images
+use Rattle.images.specs.declared.Fault.TheVariants as back
+use Rattle.mass.specs.declared.Fault.TheVariants.{Image, ListShort}
+use Rattle.std.proofs.Common.{Ok, Err}
+use Rattle.mass.specs.Mass.{Answer, Answers, MassDepth}
+use Rattle.images.specs.Numbers as in-images
+use Rattle.mass.specs.Numbers as in-numbers
 use Rattle.mass.specs.Inner.{SomeGiven, Fills}
 
 pub zeros_length : {list : List ℕ} (n : ℕ) → list ≡ replicate n 0 → length list ≡ n
@@ -28,55 +28,47 @@ lengths_as {bytes} {array} {list} {room} {m} {size} {k} {a} e f x =
 -- ── A tree ────────────────────────────────────────────────────────────────────────────────────────
 
 module _ {bytes array : List ℕ} {n size count : ℕ} {list : List ℕ} (room : ℕ) (h : needed bytes ≤ room) (o : SomeGiven bytes array n) (f : Fills bytes array n size count list) where
-  pub answers_short : {after : List ℕ} → length list / 4 < count → after ≡ replicate (length list) 0 → Answers bytes room size (ListShort count) after
+  pub answers_short : {after : List ℕ} → length list / 4 < count → after ≡ replicate (length list) 0 → Answers bytes room size (Err (ListShort count)) after
   answers_short {after} l e =
       let x = f.each o.t o.given in
       let s : size < 4 * length x.ls = omega (arith, x.counted, x.long) in
-      subst (λ (k : ℕ). Answers bytes room size (ListShort k) after) (sym x.counted)
-      (subst (λ (w : List ℕ). Answers bytes room size (ListShort (length x.ls)) w) (sym (e ∙ ap (λ (i : ℕ). replicate {A = ℕ} i 0) x.long))
+      subst (λ (k : ℕ). Answers bytes room size (Err (ListShort k)) after) (sym x.counted)
+      (subst (λ (w : List ℕ). Answers bytes room size (Err (ListShort (length x.ls))) w) (sym (e ∙ ap (λ (i : ℕ). replicate {A = ℕ} i 0) x.long))
       (Answers.list_short h o.given.accepted x.planned s))
 
-  pub answers_listed : count ≤ length list / 4 → Answers bytes room size (Listed count) list
+  pub answers_listed : count ≤ length list / 4 → Answers bytes room size (Ok count) list
   answers_listed l =
       let x = f.each o.t o.given in
       let s : 4 * length x.ls ≤ size = omega (arith, x.counted, x.long) in
-      subst (λ (k : ℕ). Answers bytes room size (Listed k) list) (sym x.counted)
-      (subst (λ (w : List ℕ). Answers bytes room size (Listed (length x.ls)) w) (sym (x.filled s)) (Answers.listed h o.given.accepted x.planned s))
+      subst (λ (k : ℕ). Answers bytes room size (Ok k) list) (sym x.counted)
+      (subst (λ (w : List ℕ). Answers bytes room size (Ok (length x.ls)) w) (sym (x.filled s)) (Answers.listed h o.given.accepted x.planned s))
 
 -- ── What `back` says ──────────────────────────────────────────────────────────────────────────────
 
-refused_number : {bytes : List ℕ} {a : images.Answer} → Refused bytes a → (12 < (in-numbers.numbers a).number) × ((in-numbers.numbers a).number < 17)
-unfolding in-numbers.numbers
-refused_number (Refused.unknown b e) = (omega arith, omega arith)
-refused_number (Refused.malformed b k n) = (omega arith, omega arith)
-refused_number (Refused.missing b x l) = (omega arith, omega arith)
-refused_number (Refused.underived b x l n) = (omega arith, omega arith)
-refused_number (Refused.left_over b n) = (omega arith, omega arith)
-refused_number (Refused.lone_root b n) = (omega arith, omega arith)
+never_tree : {bytes : List ℕ} {n : ℕ} → Refused bytes (Ok n) → ⊥
+never_tree x = elim x [ ]
 
-pub reads_as : {bytes array : List ℕ} {room : ℕ} {a b : images.Answer} → a ≡ b → ReadsBack bytes room a array → ReadsBack bytes room b array
-reads_as {bytes} {array} {room} e x = subst (λ (c : images.Answer). ReadsBack bytes room c array) e x
-
-pub tree_given : {bytes array : List ℕ} {room n : ℕ} → ReadsBack bytes room (Tree n) array → (needed bytes ≤ room) × SomeGiven bytes array n
-unfolding in-numbers.numbers
+pub tree_given : {bytes array : List ℕ} {room n : ℕ} → ReadsBack bytes room (Ok n) array → (needed bytes ≤ room) × SomeGiven bytes array n
 tree_given {bytes} {array} {room} {n} x = by room n array x
   where
-    by : (room n : ℕ) (array : List ℕ) → ReadsBack bytes room (Tree n) array → (needed bytes ≤ room) × SomeGiven bytes array n
+    by : (room n : ℕ) (array : List ℕ) → ReadsBack bytes room (Ok n) array → (needed bytes ≤ room) × SomeGiven bytes array n
     by room n array (ReadsBack.accepted {t} h a) = (h, record { t = t; given = record { accepted = a; rest = _; linked = refl; many = refl } })
-    by room n array (ReadsBack.refused h r) = absurd (omega (arith, refused_number r))
+    by room n array (ReadsBack.refused h r) = absurd (never_tree r)
 
 -- A refusal of Item 1, as it is.
-pub kept : {bytes array list : List ℕ} {room size : ℕ} {b : images.Answer} {a : Answer} → ReadsBack bytes room b array → Kept b a → list ≡ replicate size 0 → MassDepth bytes room size a array list
-kept {bytes} {array} {list} {room} {size} {b} {a} x k e = by room b array x k
+pub kept : {bytes array list : List ℕ} {room size : ℕ} {f : images.Fault} → ReadsBack bytes room (Err f) array → list ≡ replicate size 0 → MassDepth bytes room size (Err (Image f)) array list
+kept {bytes} {array} {list} {room} {size} {f} x e = by room f array x
   where
-    by : (room : ℕ) (b : images.Answer) (array : List ℕ) → ReadsBack bytes room b array → Kept b a → MassDepth bytes room size a array list
-    by room b array (ReadsBack.short h) k = elim k [ ]
-    by room b array (ReadsBack.accepted h r) k = elim k [ ]
-    by room b array (ReadsBack.refused h r) k =
-        record { answers = subst (λ (l : List ℕ). Answers bytes room size a l) (sym e) (Answers.refused h r k); zeros = refl }
+    by : (room : ℕ) (f : images.Fault) (array : List ℕ) → ReadsBack bytes room (Err f) array → MassDepth bytes room size (Err (Image f)) array list
+    by room f array (ReadsBack.short h) =
+        record { answers = subst (λ (l : List ℕ). Answers bytes room size (Err (Image (back.Short (needed bytes)))) l) (sym e) (Answers.short h); zeros = refl }
+    by room f array (ReadsBack.refused h r) = record { answers = subst (λ (l : List ℕ). Answers bytes room size (Err (Image f)) l) (sym e) (Answers.refused h r); zeros = refl }
 
-pub kept_short : {bytes array list : List ℕ} {room size n : ℕ} → ReadsBack bytes room (back.Short n) array → list ≡ replicate size 0 → MassDepth bytes room size (Short n) array list
-unfolding in-numbers.numbers
-kept_short {bytes} {room = room} {size} (ReadsBack.short h) e =
-    record { answers = subst (λ (l : List ℕ). Answers bytes room size (Short (needed bytes)) l) (sym e) (Answers.short h); zeros = refl }
-kept_short (ReadsBack.refused h r) e = absurd (omega (arith, refused_number r))
+-- A refusal of Item 1 has the numbers that `images` gives it.
+pub image_numbers : (f : images.Fault) → in-images.numbers (Err f) ≡ in-numbers.numbers (Err (Image f))
+unfolding in-images.numbers in-numbers.numbers
+image_numbers (back.Unknown a) = refl
+image_numbers (back.Malformed a) = refl
+image_numbers (back.Children a) = refl
+image_numbers (back.Underived a) = refl
+image_numbers (back.Short n) = refl

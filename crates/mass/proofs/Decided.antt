@@ -15,6 +15,9 @@ use Rattle.grammar.specs.Trees as trees
 use Rattle.grammar.specs.Records.{Sort, Spans, Obeys}
 use Rattle.images.specs.Images.{Age, dated, dated_trees}
 use Rattle.mass.specs.Mass.{MASS, DEPTH, FixedPlus, ComputedPlus, Raises, Leaves, Undecided}
+use Rattle.std.proofs.Common.{Option, None, Some}
+use Rattle.mass.specs.declared.members.Added.{Added}
+use Rattle.mass.specs.declared.members.Added.TheVariants.{Mass, Depth, Computed}
 use Rattle.mass.specs.Inner.{Calls, Adds}
 use Rattle.mass.proofs.FieldLaws.{Shape, root_shape, called, no_field, fixed_byte, computed_byte, computed_at}
 use Rattle.mass.proofs.MemberLaws.{leaves_more, undecided_less, not_computed, not_other, raises_some, undecided_some}
@@ -40,24 +43,24 @@ words_told (x ∷ xs) (y ∷ ys) = both (numbers_told x y) (words_told xs ys)
     both (inr n) f = inr (λ q. n (ap (λ (l : List ℕ). get_or l 0 0) q))
     both (inl e) (inr n) = inr (λ q. n (ap (λ (l : List ℕ). drop 1 l) q))
 
-name_told : (w : List ℕ) → (k : ℕ) × Calls w k
+name_told : (w : List ℕ) → (k : Option Added) × Calls w k
 name_told w = by (words_told w MASS) (words_told w DEPTH)
   where
-    by : Either (w ≡ MASS) → Either (w ≡ DEPTH) → (k : ℕ) × Calls w k
-    by (inl e) x = (1, Calls.mass e)
-    by (inr n) (inl e) = (2, Calls.depth e)
-    by (inr n) (inr m) = (0, Calls.other n m)
+    by : Either (w ≡ MASS) → Either (w ≡ DEPTH) → (k : Option Added) × Calls w k
+    by (inl e) x = (Some Mass, Calls.mass e)
+    by (inr n) (inl e) = (Some Depth, Calls.depth e)
+    by (inr n) (inr m) = (None, Calls.other n m)
 
-shape_told : {fields : List Field} {cs : Trees} → Shape fields cs → (k : ℕ) × Adds FIELD fields cs k
-shape_told (Shape.fixed {p = p} {w = w}) = ⊎_elim (λ e. let c = name_told w in (c.0, called e c.0 c.1)) (λ n. (0, Adds.nothing (λ b f x. n (fixed_byte x)) (λ b f x. n (fixed_byte x)) (λ x. n (computed_byte x)))) (numbers_told p 1)
-shape_told (Shape.computed {p = p}) = ⊎_elim (λ e. (3, Adds.computed (computed_at refl e))) (λ n. (0, Adds.nothing (λ b f x. n (fixed_byte x)) (λ b f x. n (fixed_byte x)) (λ x. n (computed_byte x)))) (numbers_told p 1)
+shape_told : {fields : List Field} {cs : Trees} → Shape fields cs → (k : Option Added) × Adds FIELD fields cs k
+shape_told (Shape.fixed {p = p} {w = w}) = ⊎_elim (λ e. let c = name_told w in (c.0, called e c.0 c.1)) (λ n. (None, Adds.nothing (λ b f x. n (fixed_byte x)) (λ b f x. n (fixed_byte x)) (λ x. n (computed_byte x)))) (numbers_told p 1)
+shape_told (Shape.computed {p = p}) = ⊎_elim (λ e. (Some Computed, Adds.computed (computed_at refl e))) (λ n. (None, Adds.nothing (λ b f x. n (fixed_byte x)) (λ b f x. n (fixed_byte x)) (λ x. n (computed_byte x)))) (numbers_told p 1)
 
 -- What one member adds.
 member_told : (age : Age) (tag : ℕ) (fields : List Field) (cs : Trees) {σs : List Sort} {us : Trees} → Obeys Spans.forward σs (node tag (dated age tag fields) (dated_trees age cs) us)
-    → (k : ℕ) × Adds tag fields cs k
-member_told age tag fields cs {σs} {us} o = ⊎_elim known (λ n. (0, no_field n)) (numbers_told tag FIELD)
+    → (k : Option Added) × Adds tag fields cs k
+member_told age tag fields cs {σs} {us} o = ⊎_elim known (λ n. (None, no_field n)) (numbers_told tag FIELD)
   where
-    known : tag ≡ FIELD → (k : ℕ) × Adds tag fields cs k
+    known : tag ≡ FIELD → (k : Option Added) × Adds tag fields cs k
     known e =
         let x = shape_told (root_shape age fields cs (subst (λ (t : ℕ). Obeys Spans.forward σs (node t (dated age t fields) (dated_trees age cs) us)) e o)) in
         (x.0, subst (λ (t : ℕ). Adds t fields cs x.0) (sym e) x.1)
@@ -81,7 +84,7 @@ still : {tag : ℕ} {fields : List Field} {cs ts : Trees} → (ComputedPlus tag 
 still n (inl u) = inl (Undecided.later u)
 still n (inr m) = inr (λ u. m (undecided_less n u))
 
-more : {tag k : ℕ} {fields : List Field} {cs ts : Trees} → Adds tag fields cs k → Decided ts → Decided (node tag fields cs ts)
+more : {tag : ℕ} {k : Option Added} {fields : List Field} {cs ts : Trees} → Adds tag fields cs k → Decided ts → Decided (node tag fields cs ts)
 more (Adds.nothing m d c) x = record { undecided = still c x.undecided; mass = kept m x.mass; depth = kept d x.depth }
 more (Adds.mass y) x = record { undecided = still (not_computed y) x.undecided; mass = found (Raises.first y); depth = kept (λ a e z. not_other y z) x.depth }
 more (Adds.depth y) x = record { undecided = still (not_computed y) x.undecided; mass = kept (λ a e z. not_other z y) x.mass; depth = found (Raises.first y) }

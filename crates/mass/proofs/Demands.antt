@@ -11,11 +11,13 @@ use lib.ListN.{length, replicate}
 use Rattle.grammar.specs.Trees.{Trees}
 use Rattle.images.specs.Images.{Accepted}
 use Rattle.images.specs.Numbers.{Numbers}
-use Rattle.mass.specs.declared.Answer.{Answer}
-use Rattle.mass.specs.declared.Answer.TheVariants.{Listed, Unknown, Malformed, Children, Underived, ListShort, Short}
+use Rattle.images.specs.declared.Fault.TheVariants.{Unknown, Malformed, Children, Underived, Short}
+use Rattle.mass.specs.declared.Fault.TheVariants.{Image, ListShort}
+use Rattle.std.proofs.Common.{Ok, Err}
+use Rattle.images.specs.Numbers as back-numbers
 use Rattle.mass.specs.Numbers as in-numbers
-use Rattle.mass.specs.Mass.{Listing, offset, numbers, row, Due, In, Planned, Answers, MassDepth}
-use Rattle.images.proofs.Sole.{one_tree, accepted_not_refused}
+use Rattle.mass.specs.Mass.{Answer, Listing, offset, numbers, row, Due, In, Planned, Answers, MassDepth}
+use Rattle.images.proofs.Sole.{one_tree}
 use Rattle.mass.proofs.Sole.{answers_once}
 use Rattle.mass.proofs.RowLaws.{row_in, in_row, rows_ascend}
 use contract.Lifetimes.{Lfts}
@@ -49,14 +51,13 @@ pub record Holding (size n : ℕ) (t : Trees) (list : List ℕ) : Type 0 where
   pub counted : n ≡ length ls
   pub held : list ≡ numbers ls ++ replicate (size - 4 * n) 0
 
-holding_of : {bytes list : List ℕ} {room size n : ℕ} {t : Trees} → Answers bytes room size (Listed n) list → Accepted bytes t → Holding size n t list
+holding_of : {bytes list : List ℕ} {room size n : ℕ} {t : Trees} → Answers bytes room size (Ok n) list → Accepted bytes t → Holding size n t list
 holding_of {bytes} {list} {room} {size} {n} {t} x a = by size n list x
   where
-    by : (size n : ℕ) (list : List ℕ) → Answers bytes room size (Listed n) list → Holding size n t list
-    by size n list (Answers.refused h r k) = absurd (accepted_not_refused a r)
+    by : (size n : ℕ) (list : List ℕ) → Answers bytes room size (Ok n) list → Holding size n t list
     by size n list (Answers.listed {ls = ls} h y p s) = record { ls = ls; planned = subst (λ (u : Trees). Planned u ls) (one_tree y a) p; counted = refl; held = refl }
 
-module _ {bytes : List ℕ} {room size n : ℕ} {array list : List ℕ} {t : Trees} (x : MassDepth bytes room size (Listed n) array list) (accepted : Accepted bytes t) where
+module _ {bytes : List ℕ} {room size n : ℕ} {array list : List ℕ} {t : Trees} (x : MassDepth bytes room size (Ok n) array list) (accepted : Accepted bytes t) where
   pub holding : Holding size n t list
   holding = holding_of x.answers accepted
 
@@ -91,12 +92,12 @@ module _ {bytes : List ℕ} {room size n : ℕ} {array list : List ℕ} {t : Tre
       omega (arith, a, b)
 
 -- After every other answer the list is all zero.
-pub zero_after_refusal : {bytes array list : List ℕ} {room size : ℕ} {a : Answer} → MassDepth bytes room size a array list → ((n : ℕ) → a ≡ Listed n → ⊥) → list ≡ replicate size 0
+pub zero_after_refusal : {bytes array list : List ℕ} {room size : ℕ} {a : Answer} → MassDepth bytes room size a array list → ((n : ℕ) → a ≡ Ok n → ⊥) → list ≡ replicate size 0
 zero_after_refusal x n = by x.answers n
   where
-    by : {bytes : List ℕ} {room size : ℕ} {a : Answer} {list : List ℕ} → Answers bytes room size a list → ((n : ℕ) → a ≡ Listed n → ⊥) → list ≡ replicate size 0
+    by : {bytes : List ℕ} {room size : ℕ} {a : Answer} {list : List ℕ} → Answers bytes room size a list → ((n : ℕ) → a ≡ Ok n → ⊥) → list ≡ replicate size 0
     by (Answers.short h) n = refl
-    by (Answers.refused h r k) n = refl
+    by (Answers.refused h r) n = refl
     by (Answers.list_short h y p s) n = refl
     by (Answers.listed {ls = ls} h y p s) n = absurd (n (length ls) refl)
 
@@ -108,23 +109,23 @@ case_of n = by (eqb n.number)
   where
     by : (ℕ → Bool) → Answer
     by is =
-        cond (is 0) (Listed n.count)
-        (cond (is 13) (Unknown n.offset)
-        (cond (is 14) (Malformed n.offset)
-        (cond (is 15) (Children n.offset)
-        (cond (is 16) (Underived n.offset)
-        (cond (is 21) (ListShort n.count)
-        (Short n.count))))))
+        cond (is 0) (Ok n.count)
+        (cond (is 13) (Err (Image (Unknown n.offset)))
+        (cond (is 14) (Err (Image (Malformed n.offset)))
+        (cond (is 15) (Err (Image (Children n.offset)))
+        (cond (is 16) (Err (Image (Underived n.offset)))
+        (cond (is 21) (Err (ListShort n.count))
+        (Err (Image (Short n.count))))))))
 
 case_back : (a : Answer) → case_of (in-numbers.numbers a) ≡ a
-unfolding in-numbers.numbers case_of
-case_back (Listed n) = refl
-case_back (Unknown at) = refl
-case_back (Malformed at) = refl
-case_back (Children at) = refl
-case_back (Underived at) = refl
-case_back (ListShort n) = refl
-case_back (Short n) = refl
+unfolding in-numbers.numbers back-numbers.numbers case_of
+case_back (Ok n) = refl
+case_back (Err (Image (Unknown at))) = refl
+case_back (Err (Image (Malformed at))) = refl
+case_back (Err (Image (Children at))) = refl
+case_back (Err (Image (Underived at))) = refl
+case_back (Err (ListShort n)) = refl
+case_back (Err (Image (Short n))) = refl
 
 -- No two answers have the same numbers.
 pub same_case : (a b : Answer) → in-numbers.numbers a ≡ in-numbers.numbers b → a ≡ b

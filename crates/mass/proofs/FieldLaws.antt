@@ -17,6 +17,9 @@ use Rattle.images.proofs.RowLaws.{dated_other}
 use Rattle.images.proofs.CodeLaws.{part_slice}
 use Rattle.images.proofs.EntryLaws.{entry_there}
 use Rattle.mass.specs.Mass.{MASS, DEPTH, FixedPlus, fixed_plus, ComputedPlus, computed_plus}
+use Rattle.std.proofs.Common.{Option, None, Some}
+use Rattle.mass.specs.declared.members.Added.{Added}
+use Rattle.mass.specs.declared.members.Added.TheVariants.{Mass, Depth, Computed}
 use Rattle.mass.specs.Inner.{two_at, Root, Calls, Adds}
 use Rattle.mass.proofs.StandLaws.{left, children, seen, read_at, long_at}
 
@@ -117,7 +120,7 @@ fixed_tag fixed_plus = refl
 computed_tag : {tag : ℕ} {fields : List Field} → ComputedPlus tag fields → tag ≡ FIELD
 computed_tag computed_plus = refl
 
-pub no_field : {tag : ℕ} {fields : List Field} {cs : Trees} → (tag ≡ FIELD → ⊥) → Adds tag fields cs 0
+pub no_field : {tag : ℕ} {fields : List Field} {cs : Trees} → (tag ≡ FIELD → ⊥) → Adds tag fields cs None
 no_field n = Adds.nothing (λ a e f. n (fixed_tag f)) (λ a e f. n (fixed_tag f)) (λ f. n (computed_tag f))
 
 -- A field whose plus byte is p.
@@ -127,7 +130,7 @@ fixed_byte fixed_plus = refl
 pub computed_byte : {a e c p m n v : ℕ} → ComputedPlus FIELD (span a e ∷ byte c ∷ byte p ∷ byte m ∷ number n ∷ byte v ∷ []) → p ≡ 1
 computed_byte computed_plus = refl
 
-pub no_plus : {bytes : List ℕ} {at : ℕ} {fields : List Field} {cs : Trees} → Face bytes at fields cs → (get_or bytes (at + 8) 0 ≡ 1 → ⊥) → Adds FIELD fields cs 0
+pub no_plus : {bytes : List ℕ} {at : ℕ} {fields : List Field} {cs : Trees} → Face bytes at fields cs → (get_or bytes (at + 8) 0 ≡ 1 → ⊥) → Adds FIELD fields cs None
 no_plus (face w a e c p s) h = Adds.nothing (λ b f x. h (p ∙ fixed_byte x)) (λ b f x. h (p ∙ fixed_byte x)) (λ x. h (p ∙ computed_byte x))
 
 pub computed_at : {a e c p m n v : ℕ} → c ≡ 1 → p ≡ 1 → ComputedPlus FIELD (span a e ∷ byte c ∷ byte p ∷ byte m ∷ number n ∷ byte v ∷ [])
@@ -135,7 +138,7 @@ computed_at {a} {e} {c} {p} {m} {n} {v} x y =
     subst (λ (i : ℕ). ComputedPlus FIELD (span a e ∷ byte i ∷ byte p ∷ byte m ∷ number n ∷ byte v ∷ [])) (sym x)
     (subst (λ (i : ℕ). ComputedPlus FIELD (span a e ∷ byte 1 ∷ byte i ∷ byte m ∷ number n ∷ byte v ∷ [])) (sym y) computed_plus)
 
-pub adds_computed : {bytes : List ℕ} {at : ℕ} {fields : List Field} {cs : Trees} → Face bytes at fields cs → get_or bytes (at + 8) 0 ≡ 1 → get_or bytes (at + 7) 0 ≡ 1 → Adds FIELD fields cs 3
+pub adds_computed : {bytes : List ℕ} {at : ℕ} {fields : List Field} {cs : Trees} → Face bytes at fields cs → get_or bytes (at + 8) 0 ≡ 1 → get_or bytes (at + 7) 0 ≡ 1 → Adds FIELD fields cs (Some Computed)
 adds_computed (face w a e c p s) h k = Adds.computed (computed_at (sym c ∙ k) (sym p ∙ h))
 
 fixed_at : (name w : List ℕ) {a e p m n v : ℕ} {value : Trees} → w ≡ name → p ≡ 1
@@ -155,9 +158,9 @@ pub record Named (bytes array : List ℕ) (n : ℕ) (fields : List Field) (cs : 
   pub w : List ℕ
   pub in_array : get_or array (n * 2 + 1) 0 * 2 + 1 < length array
   pub read : TextRead bytes (get_or array (get_or array (n * 2 + 1) 0 * 2) 0) w
-  pub adds : (k : ℕ) → Calls w k → Adds FIELD fields cs k
+  pub adds : (k : Option Added) → Calls w k → Adds FIELD fields cs k
 
-pub called : {w : List ℕ} {a e p m n v : ℕ} {value : Trees} → p ≡ 1 → (k : ℕ) → Calls w k
+pub called : {w : List ℕ} {a e p m n v : ℕ} {value : Trees} → p ≡ 1 → (k : Option Added) → Calls w k
     → Adds FIELD (span a e ∷ byte 0 ∷ byte p ∷ byte m ∷ number n ∷ byte v ∷ []) (node STRING (text w ∷ []) trees.none value) k
 called {w} q k (Calls.mass x) = Adds.mass (fixed_at MASS w x q)
 called {w} q k (Calls.depth x) = Adds.depth (fixed_at DEPTH w x q)
@@ -174,7 +177,7 @@ named r (face i a e c p Shape.computed) h k = absurd (k c)
 pub as_field : {bytes array : List ℕ} {n tag : ℕ} {fields : List Field} {cs : Trees} → Root bytes array n tag fields cs → get_or bytes (get_or array (n * 2) 0) 0 ≡ FIELD → Root bytes array n FIELD fields cs
 as_field {bytes} {array} {n} {tag} {fields} {cs} r h = subst (λ (t : ℕ). Root bytes array n t fields cs) (sym (tag_read r) ∙ h) r
 
-pub field_adds : {bytes array : List ℕ} {n tag k : ℕ} {fields : List Field} {cs : Trees} → Root bytes array n tag fields cs → get_or bytes (get_or array (n * 2) 0) 0 ≡ FIELD
+pub field_adds : {bytes array : List ℕ} {n tag : ℕ} {k : Option Added} {fields : List Field} {cs : Trees} → Root bytes array n tag fields cs → get_or bytes (get_or array (n * 2) 0) 0 ≡ FIELD
     → Adds FIELD fields cs k → Adds tag fields cs k
 field_adds {k = k} {fields} {cs} r h x = subst (λ (t : ℕ). Adds t fields cs k) (sym h ∙ tag_read r) x
 
@@ -186,12 +189,12 @@ module _ (bytes : List ℕ) (at size : ℕ) (e : size ≡ two_at bytes (at + 1))
   whole_name : slice (at + 3) (at + 3 + two_at bytes (at + 1)) bytes ≡ take (at + 3 + size - (at + 3)) (drop (at + 3) bytes)
   whole_name = ap (λ (k : ℕ). slice (at + 3) (at + 3 + k) bytes) (sym e) ∙ sym (part_slice bytes (at + 3) (at + 3 + size) (omega arith))
 
-  pub calls_mass : take (at + 3 + size - (at + 3)) (drop (at + 3) bytes) ≡ MASS → Calls (slice (at + 3) (at + 3 + two_at bytes (at + 1)) bytes) 1
+  pub calls_mass : take (at + 3 + size - (at + 3)) (drop (at + 3) bytes) ≡ MASS → Calls (slice (at + 3) (at + 3 + two_at bytes (at + 1)) bytes) (Some Mass)
   calls_mass h = Calls.mass (whole_name ∙ h)
 
-  pub calls_depth : take (at + 3 + size - (at + 3)) (drop (at + 3) bytes) ≡ DEPTH → Calls (slice (at + 3) (at + 3 + two_at bytes (at + 1)) bytes) 2
+  pub calls_depth : take (at + 3 + size - (at + 3)) (drop (at + 3) bytes) ≡ DEPTH → Calls (slice (at + 3) (at + 3 + two_at bytes (at + 1)) bytes) (Some Depth)
   calls_depth h = Calls.depth (whole_name ∙ h)
 
   pub calls_other : (take (at + 3 + size - (at + 3)) (drop (at + 3) bytes) ≡ MASS → ⊥) → (take (at + 3 + size - (at + 3)) (drop (at + 3) bytes) ≡ DEPTH → ⊥)
-      → Calls (slice (at + 3) (at + 3 + two_at bytes (at + 1)) bytes) 0
+      → Calls (slice (at + 3) (at + 3 + two_at bytes (at + 1)) bytes) None
   calls_other h k = Calls.other (λ x. h (sym whole_name ∙ x)) (λ x. k (sym whole_name ∙ x))

@@ -11,8 +11,9 @@ use Rattle.grammar.specs.Answer.{prefix_power}
 use Rattle.grammar.proofs.Derived.{whole_exactly}
 use Rattle.images.specs.Images.{dated_trees}
 use Rattle.mass.specs.Mass.{Lists, Braces, Listing, listing, numbers}
-use Rattle.mass.specs.declared.members.Found.TheVariants.{Nothing, Listed}
-use Rattle.mass.specs.Inner.{Standing, Root, SomeRoot, Shows, ShownOf, Stores, Given, SomeGiven, Fills}
+use Rattle.std.proofs.Common.{None, Some}
+use Rattle.mass.specs.declared.members.Listed as found
+use Rattle.mass.specs.Inner.{Standing, Root, SomeRoot, kind_code, Shows, ShownOf, Stores, Given, SomeGiven, Fills}
 use Rattle.mass.proofs.StandLaws.{seen}
 use Rattle.mass.proofs.ListLaws.{filled_next}
 use Rattle.mass.proofs.PlaceLaws.{Place, place, places, places-length, Walk, walk, Ahead, ahead, next_record, Listings, listings_append, planned}
@@ -89,26 +90,26 @@ record Step (bytes array : List ℕ) (i : ℕ) (todo : List Place) (ms : List Li
   pub shows : Listings (p ∷ []) ms
 
 module _ {bytes array : List ℕ} {i : ℕ} where
-  step_nothing : {todo : List Place} → Ahead bytes array i todo → ShownOf bytes array i Nothing → Step bytes array i todo []
+  step_nothing : {todo : List Place} → Ahead bytes array i todo → ShownOf bytes array i None → Step bytes array i todo []
   step_nothing (ahead {at} {first} {tag} {fields} {cs} s q w) x =
       record { p = _; ps = _; split = refl; ahead_of = w; shows = Listings.passed (nothing (x.each tag fields cs (record { at = at; first = first; standing = s; number = q }))) Listings.none }
     where
-      nothing : {tag : ℕ} {cs : Trees} → Shows tag cs Nothing → (k a e : ℕ) → Braces tag → Lists cs k a e → ⊥
+      nothing : {tag : ℕ} {cs : Trees} → Shows tag cs None → (k a e : ℕ) → Braces tag → Lists cs k a e → ⊥
       nothing (Shows.nothing n) = n
 
-  step_listed : {todo : List Place} {k a e : ℕ} → Ahead bytes array i todo → ShownOf bytes array i (Listed k a e) → Step bytes array i todo (listing (get_or array (i * 2) 0) k a e ∷ [])
-  step_listed {todo} {k} {a} {e} (ahead {at} {first} {tag} {fields} {cs} s q w) x =
+  step_listed : {todo : List Place} {l : found.Listed} → Ahead bytes array i todo → ShownOf bytes array i (Some l) → Step bytes array i todo (listing (get_or array (i * 2) 0) (kind_code l.kind) l.start l.end ∷ [])
+  step_listed {todo} {l} (ahead {at} {first} {tag} {fields} {cs} s q w) x =
       let r : Root bytes array i tag fields cs = record { at = at; first = first; standing = s; number = q } in
       record {
         p = place at first tag fields cs;
         ps = _;
         split = refl;
         ahead_of = w;
-        shows = subst (λ (o : ℕ). Listings (place at first tag fields cs ∷ []) (listing o k a e ∷ [])) (sym (seen r).offset) (one (x.each tag fields cs r));
+        shows = subst (λ (o : ℕ). Listings (place at first tag fields cs ∷ []) (listing o (kind_code l.kind) l.start l.end ∷ [])) (sym (seen r).offset) (one (x.each tag fields cs r));
       }
     where
-      one : {at first tag k a e : ℕ} {fields : List Field} {cs : Trees} → Shows tag cs (Listed k a e) → Listings (place at first tag fields cs ∷ []) (listing (at + length (image cs)) k a e ∷ [])
-      one (Shows.listed b l) = Listings.shown b l Listings.none
+      one : {at first tag : ℕ} {l : found.Listed} {fields : List Field} {cs : Trees} → Shows tag cs (Some l) → Listings (place at first tag fields cs ∷ []) (listing (at + length (image cs)) (kind_code l.kind) l.start l.end ∷ [])
+      one (Shows.listed b x) = Listings.shown b x Listings.none
 
   steps : {t : Trees} {size count i' count' : ℕ} {list list' : List ℕ} {ms : List Listing} (d : Doing bytes array t size count i list) → Step bytes array i d.todo ms → i' ≡ i + 1
       → count' ≡ length (d.ls ++ ms) → (4 * length (d.ls ++ ms) ≤ size → list' ≡ numbers (d.ls ++ ms) ++ replicate (size - 4 * length (d.ls ++ ms)) 0)
@@ -127,7 +128,7 @@ module _ {bytes array : List ℕ} {i : ℕ} where
       }
 
 module _ {bytes array : List ℕ} {n size count i : ℕ} {list : List ℕ} (f : Fillings bytes array n size count i list) (h : i < n) where
-  pub turn_nothing : ShownOf bytes array i Nothing → Fillings bytes array n size count (i + 1) list
+  pub turn_nothing : ShownOf bytes array i None → Fillings bytes array n size count (i + 1) list
   turn_nothing x =
       record {
         long = f.long;
@@ -139,17 +140,17 @@ module _ {bytes array : List ℕ} {n size count i : ℕ} {list : List ℕ} (f : 
             (subst (λ (ls : List Listing). 4 * length ls ≤ size → list ≡ numbers ls ++ replicate (size - 4 * length ls) 0) (sym z) d.filled);
       }
 
-  pub turn_listed : (k a e : ℕ) (after : List ℕ) → ShownOf bytes array i (Listed k a e) → Stores list count (get_or array (i * 2) 0) k a e after
+  pub turn_listed : (l : found.Listed) (after : List ℕ) → ShownOf bytes array i (Some l) → Stores list count (get_or array (i * 2) 0) (kind_code l.kind) l.start l.end after
       → Fillings bytes array n size (count + 1) (i + 1) after
-  turn_listed k a e after x s =
+  turn_listed l after x s =
       record {
         long = s.long ∙ f.long;
         below = omega (arith, f.below);
         each = λ t g.
             let d = f.each t g in
             steps d (step_listed (next_record bytes array d.ahead_of (left_over g d h)) x) refl
-            (omega (arith, d.counted, length-append d.ls (listing (get_or array (i * 2) 0) k a e ∷ [])))
-            (filled_next size count (get_or array (i * 2) 0) k a e d.ls list after d.counted f.long d.filled s);
+            (omega (arith, d.counted, length-append d.ls (listing (get_or array (i * 2) 0) (kind_code l.kind) l.start l.end ∷ [])))
+            (filled_next size count (get_or array (i * 2) 0) (kind_code l.kind) l.start l.end d.ls list after d.counted f.long d.filled s);
       }
 
 -- ── The end ───────────────────────────────────────────────────────────────────────────────────────

@@ -14,7 +14,7 @@ use Rattle.grammar.specs.Records.{Sort, Is, Fits, times, Spans, Has, First, Part
 use Rattle.grammar.specs.Answer.{prefix_power}
 use Rattle.grammar.proofs.Derived.{whole_exactly}
 use Rattle.images.specs.Images.{Age, dated_trees, Accepted}
-use Rattle.mass.specs.declared.Answer.TheVariants.{Listed}
+use Rattle.std.proofs.Common.{Ok}
 use Rattle.mass.specs.Mass.{MASS, DEPTH, FixedPlus, Raises, Leaves, Undecided, Lists, Braces, Subtree, Object, Among, listing, due, MassDepth}
 use Rattle.mass.specs.Minutes.{Accounted, Minuted}
 use Rattle.mass.proofs.FieldLaws.{fixed_tag}
@@ -175,7 +175,7 @@ not_left : {name : List ℕ} {a e tag : ℕ} {fields : List Field} {cs ts : Tree
 not_left Among.here f l = l _ _ (Raises.first f)
 not_left (Among.later a) f l = not_left a f (λ b g x. l b g (Raises.later (λ c h y. l c h (Raises.first y)) x))
 
-accounted : {bytes array list : List ℕ} {room size n : ℕ} {t : Trees} → MassDepth bytes room size (Listed n) array list → Accepted bytes t → {o : ℕ} {ms : Trees} → Object t o ms → Decided ms → (Leaves MASS ms → ⊥)
+accounted : {bytes array list : List ℕ} {room size n : ℕ} {t : Trees} → MassDepth bytes room size (Ok n) array list → Accepted bytes t → {o : ℕ} {ms : Trees} → Object t o ms → Decided ms → (Leaves MASS ms → ⊥)
     → Accounted n list o ms
 accounted {list = list} {n = rows} x y {o} {ms} q d n = by d.undecided d.mass d.depth
   where
@@ -186,7 +186,7 @@ accounted {list = list} {n = rows} x y {o} {ms} q d n = by d.undecided d.mass d.
     by (inr v) (found {a} {e} m) (nowhere l) = let r = complete x y (listing o 1 a e) (due q (Lists.mass_alone v m l)) in Accounted.alone r.1 r.2
 
 -- EVERY `mass+` FIELD OF AN ACCEPTED TREE stands in an object that has `depth+` too, or is listed, or is undecided.
-pub minutes : {bytes array list : List ℕ} {room size n : ℕ} {t : Trees} → MassDepth bytes room size (Listed n) array list → Accepted bytes t
+pub minutes : {bytes array list : List ℕ} {room size n : ℕ} {t : Trees} → MassDepth bytes room size (Ok n) array list → Accepted bytes t
     → {o tag a e : ℕ} {fields : List Field} {children : Trees} → Subtree 0 t o tag fields children → FixedPlus MASS a e tag fields children → Minuted t n list tag fields children
 minutes {list = list} {n = n} {t} x y {o} {tag} {a} {e} {fields} {children} h f =
     let q : FIELD ≡ tag = sym (fixed_tag f) in

@@ -8,11 +8,11 @@ use native.Mathlib.Omega.{arith}
 use lib.ListN.{length, replicate}
 use Rattle.grammar.specs.Trees.{Trees}
 use Rattle.images.specs.Images.{Accepted}
-use Rattle.images.specs.declared.Answer as images
+use Rattle.images.specs.declared.Fault as images
 use Rattle.images.proofs.Sole.{one_tree, one_refusal, accepted_not_refused}
-use Rattle.mass.specs.declared.Answer.{Answer}
-use Rattle.mass.specs.declared.Answer.TheVariants.{Listed, ListShort}
-use Rattle.mass.specs.Mass.{Listing, offset, numbers, In, Ascends, Planned, Kept, Answers}
+use Rattle.mass.specs.declared.Fault.TheVariants.{Image, ListShort}
+use Rattle.std.proofs.Common.{Result, Ok, Err}
+use Rattle.mass.specs.Mass.{Listing, offset, numbers, In, Ascends, Planned, Answer, Answers}
 
 -- ── One list ──────────────────────────────────────────────────────────────────────────────────────
 
@@ -60,14 +60,8 @@ planned_once {ls = ls} {ms} p q = ascends_once ls ms p.in_order q.in_order (λ l
 
 -- ── One answer ────────────────────────────────────────────────────────────────────────────────────
 
-kept_same : {b : images.Answer} {a c : Answer} → Kept b a → Kept b c → a ≡ c
-kept_same Kept.unknown Kept.unknown = refl
-kept_same Kept.malformed Kept.malformed = refl
-kept_same Kept.children Kept.children = refl
-kept_same Kept.underived Kept.underived = refl
-
-kept_once : {b d : images.Answer} {a c : Answer} → b ≡ d → Kept b a → Kept d c → a ≡ c
-kept_once {a = a} e k l = kept_same (subst (λ (x : images.Answer). Kept x a) e k) l
+kept_once : {f g : images.Fault} → ◌≡◌ {A = Result ℕ images.Fault} (Err f) (Err g) → ◌≡◌ {A = Answer} (Err (Image f)) (Err (Image g))
+kept_once {f} {g} e = let z : f ≡ g = cc in ap (λ (x : images.Fault). Err (Image x)) z
 
 module _ {bytes : List ℕ} where
   lists_once : {t u : Trees} {ls ms : List Listing} → Accepted bytes t → Accepted bytes u → Planned t ls → Planned u ms → ls ≡ ms
@@ -75,20 +69,20 @@ module _ {bytes : List ℕ} where
 
   pub answers_once : {room size : ℕ} {a b : Answer} {l m : List ℕ} → Answers bytes room size a l → Answers bytes room size b m → (a ≡ b) × (l ≡ m)
   answers_once (Answers.short h) (Answers.short g) = (refl, refl)
-  answers_once (Answers.short h) (Answers.refused g r k) = absurd (omega arith)
+  answers_once (Answers.short h) (Answers.refused g r) = absurd (omega arith)
   answers_once (Answers.short h) (Answers.list_short g x p s) = absurd (omega arith)
   answers_once (Answers.short h) (Answers.listed g x p s) = absurd (omega arith)
-  answers_once (Answers.refused h r k) (Answers.short g) = absurd (omega arith)
-  answers_once (Answers.refused h r k) (Answers.refused g q l) = (kept_once (one_refusal r q) k l, refl)
-  answers_once (Answers.refused h r k) (Answers.list_short g x p s) = absurd (accepted_not_refused x r)
-  answers_once (Answers.refused h r k) (Answers.listed g x p s) = absurd (accepted_not_refused x r)
+  answers_once (Answers.refused h r) (Answers.short g) = absurd (omega arith)
+  answers_once (Answers.refused h r) (Answers.refused g q) = (kept_once (one_refusal r q), refl)
+  answers_once (Answers.refused h r) (Answers.list_short g x p s) = absurd (accepted_not_refused x r)
+  answers_once (Answers.refused h r) (Answers.listed g x p s) = absurd (accepted_not_refused x r)
   answers_once (Answers.list_short h x p s) (Answers.short g) = absurd (omega arith)
-  answers_once (Answers.list_short h x p s) (Answers.refused g r k) = absurd (accepted_not_refused x r)
-  answers_once (Answers.list_short h x p s) (Answers.list_short g y q r) = (ap ListShort (ap length (lists_once x y p q)), refl)
+  answers_once (Answers.list_short h x p s) (Answers.refused g r) = absurd (accepted_not_refused x r)
+  answers_once (Answers.list_short h x p s) (Answers.list_short g y q r) = (ap (λ (n : ℕ). Err (ListShort n)) (ap length (lists_once x y p q)), refl)
   answers_once (Answers.list_short h x p s) (Answers.listed g y q r) = absurd (let e = ap length (lists_once x y p q) in omega (arith, e))
   answers_once (Answers.listed h x p s) (Answers.short g) = absurd (omega arith)
-  answers_once (Answers.listed h x p s) (Answers.refused g r k) = absurd (accepted_not_refused x r)
+  answers_once (Answers.listed h x p s) (Answers.refused g r) = absurd (accepted_not_refused x r)
   answers_once (Answers.listed h x p s) (Answers.list_short g y q r) = absurd (let e = ap length (lists_once x y p q) in omega (arith, e))
   answers_once {size = size} (Answers.listed h x p s) (Answers.listed g y q r) =
       let e = lists_once x y p q in
-      (ap Listed (ap length e), ap (λ (ls : List Listing). numbers ls ++ replicate (size - 4 * length ls) 0) e)
+      (ap Ok (ap length e), ap (λ (ls : List Listing). numbers ls ++ replicate (size - 4 * length ls) 0) e)

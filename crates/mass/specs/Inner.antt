@@ -1,17 +1,17 @@
 -- What the functions promise each other. No public contract cites these.
 -- Assumes nothing.
-use Rattle.std.specs.Prelude.{◌≡◌, Bool, true, List, ◌∷◌, ◌++◌, ℕ, ◌+◌, ◌-◌, ◌*◌, ◌≤◌, ◌<◌, length, get_or, take, drop, replicate}
+use Rattle.std.specs.Prelude.{◌≡◌, Bool, true, Option, None, Some, List, ◌∷◌, ◌++◌, ℕ, ◌+◌, ◌-◌, ◌*◌, ◌≤◌, ◌<◌, length, take, drop, replicate}
 use Rattle.grammar.specs.Trees.{Field, Trees, tree}
 use Rattle.grammar.specs.Image.{image}
 use Rattle.images.specs.Images.{Age, Row, records, links, Accepted}
 use Rattle.mass.specs.Mass.{MASS, DEPTH, FixedPlus, ComputedPlus, Raises, Leaves, Undecided, Lists, Braces, Listing, numbers, Planned}
 use Rattle.mass.specs.declared.members.Own.{Own}
-use Rattle.mass.specs.declared.members.Found.{Found}
-use Rattle.mass.specs.declared.members.Found.TheVariants.{Nothing, Listed}
-
--- "Numbers are two bytes, high first"
-abbrev pub two_at : List ℕ → ℕ → ℕ
-two_at bytes i = get_or bytes i 0 * 256 + get_or bytes (i + 1) 0
+use Rattle.mass.specs.declared.members.Added.{Added}
+use Rattle.mass.specs.declared.members.Added.TheVariants.{Mass, Depth, Computed}
+use Rattle.mass.specs.declared.members.Kind.{Kind}
+use Rattle.mass.specs.declared.members.Kind.TheVariants.{Undecided as IsUndecided, Mass as MassAlone, Depth as DepthAlone}
+use Rattle.mass.specs.declared.members.Listed as found
+pub use Rattle.images.specs.Images.{two_at}
 
 -- ── Where trees stand ─────────────────────────────────────────────────────────────────────────────
 
@@ -25,7 +25,7 @@ pub record Standing (bytes array : List ℕ) (at first : ℕ) (ts : Trees) : Typ
   pub linked : drop (first * 2) array ≡ links at first ts ++ links_after
 
 -- Some trees stand there that have the records from first up to n.
-pub record Some (bytes array : List ℕ) (first n : ℕ) : Type 0 where
+pub record SomeTrees (bytes array : List ℕ) (first n : ℕ) : Type 0 where
   pub at : ℕ
   pub ts : Trees
   pub standing : Standing bytes array at first ts
@@ -46,29 +46,35 @@ pub record SomeRoot (bytes array : List ℕ) (n : ℕ) : Type 0 where
 
 -- ── What a member adds, and what all of them do ───────────────────────────────────────────────────
 
--- The codes of src/members.rt.
-pub data Calls (name : List ℕ) : ℕ → Type 0 where
-  mass : name ≡ MASS → Calls name 1
-  depth : name ≡ DEPTH → Calls name 2
-  other : (name ≡ MASS → ⊥) → (name ≡ DEPTH → ⊥) → Calls name 0
+pub data Calls (name : List ℕ) : Option Added → Type 0 where
+  mass : name ≡ MASS → Calls name (Some Mass)
+  depth : name ≡ DEPTH → Calls name (Some Depth)
+  other : (name ≡ MASS → ⊥) → (name ≡ DEPTH → ⊥) → Calls name None
 
-pub data Adds (tag : ℕ) (fields : List Field) (children : Trees) : ℕ → Type 0 where
+pub data Adds (tag : ℕ) (fields : List Field) (children : Trees) : Option Added → Type 0 where
   nothing : ((a e : ℕ) → FixedPlus MASS a e tag fields children → ⊥) → ((a e : ℕ) → FixedPlus DEPTH a e tag fields children → ⊥) → (ComputedPlus tag fields → ⊥)
-      → Adds tag fields children 0
-  mass : {a e : ℕ} → FixedPlus MASS a e tag fields children → Adds tag fields children 1
-  depth : {a e : ℕ} → FixedPlus DEPTH a e tag fields children → Adds tag fields children 2
-  computed : ComputedPlus tag fields → Adds tag fields children 3
+      → Adds tag fields children None
+  mass : {a e : ℕ} → FixedPlus MASS a e tag fields children → Adds tag fields children (Some Mass)
+  depth : {a e : ℕ} → FixedPlus DEPTH a e tag fields children → Adds tag fields children (Some Depth)
+  computed : ComputedPlus tag fields → Adds tag fields children (Some Computed)
 
 -- Of record n.
-pub record AddsAs (bytes array : List ℕ) (n code : ℕ) : Type 0 where
-  pub each : (tag : ℕ) (fields : List Field) (children : Trees) → Root bytes array n tag fields children → Adds tag fields children code
+pub record AddsAs (bytes array : List ℕ) (n : ℕ) (added : Option Added) : Type 0 where
+  pub each : (tag : ℕ) (fields : List Field) (children : Trees) → Root bytes array n tag fields children → Adds tag fields children added
 
--- A field by its record's offset, which is never 0, its name standing before it; 0 for none.
-pub data Spot (bytes : List ℕ) (name : List ℕ) (members : Trees) : ℕ → Type 0 where
-  nowhere : Leaves name members → Spot bytes name members 0
-  at : {o : ℕ} → 0 < o → o + 6 < length bytes → Raises name members (two_at bytes (o + 3)) (two_at bytes (o + 5)) → Spot bytes name members o
+-- With what one member more adds, whose record has this offset.
+abbrev pub plus : Own → Option Added → ℕ → Own
+plus own None at = own
+plus own (Some Mass) at = record { undecided = own.undecided; mass = Some at; depth = own.depth }
+plus own (Some Depth) at = record { undecided = own.undecided; mass = own.mass; depth = Some at }
+plus own (Some Computed) at = record { undecided = true; mass = own.mass; depth = own.depth }
 
-pub record SumsUp (bytes : List ℕ) (members : Trees) (undecided : Bool) (mass depth : ℕ) : Type 0 where
+-- A field by its record's offset.
+pub data Spot (bytes : List ℕ) (name : List ℕ) (members : Trees) : Option ℕ → Type 0 where
+  nowhere : Leaves name members → Spot bytes name members None
+  at : {o : ℕ} → o + 6 < length bytes → Raises name members (two_at bytes (o + 3)) (two_at bytes (o + 5)) → Spot bytes name members (Some o)
+
+pub record SumsUp (bytes : List ℕ) (members : Trees) (undecided : Bool) (mass depth : Option ℕ) : Type 0 where
   pub if_so : undecided ≡ true → Undecided members
   pub so : Undecided members → undecided ≡ true
   pub on_mass : Spot bytes MASS members mass
@@ -81,12 +87,17 @@ pub record RaisedBy (bytes array : List ℕ) (first n : ℕ) (own : Own) : Type 
 -- ── Listings ──────────────────────────────────────────────────────────────────────────────────────
 
 -- What is listed of a record.
-pub data Shows (tag : ℕ) (children : Trees) : Found → Type 0 where
-  nothing : ((k a e : ℕ) → Braces tag → Lists children k a e → ⊥) → Shows tag children Nothing
-  listed : {k a e : ℕ} → Braces tag → Lists children k a e → Shows tag children (Listed k a e)
+abbrev pub kind_code : Kind → ℕ
+kind_code IsUndecided = 0
+kind_code MassAlone = 1
+kind_code DepthAlone = 2
 
-pub record ShownOf (bytes array : List ℕ) (n : ℕ) (found : Found) : Type 0 where
-  pub each : (tag : ℕ) (fields : List Field) (children : Trees) → Root bytes array n tag fields children → Shows tag children found
+pub data Shows (tag : ℕ) (children : Trees) : Option found.Listed → Type 0 where
+  nothing : ((k a e : ℕ) → Braces tag → Lists children k a e → ⊥) → Shows tag children None
+  listed : {l : found.Listed} → Braces tag → Lists children (kind_code l.kind) l.start l.end → Shows tag children (Some l)
+
+pub record ShownOf (bytes array : List ℕ) (n : ℕ) (shown : Option found.Listed) : Type 0 where
+  pub each : (tag : ℕ) (fields : List Field) (children : Trees) → Root bytes array n tag fields children → Shows tag children shown
 
 -- Four numbers at their place, if there is room for them.
 pub record Stores (before : List ℕ) (count o k a e : ℕ) (after : List ℕ) : Type 0 where

@@ -1,16 +1,16 @@
 -- Mass without depth: 02, Item 11. "This is the planner's list": the objects of an accepted image that raise mass and not depth, or depth and not
 -- mass, or of which that is undecided.
 -- Assumes nothing.
-use Rattle.std.specs.Prelude.{◌≡◌, List, [], ◌∷◌, ◌++◌, ℕ, suc, ◌+◌, ◌-◌, ◌*◌, ◌≤◌, ◌<◌, length, get_or, replicate}
+use Rattle.std.specs.Prelude.{◌≡◌, Result, Ok, Err, List, [], ◌∷◌, ◌++◌, ℕ, suc, ◌+◌, ◌-◌, ◌*◌, ◌≤◌, ◌<◌, length, get_or, replicate}
 use Rattle.grammar.specs.Tags.{STRING, MEMBERS, OBJECT_COMP, FIELD}
 use Rattle.grammar.specs.Trees.{Field, byte, number, span, text, Trees, node}
 use Rattle.grammar.specs.Trees as trees
 use Rattle.grammar.specs.Image.{entry, image}
 use Rattle.images.specs.Images.{Accepted, Refused, needed}
-use Rattle.images.specs.declared.Answer as images
-use Rattle.images.specs.declared.Answer.TheVariants as back
-use Rattle.mass.specs.declared.Answer.{Answer}
-use Rattle.mass.specs.declared.Answer.TheVariants.{Listed, Unknown, Malformed, Children, Underived, ListShort, Short}
+use Rattle.images.specs.declared.Fault as images
+use Rattle.images.specs.declared.Fault.TheVariants as back
+use Rattle.mass.specs.declared.Fault.{Fault}
+use Rattle.mass.specs.declared.Fault.TheVariants.{Image, ListShort}
 
 -- ── Fields ────────────────────────────────────────────────────────────────────────────────────────
 
@@ -116,22 +116,20 @@ pub record Planned (t : Trees) (ls : List Listing) : Type 0 where
 
 -- ── The answer ────────────────────────────────────────────────────────────────────────────────────
 
--- R56. "Refusals: Item 1's"
-pub data Kept : images.Answer → Answer → Type 0 where
-  unknown : {at : ℕ} → Kept (back.Unknown at) (Unknown at)
-  malformed : {at : ℕ} → Kept (back.Malformed at) (Malformed at)
-  children : {at : ℕ} → Kept (back.Children at) (Children at)
-  underived : {at : ℕ} → Kept (back.Underived at) (Underived at)
+-- The count of listings, or why there is no list.
+abbrev pub Answer : Type 0
+Answer = Result ℕ Fault
 
 -- R56. Of an image, an array and a list of so many numbers: the answer, and the list as it is left.
 pub data Answers (bytes : List ℕ) (room size : ℕ) : Answer → List ℕ → Type 0 where
-  short : room < needed bytes → Answers bytes room size (Short (needed bytes)) (replicate size 0)
-  refused : {b : images.Answer} {a : Answer} → needed bytes ≤ room → Refused bytes b → Kept b a → Answers bytes room size a (replicate size 0)
+  short : room < needed bytes → Answers bytes room size (Err (Image (back.Short (needed bytes)))) (replicate size 0)
+  -- "Refusals: Item 1's"
+  refused : {f : images.Fault} → needed bytes ≤ room → Refused bytes (Err f) → Answers bytes room size (Err (Image f)) (replicate size 0)
   -- "then 21 list too short, with the count needed; list zero"
   list_short : {t : Trees} {ls : List Listing} → needed bytes ≤ room → Accepted bytes t → Planned t ls → size < 4 * length ls
-      → Answers bytes room size (ListShort (length ls)) (replicate size 0)
+      → Answers bytes room size (Err (ListShort (length ls))) (replicate size 0)
   listed : {t : Trees} {ls : List Listing} → needed bytes ≤ room → Accepted bytes t → Planned t ls → 4 * length ls ≤ size
-      → Answers bytes room size (Listed (length ls)) (numbers ls ++ replicate (size - 4 * length ls) 0)
+      → Answers bytes room size (Ok (length ls)) (numbers ls ++ replicate (size - 4 * length ls) 0)
 
 -- R54 to R56. The same, with the array as it is left: all zero.
 pub record MassDepth (bytes : List ℕ) (room size : ℕ) (a : Answer) (array list : List ℕ) : Type 0 where

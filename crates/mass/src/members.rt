@@ -1,55 +1,79 @@
 // What the members of an object raise, found by the links: an object's last child is the record before it, and before the first record of that
 // child's tree stands the next.
-ghost use Rattle.std.specs.Prelude.{◌≡◌, true, ◌+◌, ◌<◌, ◌≤◌, length};
+ghost use Rattle.std.specs.Prelude.{◌≡◌, true, ◌↔◌, IsTrue, ◌+◌, ◌<◌, ◌≤◌, length};
 ghost use Rattle.std.proofs.Math.Seq.{slice};
-ghost use Rattle.mass.specs.declared.members.Found.TheVariants.{Listed};
 ghost use Rattle.mass.specs.Mass.{Braces};
-ghost use Rattle.mass.specs.Inner.{two_at, Calls, Some, SomeRoot, AddsAs, RaisedBy, ShownOf};
+ghost use Rattle.mass.specs.Inner.{two_at, Calls, SomeTrees, SomeRoot, AddsAs, plus as plus_one, RaisedBy, kind_code, ShownOf};
 
 use grammar::tags::Tag;
+use images::number;
 
 // What a member adds.
-const NOTHING: usize = 0;
+#[derive(Clone, Copy, Debug, PartialEq, Eq)]
+pub enum Added {
+    Mass,
+    Depth,
+    Computed,
+}
 
-const MASS: usize = 1;
-
-const DEPTH: usize = 2;
-
-const COMPUTED: usize = 3;
-
-// What all members of an object add: the first field of each name by its offset. No field stands at 0, since its name stands before it: 0 is none.
-#[derive(Drop)]
+// What all members of an object add: whether any is computed, and the first field of each name by its offset.
+#[derive(Clone, Copy)]
 pub struct Own {
     pub undecided: bool,
-    pub mass: usize,
-    pub depth: usize,
+    pub mass: Option<usize>,
+    pub depth: Option<usize>,
 }
 
-// What is listed of a record: the kind, and where the field's name starts and ends.
-#[derive(Drop)]
-pub enum Found {
-    Nothing,
-    Listed(usize, usize, usize),
+// Why an object is listed, by the list's numbers: 0 to 2.
+#[derive(Clone, Copy, Debug, PartialEq, Eq)]
+pub enum Kind {
+    Undecided,
+    Mass, // mass alone is raised
+    Depth, // depth alone
 }
 
-fn wide(b: u8) -> usize
-    ensures { (result ≡ b) × (result ≤ 255) }
-{
-    b as usize
+// What is listed of an object, and where the field's name starts and ends.
+#[derive(Clone, Copy)]
+pub struct Listed {
+    pub kind: Kind,
+    pub start: usize,
+    pub end: usize,
 }
 
-// The number of two bytes, the high one first.
-fn number(bytes: &[u8], at: usize) -> usize
-    requires { at + 1 < length bytes.now }
-    ensures { (result ≡ two_at bytes.now at) × (result ≤ 65535) }
-{
-    let high = wide(bytes[at]);
-    let low = wide(bytes[at + 1]);
-    high * 256 + low
+impl Kind {
+    // Its number in the list.
+    pub(crate) fn number(self) -> usize
+        ensures { result ≡ kind_code self }
+    {
+        self as usize
+    }
+}
+
+impl Own {
+    // With what one member more adds, which stands before the others.
+    fn plus(self, added: Option<Added>, at: usize) -> Own
+        ensures { result ≡ plus_one self added at }
+    {
+        match added {
+            None => self,
+            Some(Added::Mass) => Own {
+                mass: Some(at),
+                ..self
+            },
+            Some(Added::Depth) => Own {
+                depth: Some(at),
+                ..self
+            },
+            Some(Added::Computed) => Own {
+                undecided: true,
+                ..self
+            },
+        }
+    }
 }
 
 // Which of the two names the string is whose record stands there.
-fn called(bytes: &[u8], at: usize) -> usize
+fn called(bytes: &[u8], at: usize) -> Option<Added>
     requires { at + 3 + two_at bytes.now (at + 1) ≤ length bytes.now }
     ensures { Calls (slice (at + 3) (at + 3 + two_at bytes.now (at + 1)) bytes.now) result }
 {
@@ -57,28 +81,28 @@ fn called(bytes: &[u8], at: usize) -> usize
     let from = at + 3;
     let end = from + size;
     if check::same(&bytes[from..end], b"mass") {
-        return MASS;
+        return Some(Added::Mass);
     }
     if check::same(&bytes[from..end], b"depth") {
-        return DEPTH;
+        return Some(Added::Depth);
     }
-    NOTHING
+    None
 }
 
 // What record n adds, if it is a member. A fixed field's name is the first record of its tree.
-fn adds(bytes: &[u8], links: &[usize], n: usize) -> usize
+fn adds(bytes: &[u8], links: &[usize], n: usize) -> Option<Added>
     requires { SomeRoot bytes.now links.now n }
     ensures { AddsAs bytes.now links.now n result }
 {
     let at = links[n * 2];
     if bytes[at] != Tag::FIELD {
-        return NOTHING;
+        return None;
     }
     if bytes[at + 8] != 1 {
-        return NOTHING;
+        return None;
     }
     if bytes[at + 7] == 1 {
-        return COMPUTED;
+        return Some(Added::Computed);
     }
     let first = links[n * 2 + 1];
     called(bytes, links[first * 2])
@@ -86,78 +110,61 @@ fn adds(bytes: &[u8], links: &[usize], n: usize) -> usize
 
 // What the records from `first` up to n raise, the trees' roots gone through from the last to the first.
 fn raised(bytes: &[u8], links: &[usize], first: usize, n: usize) -> Own
-    requires { Some bytes.now links.now first n }
+    requires { SomeTrees bytes.now links.now first n }
     ensures { RaisedBy bytes.now links.now first n result }
 {
-    let mut undecided = false;
-    let mut mass = 0;
-    let mut depth = 0;
+    let mut own = Own {
+        undecided: false,
+        mass: None,
+        depth: None,
+    };
     let mut m = n;
     while m > first {
         let last = m - 1;
         let at = links[last * 2];
-        let added = adds(bytes, links, last);
+        own = own.plus(adds(bytes, links, last), at);
         m = links[last * 2 + 1];
-        if added == COMPUTED {
-            undecided = true;
-            continue;
-        }
-        if added == MASS {
-            mass = at;
-            continue;
-        }
-        if added == DEPTH {
-            depth = at;
-        }
     }
-    Own {
-        undecided,
-        mass,
-        depth,
-    }
+    own
 }
 
 fn is_object(tag: u8) -> bool
-    ensures { (result ≡ true → Braces tag) × (Braces tag → result ≡ true) }
+    ensures { IsTrue result ↔ Braces tag }
 {
-    if tag == Tag::MEMBERS {
-        return true;
-    }
-    tag == Tag::OBJECT_COMP
+    matches!(tag, Tag::MEMBERS | Tag::OBJECT_COMP)
 }
 
 // The listing of a field that stands there alone.
-fn alone(bytes: &[u8], at: usize, kind: usize) -> Found
+fn alone(bytes: &[u8], at: usize, kind: Kind) -> Listed
     requires { at + 6 < length bytes.now }
-    ensures { result ≡ Listed kind (two_at bytes.now (at + 3)) (two_at bytes.now (at + 5)) }
+    ensures { result ≡ record { kind = kind; start = two_at bytes.now (at + 3); end = two_at bytes.now (at + 5) } }
 {
     let start = number(bytes, at + 3);
     let end = number(bytes, at + 5);
-    Found::Listed(kind, start, end)
+    Listed { kind, start, end }
 }
 
 // What is listed of record n.
-pub(crate) fn listing(bytes: &[u8], links: &[usize], n: usize) -> Found
+pub(crate) fn listing(bytes: &[u8], links: &[usize], n: usize) -> Option<Listed>
     requires { SomeRoot bytes.now links.now n }
     ensures { ShownOf bytes.now links.now n result }
 {
     let at = links[n * 2];
     if !is_object(bytes[at]) {
-        return Found::Nothing;
+        return None;
     }
-    let first = links[n * 2 + 1];
-    let own = raised(bytes, links, first, n);
+    let own = raised(bytes, links, links[n * 2 + 1], n);
     if own.undecided {
-        return Found::Listed(0, 0, 0);
+        return Some(Listed {
+            kind: Kind::Undecided,
+            start: 0,
+            end: 0,
+        });
     }
-    if own.mass == 0 {
-        if own.depth == 0 {
-            return Found::Nothing;
-        }
-        return alone(bytes, own.depth, DEPTH);
+    match (own.mass, own.depth) {
+        (Some(mass), None) => Some(alone(bytes, mass, Kind::Mass)),
+        (None, Some(depth)) => Some(alone(bytes, depth, Kind::Depth)),
+        (Some(_), Some(_)) => None,
+        (None, None) => None,
     }
-    if own.depth == 0 {
-        return alone(bytes, own.mass, MASS);
-    }
-    Found::Nothing
 }
