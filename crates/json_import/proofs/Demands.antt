@@ -5,6 +5,7 @@ use mathlib.Core.Path.{◌≡◌, refl, ap, subst, ◌∙◌}
 use mathlib.Core.List.{List, ◌++◌}
 use Prim.Native.Nat.{ℕ, ◌-◌, ◌≤◌, ◌<◌}
 use lib.ListN.{length, replicate}
+use Rattle.std.specs.Prelude.{Ok, Err}
 use Rattle.strings.specs.Utf8.{Utf8}
 use Rattle.numerals.specs.Value.{TooLarge}
 use Rattle.grammar.specs.Numbers.{TREE}
@@ -12,9 +13,8 @@ use Rattle.grammar.specs.Trees.{Trees}
 use Rattle.grammar.specs.Image.{image}
 use Rattle.grammar.specs.Answer.{Answer, Verdict, refused, tree, answer, output}
 use Rattle.json_import.specs.Json.{Text, TooDeep, Continues, Judged, read, not_json, ReadsJson}
-use Rattle.json_import.specs.Importer.{refusal, numbers, Imports}
-use Rattle.json_import.specs.declared.Importing.{Importing}
-use Rattle.json_import.specs.declared.Importing.TheVariants.{Tree, NotJson, Room}
+use Rattle.json_import.specs.Importer.{Importing, refusal, numbers, Imports}
+use Rattle.json_import.specs.declared.Unread.TheVariants.{NotJson, Room}
 use Rattle.json_import.proofs.OneAnswer.{one_answer}
 use Rattle.json_import.proofs.ImportLaws.{same_case, fits-answer, fits-output, lacks_answer, refusal-output}
 use contract.Lifetimes.{Lfts}
@@ -44,12 +44,12 @@ module _ (s out : List ℕ) (r : Importing) (out' : List ℕ) (x : Imports s out
 
   -- A text that is short enough, is UTF-8 and is read to its end is answered with its tree: the image and zeros behind it; or refused for room only.
   pub text_is_tree : (t : Trees) → length s ≤ 65000 → Utf8 s → Text TooDeep TooLarge s (tree t) → length (image t) ≤ length out
-      → (r ≡ Tree (length (image t))) × (out' ≡ image t ++ replicate (length out - length (image t)) 0)
+      → (r ≡ Ok (length (image t))) × (out' ≡ image t ++ replicate (length out - length (image t)) 0)
   text_is_tree t l u y h =
       let z = answers_found (read l u y) in
       (same_case _ _ (z.0 ∙ fits-answer (length out) t h), z.1 ∙ fits-output (length out) t h)
 
-  pub text_is_room : (t : Trees) → length s ≤ 65000 → Utf8 s → Text TooDeep TooLarge s (tree t) → length out < length (image t) → r ≡ Room (length (image t))
+  pub text_is_room : (t : Trees) → length s ≤ 65000 → Utf8 s → Text TooDeep TooLarge s (tree t) → length out < length (image t) → r ≡ Err (Room (length (image t)))
   text_is_room t l u y h = same_case _ _ ((answers_found (read l u y)).0 ∙ lacks_answer (length out) t h)
 
   -- What is broken off by 11 or 17 is refused so.
@@ -58,7 +58,7 @@ module _ (s out : List ℕ) (r : Importing) (out' : List ℕ) (x : Imports s out
   broken_is_refused n a e l u y = answers_found (read l u y)
 
   -- 19 is answered exactly of a text within 2 and 3 that has no reading, at the first byte where no JSON text continues.
-  pub no_text_is_19 : (n : ℕ) → length s ≤ 65000 → Utf8 s → ((v : Verdict) → Text TooDeep TooLarge s v → ⊥) → Continues s n → r ≡ NotJson n
+  pub no_text_is_19 : (n : ℕ) → length s ≤ 65000 → Utf8 s → ((v : Verdict) → Text TooDeep TooLarge s v → ⊥) → Continues s n → r ≡ Err (NotJson n)
   unfolding answer numbers
   no_text_is_19 n l u f c = same_case _ _ (answers_found (not_json l u f c)).0
 

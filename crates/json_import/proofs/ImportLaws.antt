@@ -2,11 +2,9 @@
 -- Assumes nothing.
 use mathlib.Core.Path.{◌≡◌, refl, sym, ap, subst, ◌∙◌}
 use mathlib.Core.Bool.{Bool, true, false, cond}
-use mathlib.Core.List.{List, [], ◌∷◌, ◌++◌, append-nil}
+use mathlib.Core.List.{List, [], ◌++◌, append-nil}
 use Prim.Native.Nat.{ℕ, ◌+◌, ◌-◌, ◌≤◌, ◌<◌}
 use native.Mathlib.Omega.{arith}
-use denote.Enum.Declared.{tag_of}
-use types.Run.{OneOf, miss}
 use borrow.Author.Tests.{leb-true, leb-false, le-leb, lt-leb}
 use lib.Dec.{eqb, leb}
 use lib.ListN.{length, take, drop, replicate, length-drop, drop_of_length-le}
@@ -22,13 +20,11 @@ use Rattle.json_import.specs.Json.{NOT_JSON, Judged}
 use Rattle.json_import.specs.Machine.{want}
 use Rattle.json_import.specs.Leaves.{Comes, verdict}
 use Rattle.json_import.specs.Steps.{ParsedTo, parsed}
-use Rattle.json_import.specs.Importer.{numbers, importing, written, Finds, Imports}
-use Rattle.json_import.specs.declared.Leaf.TheVariants as leaves
+use Rattle.json_import.specs.Importer.{Importing, numbers, importing, written, Finds, Imports}
+use Rattle.std.specs.Prelude.{Ok, Err}
 use Rattle.json_import.specs.declared.Fault.{Fault}
 use Rattle.json_import.specs.declared.Fault.TheVariants as faults
-use Rattle.json_import.specs.declared.Importing.{Importing}
-use Rattle.json_import.specs.declared.Importing.TheVariants.{Tree, Long, Encoding, NotJson, Depth, Room, Large}
-use Rattle.json_import.specs.contracts.Importing.{the_type}
+use Rattle.json_import.specs.declared.Unread.TheVariants.{Long, Encoding, NotJson, Depth, Room, Large}
 use Rattle.json_import.proofs.EveryText.{judged_run}
 
 -- ── The case that has these numbers ───────────────────────────────────────────────────────────────
@@ -38,23 +34,23 @@ case_of a = by (eqb a.number)
   where
     by : (ℕ → Bool) → Importing
     by is =
-        cond (is TREE) (Tree a.size)
-        (cond (is LONG) Long
-        (cond (is ENCODING) (Encoding a.start)
-        (cond (is NOT_JSON) (NotJson a.start)
-        (cond (is DEPTH) (Depth a.start)
-        (cond (is ROOM) (Room a.size)
-        (Large a.start a.stop))))))
+        cond (is TREE) (Ok a.size)
+        (cond (is LONG) (Err Long)
+        (cond (is ENCODING) (Err (Encoding a.start))
+        (cond (is NOT_JSON) (Err (NotJson a.start))
+        (cond (is DEPTH) (Err (Depth a.start))
+        (cond (is ROOM) (Err (Room a.size))
+        (Err (Large a.start a.stop)))))))
 
 case_back : (r : Importing) → case_of (numbers r) ≡ r
 unfolding numbers case_of
-case_back (Tree n) = refl
-case_back Long = refl
-case_back (Encoding n) = refl
-case_back (NotJson n) = refl
-case_back (Depth n) = refl
-case_back (Room n) = refl
-case_back (Large a e) = refl
+case_back (Ok n) = refl
+case_back (Err Long) = refl
+case_back (Err (Encoding n)) = refl
+case_back (Err (NotJson n)) = refl
+case_back (Err (Depth n)) = refl
+case_back (Err (Room n)) = refl
+case_back (Err (Large a e)) = refl
 
 -- No two cases have the same numbers.
 pub same_case : (r r' : Importing) → numbers r ≡ numbers r' → r ≡ r'
@@ -77,7 +73,7 @@ module _ (room : ℕ) (ts : Trees) where
   out_by_room : Bool → List ℕ
   out_by_room b = cond b (image ts ++ replicate (room - length (image ts)) 0) (replicate room 0)
 
-  pub fits-answer : length (image ts) ≤ room → answer room (tree ts) ≡ numbers (Tree (length (image ts)))
+  pub fits-answer : length (image ts) ≤ room → answer room (tree ts) ≡ numbers (Ok (length (image ts)))
   unfolding answer numbers by_room
   fits-answer h = ap by_room (le-leb (length (image ts)) room h)
 
@@ -85,7 +81,7 @@ module _ (room : ℕ) (ts : Trees) where
   unfolding output out_by_room
   fits-output h = ap out_by_room (le-leb (length (image ts)) room h)
 
-  pub lacks_answer : room < length (image ts) → answer room (tree ts) ≡ numbers (Room (length (image ts)))
+  pub lacks_answer : room < length (image ts) → answer room (tree ts) ≡ numbers (Err (Room (length (image ts))))
   unfolding answer numbers by_room
   lacks_answer h = ap by_room (lt-leb (length (image ts)) room h)
 
@@ -94,11 +90,11 @@ module _ (room : ℕ) (ts : Trees) where
   lacks_output h = ap out_by_room (lt-leb (length (image ts)) room h)
 
   -- and back
-  pub tree-answer : (n : ℕ) → numbers (Tree n) ≡ answer room (tree ts) → (n ≡ length (image ts)) × (length (image ts) ≤ room)
+  pub tree-answer : (n : ℕ) → numbers (Ok n) ≡ answer room (tree ts) → (n ≡ length (image ts)) × (length (image ts) ≤ room)
   unfolding numbers answer
   tree-answer n e = (ap (λ (a : Answer). a.size) e, leb-true (length (image ts)) room (has_room (leb (length (image ts)) room) (ap (λ (a : Answer). a.number) e)))
 
-  pub room_answer : (n : ℕ) → numbers (Room n) ≡ answer room (tree ts) → (n ≡ length (image ts)) × (room < length (image ts))
+  pub room_answer : (n : ℕ) → numbers (Err (Room n)) ≡ answer room (tree ts) → (n ≡ length (image ts)) × (room < length (image ts))
   unfolding numbers answer
   room_answer n e = (ap (λ (a : Answer). a.size) e, leb-false (length (image ts)) room (no_room (leb (length (image ts)) room) (ap (λ (a : Answer). a.number) e)))
 
@@ -122,15 +118,15 @@ valid_all v h = valid_whole v (omega (arith, v.within))
 judged_comes : {s : List ℕ} {v : Verdict} → length s ≤ 65000 → Utf8 s → Comes s (want []) 0 v → Judged s v
 judged_comes {s} l u x = subst (Judged s) (x.runs is_too_large says_too_large) (judged_run s l u)
 
-fault_numbers : (f : Fault) (room : ℕ) → numbers (importing f) ≡ answer room (verdict f)
+fault_numbers : (f : Fault) (room : ℕ) → numbers (Err (importing f)) ≡ answer room (verdict f)
 unfolding numbers answer
 fault_numbers (faults.NotJson n) room = refl
 fault_numbers (faults.Deep n) room = refl
 fault_numbers (faults.Large a e) room = refl
 
 -- A refusal has no image.
-fault_size : (f : Fault) → written (importing f) ≡ 0
-unfolding written numbers
+fault_size : (f : Fault) → written (Err (importing f)) ≡ 0
+unfolding numbers
 fault_size (faults.NotJson n) = refl
 fault_size (faults.Deep n) = refl
 fault_size (faults.Large a e) = refl
@@ -159,37 +155,35 @@ module _ {s out out' : List ℕ} where
         left = o ∙ ap (λ (n : ℕ). replicate n 0) (sym (minus_none (length out))) ∙ ap (λ (n : ℕ). take n out' ++ replicate (length out - n) 0) (sym z);
       }
 
-  pub finds_long : 65000 < length s → Finds s out Long out'
-  unfolding numbers answer output written
+  pub finds_long : 65000 < length s → Finds s out (Err Long) out'
+  unfolding numbers answer output
   finds_long h = finds_refusal (Judged.too_long h) refl refl refl
 
-  pub finds_encoding : {n : ℕ} → length s ≤ 65000 → ValidTo s n → n < length s → Finds s out (Encoding n) out'
-  unfolding numbers answer output written
+  pub finds_encoding : {n : ℕ} → length s ≤ 65000 → ValidTo s n → n < length s → Finds s out (Err (Encoding n)) out'
+  unfolding numbers answer output
   finds_encoding l v h = finds_refusal (Judged.not_utf8 l v h) refl refl refl
 
   module _ (l : length s ≤ 65000) (u : Utf8 s) where
-    pub finds_broken : {f : Fault} {r : Importing} → ParsedTo s out (leaves.Broken f) out' → r ≡ importing f → Finds s out r out'
-    finds_broken {f} {r} (ParsedTo.broken comes) e =
-        subst (λ (x : Importing). Finds s out x out') (sym e)
-        (finds_refusal (judged_comes l u comes) (fault_numbers f (length out)) (fault_size f) (fault_output f (length out)))
+    pub finds_broken : {f : Fault} → ParsedTo s out (Err f) out' → Finds s out (Err (importing f)) out'
+    finds_broken {f} (ParsedTo.broken comes) = finds_refusal (judged_comes l u comes) (fault_numbers f (length out)) (fault_size f) (fault_output f (length out))
 
     -- without room
-    pub finds_room : {e w : ℕ} → ParsedTo s out (leaves.Done e w) out' → length out' < w → Finds s out (Room w) out'
-    unfolding numbers written
+    pub finds_room : {w : ℕ} → ParsedTo s out (Ok w) out' → length out' < w → Finds s out (Err (Room w)) out'
+    unfolding numbers
     finds_room {w = w} (parsed t comes put) h =
         let z : length out < length (image t) = omega (arith, put.to, h, same_long out out' (image t) put.stored) in
         let q : w ≡ length (image t) = omega (arith, put.to) in
         record {
           found = tree t;
           judged = judged_comes l u comes;
-          told = ap (λ (n : ℕ). numbers (Room n)) q ∙ sym (lacks_answer (length out) t z);
+          told = ap (λ (n : ℕ). numbers (Err (Room n))) q ∙ sym (lacks_answer (length out) t z);
           room = omega arith;
           left = lacks_output (length out) t z ∙ ap (λ (n : ℕ). replicate n 0) (sym (minus_none (length out)));
         }
 
     -- with room
-    pub finds_tree : {e w : ℕ} → ParsedTo s out (leaves.Done e w) out' → w ≤ length out' → Finds s out (Tree w) out'
-    unfolding numbers written
+    pub finds_tree : {w : ℕ} → ParsedTo s out (Ok w) out' → w ≤ length out' → Finds s out (Ok w) out'
+    unfolding numbers
     finds_tree {w = w} (parsed t comes put) h =
         let z : length (image t) ≤ length out = omega (arith, put.to, h, same_long out out' (image t) put.stored) in
         let q : w ≡ length (image t) = omega (arith, put.to) in
@@ -197,7 +191,7 @@ module _ {s out out' : List ℕ} where
         record {
           found = tree t;
           judged = judged_comes l u comes;
-          told = ap (λ (n : ℕ). numbers (Tree n)) q ∙ sym (fits-answer (length out) t z);
+          told = ap (λ (n : ℕ). numbers (Ok n)) q ∙ sym (fits-answer (length out) t z);
           room = omega (arith, q, z);
           left =
               fits-output (length out) t z
@@ -222,14 +216,3 @@ module _ {s out out' : List ℕ} where
     where
       long : length (take (length out' - n) (drop n out')) ≡ length out - n
       long = ap length (take_all (length out' - n) (drop n out') (omega (arith, length-drop n out'))) ∙ length-drop n out' ∙ ap (λ (m : ℕ). m - n) k
-
--- Only a tree has an image.
-pub no_image : (r : Importing) → OneOf (1 ∷ 2 ∷ 3 ∷ 4 ∷ 5 ∷ 6 ∷ []) (tag_of the_type r) → 0 ≡ written r
-unfolding written numbers
-no_image (Tree n) m = absurd (miss (1 ∷ 2 ∷ 3 ∷ 4 ∷ 5 ∷ 6 ∷ []) 0 tt m)
-no_image Long m = refl
-no_image (Encoding n) m = refl
-no_image (NotJson n) m = refl
-no_image (Depth n) m = refl
-no_image (Room n) m = refl
-no_image (Large a e) m = refl

@@ -24,8 +24,8 @@ use Rattle.json_import.specs.Json.{NOT_JSON}
 use Rattle.json_import.specs.Machine.{Frame, State, after, minus, digits, stuck, broken as broken_off, begun, signed, spelling, is_deep, step, finish, run}
 use Rattle.json_import.specs.Inner.{Leads, Sticks, WordTo, spelt, other, NumberTo, literal, broken as cut_off}
 use Rattle.json_import.specs.Leaves.{Goes, Comes, verdict, Ready, LeafTo, leaf, Any, NumeralTo, numeral}
-use Rattle.json_import.specs.declared.Scanned.TheVariants.{To, Stops}
-use Rattle.json_import.specs.declared.Leaf.TheVariants.{Done, Broken}
+use Rattle.std.specs.Prelude.{Ok, Err}
+use Rattle.json_import.specs.declared.Place.{Place}
 use Rattle.json_import.specs.declared.Fault.{Fault}
 use Rattle.json_import.specs.declared.Fault.TheVariants.{NotJson, Deep, Large}
 use Rattle.json_import.proofs.Tests.{yes_true, no_false, digit_in}
@@ -77,21 +77,21 @@ none_long tag = refl
 -- ── Words ─────────────────────────────────────────────────────────────────────────────────────────
 
 module _ {s letters : List ℕ} {at w : ℕ} where
-  pub word_broken : {out out₁ : List ℕ} (t : Trees) (n : ℕ) → WordTo s letters at (Stops n) → LeafTo s out Any (spelling letters t) at w (Broken (NotJson n)) out₁
-  word_broken t n (other f) = LeafTo.broken {f = NotJson n} (λ fs u. comes_of (f t fs))
+  pub word_broken : {out out₁ : List ℕ} {f : Fault} (t : Trees) → WordTo s letters at (Err f) → LeafTo s out Any (spelling letters t) at w (Err f) out₁
+  word_broken t (other {n} f) = LeafTo.broken {f = NotJson n} (λ fs u. comes_of (f t fs))
 
-  word-leaf : {out out₁ : List ℕ} {e w₁ : ℕ} (tag : ℕ) (fields : List Field) → 1 ≤ length letters → Ready s at w → length (entry tag fields) ≤ 4 → WordTo s letters at (To e)
-      → Wrote out w (entry tag fields) w₁ out₁ → LeafTo s out Any (spelling letters (tree tag fields none)) at w (Done e w₁) out₁
+  word-leaf : {out out₁ : List ℕ} {e w₁ : ℕ} (tag : ℕ) (fields : List Field) → 1 ≤ length letters → Ready s at w → length (entry tag fields) ≤ 4 → WordTo s letters at (Ok e)
+      → Wrote out w (entry tag fields) w₁ out₁ → LeafTo s out Any (spelling letters (tree tag fields none)) at w (Ok (record { at = e; written = w₁ })) out₁
   unfolding count
   word-leaf {e = e} {w₁ = w₁} tag fields some ready short (spelt is within f) v =
-      leaf {e = e} {w₁ = w₁} (tree tag fields none) refl (omega (arith, is)) within (omega (arith, is, some, short, ready.2, v.to)) (λ fs u. goes_of (f (tree tag fields none) fs)) (wrote_leaf tag fields v)
+      leaf {p = record { at = e; written = w₁ }} (tree tag fields none) refl (omega (arith, is)) within (omega (arith, is, some, short, ready.2, v.to)) (λ fs u. goes_of (f (tree tag fields none) fs)) (wrote_leaf tag fields v)
 
-  pub word_none : {out out₁ : List ℕ} {e w₁ : ℕ} (tag : ℕ) → 1 ≤ length letters → Ready s at w → WordTo s letters at (To e) → Wrote out w (entry tag []) w₁ out₁
-      → LeafTo s out Any (spelling letters (tree tag [] none)) at w (Done e w₁) out₁
+  pub word_none : {out out₁ : List ℕ} {e w₁ : ℕ} (tag : ℕ) → 1 ≤ length letters → Ready s at w → WordTo s letters at (Ok e) → Wrote out w (entry tag []) w₁ out₁
+      → LeafTo s out Any (spelling letters (tree tag [] none)) at w (Ok (record { at = e; written = w₁ })) out₁
   word_none tag some ready = word-leaf tag [] some ready (omega (arith, none_long tag))
 
-  pub word_flag : {out out₁ : List ℕ} {e w₁ : ℕ} (tag b : ℕ) → 1 ≤ length letters → Ready s at w → WordTo s letters at (To e) → Wrote out w (entry tag (byte b ∷ [])) w₁ out₁
-      → LeafTo s out Any (spelling letters (tree tag (byte b ∷ []) none)) at w (Done e w₁) out₁
+  pub word_flag : {out out₁ : List ℕ} {e w₁ : ℕ} (tag b : ℕ) → 1 ≤ length letters → Ready s at w → WordTo s letters at (Ok e) → Wrote out w (entry tag (byte b ∷ [])) w₁ out₁
+      → LeafTo s out Any (spelling letters (tree tag (byte b ∷ []) none)) at w (Ok (record { at = e; written = w₁ })) out₁
   word_flag tag b some ready = word-leaf tag (byte b ∷ []) some ready (omega (arith, flag_long tag b))
 
 -- ── Numbers ───────────────────────────────────────────────────────────────────────────────────────
@@ -107,7 +107,7 @@ pub record Stands (s : List ℕ) (at e : ℕ) : Type 0 where
       → run is_deep large (digits (begun (get_or s at 0)) neg at (get_or s at 0 ∷ []) fs) (at + 1) (drop (at + 1) s)
       ≡ cond (large written) (refused LARGE at e 0) (run is_deep large (after (signed neg written) fs) e (drop e s))
 
-pub stands : {s : List ℕ} {at e : ℕ} → at < length s → NumberTo s at (To e) → Stands s at e
+pub stands : {s : List ℕ} {at e : ℕ} → at < length s → NumberTo s at (Ok e) → Stands s at e
 stands {s} {at} {e} h (literal v split place within p q) =
     let b = get_or s at 0 in
     let whole : drop at s ≡ (b ∷ v) ++ drop e s = drop-next s at h ∙ ap (λ (l : List ℕ). b ∷ l) split in
@@ -137,11 +137,11 @@ in_range_is (too_large x) e = absurd (mathlib.Core.Bool.true≢false e)
 in_range_is (in_range f) e = f
 
 module _ {s out : List ℕ} {at w : ℕ} where
-  pub numeral_cut : {out₁ : List ℕ} (n : ℕ) → NumberTo s at (Stops n) → NumeralTo s out at w (Broken (NotJson n)) out₁
-  numeral_cut n (cut_off f) = NumeralTo.broken {f = NotJson n} (λ neg fs. record { runs = λ large says. f is_deep large neg at (get_or s at 0 ∷ []) fs })
+  pub numeral_cut : {out₁ : List ℕ} {f : Fault} → NumberTo s at (Err f) → NumeralTo s out at w (Err f) out₁
+  numeral_cut (cut_off {n} f) = NumeralTo.broken {f = NotJson n} (λ neg fs. record { runs = λ large says. f is_deep large neg at (get_or s at 0 ∷ []) fs })
 
   module _ {e : ℕ} {r : Bool} (x : Stands s at e) (v : Verdict (take (e - at) (drop at s)) r) where
-    pub numeral_large : {out₁ : List ℕ} → r ≡ true → NumeralTo s out at w (Broken (Large at e)) out₁
+    pub numeral_large : {out₁ : List ℕ} → r ≡ true → NumeralTo s out at w (Err (Large at e)) out₁
     numeral_large p =
         let vast : TooLarge x.written = subst TooLarge x.part (large_is v p) in
         NumeralTo.broken {f = Large at e}
@@ -152,10 +152,10 @@ module _ {s out : List ℕ} {at w : ℕ} where
               ∙ ap (λ (c : Bool). cond c (refused LARGE at e 0) (run is_deep large (after (signed neg x.written) fs) e (drop e s))) (yes_true (large x.written) (says x.written) vast);
         })
 
-    pub numeral_done : {out₁ : List ℕ} {w₁ : ℕ} → r ≡ false → Wrote out w (entry NUMBER (text (take (e - at) (drop at s)) ∷ [])) w₁ out₁ → NumeralTo s out at w (Done e w₁) out₁
+    pub numeral_done : {out₁ : List ℕ} {w₁ : ℕ} → r ≡ false → Wrote out w (entry NUMBER (text (take (e - at) (drop at s)) ∷ [])) w₁ out₁ → NumeralTo s out at w (Ok (record { at = e; written = w₁ })) out₁
     numeral_done {out₁} {w₁} p put =
         let fits : TooLarge x.written → ⊥ = λ y. in_range_is v p (subst TooLarge (sym x.part) y) in
-        numeral {e = e} {w₁ = w₁} x.written x.size x.on x.within
+        numeral {p = record { at = e; written = w₁ }} x.written x.size x.on x.within
         (λ neg fs.
         record {
           runs = λ large says.
@@ -192,11 +192,11 @@ enters {s} {at} {depth} d h fs u =
     (λ large. digit_step large fs at (get_or s at 0) d (lt-leb 200 (length fs + 1) (omega (arith, u, h))))
 
 module _ {s out : List ℕ} {at w depth : ℕ} where
-  pub minus_cut : {out₁ : List ℕ} → is_digit (get_or s at 0) ≡ false → LeafTo s out (λ fs. length fs + 1 ≡ depth) minus at w (Broken (NotJson at)) out₁
+  pub minus_cut : {out₁ : List ℕ} → is_digit (get_or s at 0) ≡ false → LeafTo s out (λ fs. length fs + 1 ≡ depth) minus at w (Err (NotJson at)) out₁
   minus_cut p =
       LeafTo.broken {f = NotJson at} (λ fs u. comes_of (sticks_here (minus fs) at (λ deep large. no_end deep large fs at) (λ l deep large. no_digit_step large deep fs at (get_or s at 0) p)))
 
-  pub minus_deep : {out₁ : List ℕ} → is_digit (get_or s at 0) ≡ true → 200 ≤ depth → LeafTo s out (λ fs. length fs + 1 ≡ depth) minus at w (Broken (Deep at)) out₁
+  pub minus_deep : {out₁ : List ℕ} → is_digit (get_or s at 0) ≡ true → 200 ≤ depth → LeafTo s out (λ fs. length fs + 1 ≡ depth) minus at w (Err (Deep at)) out₁
   minus_deep d h =
       LeafTo.broken {f = Deep at}
       (λ fs u.
@@ -205,19 +205,19 @@ module _ {s out : List ℕ} {at w depth : ℕ} where
       (record { runs = λ large says. stays_broken is_deep large DEPTH at at (at + 1) (drop (at + 1) s) }))
 
   module _ (d : is_digit (get_or s at 0) ≡ true) (h : depth < 200) where
-    pub minus_broken : {out₁ out₂ : List ℕ} {f : Fault} → NumeralTo s out at w (Broken f) out₁ → LeafTo s out (λ fs. length fs + 1 ≡ depth) minus at w (Broken f) out₂
+    pub minus_broken : {out₁ out₂ : List ℕ} {f : Fault} → NumeralTo s out at w (Err f) out₁ → LeafTo s out (λ fs. length fs + 1 ≡ depth) minus at w (Err f) out₂
     minus_broken {f = f} (NumeralTo.broken g) = LeafTo.broken {f = f} (λ fs u. goes_comes f (enters d h fs u) (g true fs))
 
-    pub minus_whole : {out₁ out₂ : List ℕ} {e w₁ w₂ : ℕ} → Ready s at w → NumeralTo s out at w (Done e w₁) out₁ → Wrote out₁ w₁ (entry PREFIX (byte 1 ∷ [])) w₂ out₂
-        → LeafTo s out (λ fs. length fs + 1 ≡ depth) minus at w (Done e w₂) out₂
+    pub minus_whole : {out₁ out₂ : List ℕ} {p : Place} {w₂ : ℕ} → Ready s at w → NumeralTo s out at w (Ok p) out₁ → Wrote out₁ p.written (entry PREFIX (byte 1 ∷ [])) w₂ out₂
+        → LeafTo s out (λ fs. length fs + 1 ≡ depth) minus at w (Ok (record { at = p.at; written = w₂ })) out₂
     unfolding signed count
-    minus_whole {out₁} {out₂} {e} {w₁} {w₂} ready (numeral v size on within g put) over =
+    minus_whole {out₁} {out₂} {p} {w₂} ready (numeral v size on within g put) over =
         let long : length (image (values.leaf NUMBER v)) ≡ 3 + length v = ap length (image-leaf NUMBER (text v ∷ [])) ∙ text_long NUMBER v in
-        leaf {e = e} {w₁ = w₂} (values.negative (values.leaf NUMBER v)) refl (omega (arith, on)) within (omega (arith, size, on, ready.2, put.to, over.to, long, flag_long PREFIX 1))
+        leaf {p = record { at = p.at; written = w₂ }} (values.negative (values.leaf NUMBER v)) refl (omega (arith, on)) within (omega (arith, size, on, ready.2, put.to, over.to, long, flag_long PREFIX 1))
         (λ fs u. goes_on (enters d h fs u) (g true fs))
         (subst (λ (l : List ℕ). Wrote out w l w₂ out₂) (sym (image_close PREFIX (byte 1 ∷ []) (values.leaf NUMBER v))) (and_then put over))
 
-pub numeral_room : {s out out₁ : List ℕ} {at w e w₁ : ℕ} → Ready s at w → NumeralTo s out at w (Done e w₁) out₁ → w₁ < 2 ^ 40
+pub numeral_room : {s out out₁ : List ℕ} {at w : ℕ} {p : Place} → Ready s at w → NumeralTo s out at w (Ok p) out₁ → p.written < 2 ^ 40
 numeral_room ready (numeral v size on within g put) =
     let long : length (image (values.leaf NUMBER v)) ≡ 3 + length v = ap length (image-leaf NUMBER (text v ∷ [])) ∙ text_long NUMBER v in
     omega (arith, size, within, ready.1, ready.2, put.to, long)

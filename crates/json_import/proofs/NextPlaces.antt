@@ -23,13 +23,13 @@ use Rattle.json_import.specs.Machine.{Frame, arr, obj, State, want, name, after,
 use Rattle.json_import.specs.Inner.{Blanks}
 use Rattle.json_import.specs.Leaves.{Goes}
 use Rattle.json_import.specs.Steps.{row, Opened, an_array, an_object, NamedTo, named, NextTo, again, closed, Behind, Standing, ArrayNext, ObjectNext, OpenNext, EndedTo, whole_text, left_over}
-use Rattle.json_import.specs.declared.Open.{Open}
-use Rattle.json_import.specs.declared.Leaf.TheVariants as leaves
+use Rattle.std.specs.Prelude.{Result, Ok, Err}
+use Rattle.json_import.specs.declared.Place.{Place}
+use Rattle.json_import.specs.declared.Open.TheVariants.{Array, Object}
 use Rattle.json_import.specs.declared.Fault.{Fault}
 use Rattle.json_import.specs.declared.Fault.TheVariants.{NotJson}
-use Rattle.json_import.specs.declared.Next.{Next}
-use Rattle.json_import.specs.declared.Next.TheVariants.{Again, Closed, Broken}
-use Rattle.json_import.specs.declared.Naming.TheVariants.{Field, Cut}
+use Rattle.json_import.specs.declared.Step.{Step}
+use Rattle.json_import.specs.declared.Step.TheVariants.{Whole, Within}
 use Rattle.json_import.proofs.Skips.{skip_want, skip_name, skip_after, stays_stuck}
 use Rattle.json_import.proofs.Descends.{no_element, no_member}
 use Rattle.json_import.proofs.Places.{byte_inside, sticks_here}
@@ -87,13 +87,13 @@ object-image : (n : ℕ) (ts : Trees) → count ts ≡ n → image ts ++ entry M
 object-image n ts c = ap (λ (m : ℕ). image ts ++ entry MEMBERS (number m ∷ [])) (sym c) ∙ sym (image_close MEMBERS (number (count ts) ∷ []) ts)
 
 module _ {s out : List ℕ} {at w n : ℕ} (x : Behind s at w n) where
-  pub array_again : {e : ℕ} {o : Open} → get_or s at 0 ≡ 0x2C → Blanks s (at + 1) e → o.close ≡ 0x5D → o.count ≡ n → ArrayNext s out at w n (Again e w o) out
+  pub array_again : {e : ℕ} → get_or s at 0 ≡ 0x2C → Blanks s (at + 1) e → ArrayNext s out at w n (Ok (Within (record { at = e; written = w }) (Array n))) out
   unfolding row
-  array_again {e} {o} k y close is =
+  array_again {e} k y =
       record {
         next = λ ts t c.
-            again {e = e} {w₁ = w} {o = o} (arr (ts ⊕ t)) [] (omega (arith, y.on)) y.within y.unblank (omega (arith, y.on, x.2))
-            (an_array {ts = ts ⊕ t} close (is ∙ sym c) (omega (arith, c, x.3, y.on)))
+            again {p = record { at = e; written = w }} (arr (ts ⊕ t)) [] (omega (arith, y.on)) y.within y.unblank (omega (arith, y.on, x.2))
+            (an_array {ts = ts ⊕ t} (sym c) (omega (arith, c, x.3, y.on)))
             (λ fs.
             goes_on (by_byte 0x2C (after t (arr ts ∷ fs)) (want (arr (ts ⊕ t) ∷ fs)) k (omega arith) (λ large. comma_step large t ts fs at))
             (record { runs = λ large says. skip_want is_deep large (arr (ts ⊕ t) ∷ fs) y.ws }))
@@ -101,19 +101,21 @@ module _ {s out : List ℕ} {at w n : ℕ} (x : Behind s at w n) where
             (record { to = omega arith; stored = refl });
       }
 
-  pub array-closed : {w₁ : ℕ} {out₁ : List ℕ} → get_or s at 0 ≡ 0x5D → Wrote out w (entry ARRAY (number n ∷ [])) w₁ out₁ → ArrayNext s out at w n (Closed (at + 1) w₁) out₁
+  pub array-closed : {p : Place} {out₁ : List ℕ} → get_or s at 0 ≡ 0x5D → p.at ≡ at + 1 → Wrote out w (entry ARRAY (number n ∷ [])) p.written out₁ → ArrayNext s out at w n (Ok (Whole p)) out₁
   unfolding count
-  array-closed {w₁} k v =
+  array-closed {p} k q v =
       record {
         next = λ ts t c.
-            closed {e = at + 1} {w₁ = w₁} (array (ts ⊕ t)) (entry ARRAY (number n ∷ [])) refl (omega arith) (omega (arith, byte_inside s at (λ z. omega (arith, k, z))))
-            (omega (arith, x.2, v.to, number_long ARRAY n))
-            (λ fs. by_byte 0x5D (after t (arr ts ∷ fs)) (after (array (ts ⊕ t)) fs) k (omega arith) (λ large. bracket_step large t ts fs at))
+            closed {p = p} (array (ts ⊕ t)) (entry ARRAY (number n ∷ [])) refl (omega (arith, q)) (omega (arith, q, byte_inside s at (λ z. omega (arith, k, z))))
+            (omega (arith, q, x.2, v.to, number_long ARRAY n))
+            (λ fs.
+            subst (λ (e : ℕ). Goes s (after t (arr ts ∷ fs)) at (after (array (ts ⊕ t)) fs) e) (sym q)
+            (by_byte 0x5D (after t (arr ts ∷ fs)) (after (array (ts ⊕ t)) fs) k (omega arith) (λ large. bracket_step large t ts fs at)))
             (array-image n (ts ⊕ t) c)
             v;
       }
 
-  pub array_stuck : {out₁ : List ℕ} → (get_or s at 0 ≡ 0x2C → ⊥) → (get_or s at 0 ≡ 0x5D → ⊥) → ArrayNext s out at w n (Broken (NotJson at)) out₁
+  pub array_stuck : {out₁ : List ℕ} → (get_or s at 0 ≡ 0x2C → ⊥) → (get_or s at 0 ≡ 0x5D → ⊥) → ArrayNext s out at w n (Err (NotJson at)) out₁
   array_stuck p q =
       record {
         next = λ ts t c.
@@ -125,35 +127,35 @@ module _ {s out : List ℕ} {at w n : ℕ} (x : Behind s at w n) where
 
   -- ── Within an object ────────────────────────────────────────────────────────────────────────────
 
-  pub object_again : {r e w₁ : ℕ} {o : Open} {out₁ : List ℕ} → get_or s at 0 ≡ 0x2C → Blanks s (at + 1) r → NamedTo s out r w n (Field e w₁ o) out₁ → ObjectNext s out at w n (Again e w₁ o) out₁
+  pub object_named : {r : ℕ} {st : Result Step Fault} {out₁ : List ℕ} → get_or s at 0 ≡ 0x2C → Blanks s (at + 1) r → NamedTo s out r w n st out₁ → ObjectNext s out at w n st out₁
   unfolding row
-  object_again {r} {e} {w₁} {o} k y (named l b on within unblank inner room p q f g goes put) =
+  object_named {r} k y (named {p} l b on within unblank inner room goes put) =
       record {
         next = λ ts t v a z c.
-            again {e = e} {w₁ = w₁} {o = o} (obj (ts ⊕ field v a z t) l r b) (image (leaf STRING l)) (omega (arith, y.on, on)) within unblank room
-            (an_object {ts = ts ⊕ field v a z t} p (q ∙ sym c) (omega (arith, c, x.3, y.on, on)) f g (omega (arith, y.within, x.1)) (omega (arith, inner, within, x.1)))
+            again {p = p} (obj (ts ⊕ field v a z t) l r b) (image (leaf STRING l)) (omega (arith, y.on, on)) within unblank room
+            (an_object {ts = ts ⊕ field v a z t} (sym c) (omega (arith, c, x.3, y.on, on)) (omega (arith, y.within, x.1)) (omega (arith, inner, within, x.1)))
             (λ fs. goes_on (to_name k y ts t v a z fs) (goes (ts ⊕ field v a z t) fs))
             refl
             put;
       }
-
-  pub object_cut : {r : ℕ} {f : Fault} {out₁ : List ℕ} → get_or s at 0 ≡ 0x2C → Blanks s (at + 1) r → NamedTo s out r w n (Cut f) out₁ → ObjectNext s out at w n (Broken f) out₁
-  object_cut {f = f} k y (NamedTo.broken comes) =
+  object_named k y (NamedTo.broken {f} comes) =
       record { next = λ ts t v a z c. NextTo.broken {f = f} (λ fs. goes_comes f (to_name k y ts t v a z fs) (comes (ts ⊕ field v a z t) fs)) }
 
-  pub object-closed : {w₁ : ℕ} {out₁ : List ℕ} → get_or s at 0 ≡ 0x7D → Wrote out w (entry MEMBERS (number n ∷ [])) w₁ out₁ → ObjectNext s out at w n (Closed (at + 1) w₁) out₁
+  pub object-closed : {p : Place} {out₁ : List ℕ} → get_or s at 0 ≡ 0x7D → p.at ≡ at + 1 → Wrote out w (entry MEMBERS (number n ∷ [])) p.written out₁ → ObjectNext s out at w n (Ok (Whole p)) out₁
   unfolding count
-  object-closed {w₁} k put =
+  object-closed {p} k q put =
       record {
         next = λ ts t v a z c.
-            closed {e = at + 1} {w₁ = w₁} (object (ts ⊕ field v a z t)) (entry MEMBERS (number n ∷ [])) refl (omega arith) (omega (arith, byte_inside s at (λ y. omega (arith, k, y))))
-            (omega (arith, x.2, put.to, number_long MEMBERS n))
-            (λ fs. by_byte 0x7D (after t (obj ts v a z ∷ fs)) (after (object (ts ⊕ field v a z t)) fs) k (omega arith) (λ large. brace_step large t ts v a z fs at))
+            closed {p = p} (object (ts ⊕ field v a z t)) (entry MEMBERS (number n ∷ [])) refl (omega (arith, q)) (omega (arith, q, byte_inside s at (λ y. omega (arith, k, y))))
+            (omega (arith, q, x.2, put.to, number_long MEMBERS n))
+            (λ fs.
+            subst (λ (e : ℕ). Goes s (after t (obj ts v a z ∷ fs)) at (after (object (ts ⊕ field v a z t)) fs) e) (sym q)
+            (by_byte 0x7D (after t (obj ts v a z ∷ fs)) (after (object (ts ⊕ field v a z t)) fs) k (omega arith) (λ large. brace_step large t ts v a z fs at)))
             (object-image n (ts ⊕ field v a z t) c)
             put;
       }
 
-  pub object_stuck : {out₁ : List ℕ} → (get_or s at 0 ≡ 0x2C → ⊥) → (get_or s at 0 ≡ 0x7D → ⊥) → ObjectNext s out at w n (Broken (NotJson at)) out₁
+  pub object_stuck : {out₁ : List ℕ} → (get_or s at 0 ≡ 0x2C → ⊥) → (get_or s at 0 ≡ 0x7D → ⊥) → ObjectNext s out at w n (Err (NotJson at)) out₁
   object_stuck p q =
       record {
         next = λ ts t v a z c.
@@ -166,21 +168,21 @@ module _ {s out : List ℕ} {at w n : ℕ} (x : Behind s at w n) where
 -- ── Within an open value ──────────────────────────────────────────────────────────────────────────
 
 -- White space before what comes next.
-skipped : {s out before out₁ : List ℕ} {from at w : ℕ} {r : Next} (st : List Frame → State) → Blanks s from at → ((fs : List Frame) → Goes s (st fs) from (st fs) at)
+skipped : {s out before out₁ : List ℕ} {from at w : ℕ} {r : Result Step Fault} (st : List Frame → State) → Blanks s from at → ((fs : List Frame) → Goes s (st fs) from (st fs) at)
     → NextTo s out st before at w r out₁ → NextTo s out st before from w r out₁
-skipped st x skip (again {e} {w₁} {o} g bytes on within unblank room opened goes is put) =
-    again {e = e} {w₁ = w₁} {o = o} g bytes (omega (arith, x.on, on)) within unblank room opened (λ fs. goes_on (skip fs) (goes fs)) is put
-skipped st x skip (closed {e} {w₁} u bytes one on within room goes is put) =
-    closed {e = e} {w₁ = w₁} u bytes one (omega (arith, x.on, on)) within room (λ fs. goes_on (skip fs) (goes fs)) is put
+skipped st x skip (again {p} {o} g bytes on within unblank room opened goes is put) =
+    again {p = p} {o = o} g bytes (omega (arith, x.on, on)) within unblank room opened (λ fs. goes_on (skip fs) (goes fs)) is put
+skipped st x skip (closed {p} u bytes one on within room goes is put) =
+    closed {p = p} u bytes one (omega (arith, x.on, on)) within room (λ fs. goes_on (skip fs) (goes fs)) is put
 skipped st x skip (NextTo.broken {f} comes) = NextTo.broken {f = f} (λ fs. goes_comes f (skip fs) (comes fs))
 
 -- What was written before it.
-behind_it : {s out out₁ out₂ before extra : List ℕ} {at w w₁ : ℕ} {r : Next} {st : List Frame → State} → Wrote out w extra w₁ out₁ → NextTo s out₁ st (before ++ extra) at w₁ r out₂
+behind_it : {s out out₁ out₂ before extra : List ℕ} {at w w₁ : ℕ} {r : Result Step Fault} {st : List Frame → State} → Wrote out w extra w₁ out₁ → NextTo s out₁ st (before ++ extra) at w₁ r out₂
     → NextTo s out st before at w r out₂
-behind_it {before = before} {extra = extra} put (again {e} {w₁} {o} g bytes on within unblank room opened goes is more) =
-    again {e = e} {w₁ = w₁} {o = o} g (extra ++ bytes) on within unblank room opened goes (sym (append_assoc before extra bytes) ∙ is) (and_then put more)
-behind_it {before = before} {extra = extra} put (closed {e} {w₁} u bytes one on within room goes is more) =
-    closed {e = e} {w₁ = w₁} u (extra ++ bytes) one on within room goes (sym (append_assoc before extra bytes) ∙ is) (and_then put more)
+behind_it {before = before} {extra = extra} put (again {p} {o} g bytes on within unblank room opened goes is more) =
+    again {p = p} {o = o} g (extra ++ bytes) on within unblank room opened goes (sym (append_assoc before extra bytes) ∙ is) (and_then put more)
+behind_it {before = before} {extra = extra} put (closed {p} u bytes one on within room goes is more) =
+    closed {p = p} u (extra ++ bytes) one on within room goes (sym (append_assoc before extra bytes) ∙ is) (and_then put more)
 behind_it put (NextTo.broken {f} comes) = NextTo.broken {f = f} comes
 
 field-image : (ts t : Trees) (v : List ℕ) (a e : ℕ)
@@ -196,56 +198,53 @@ pub field_long : (a e : ℕ) → length (entry FIELD (span a e ∷ byte 0 ∷ by
 unfolding entry payload
 field_long a e = refl
 
-pub standing_count : {at : ℕ} {o : Open} → Standing at o → o.count ≤ at
-standing_count {at} {o} x = by x.opened
+pub array_count : {at n : ℕ} → Standing at (Array n) → n ≤ at
+array_count {at} {n} x = by x.opened
   where
-    by : {f : Frame} → Opened at o f → o.count ≤ at
-    by (an_array close is below) = omega (arith, is, below)
-    by (an_object close is below p q u v) = omega (arith, is, below)
+    by : {f : Frame} → Opened at (Array n) f → n ≤ at
+    by (an_array is below) = omega (arith, is, below)
 
-pub standing_place : {at : ℕ} {o : Open} → Standing at o → (o.close ≡ 0x5D → ⊥) → (o.start ≤ 65000) × (o.end ≤ 65000)
-standing_place {at} {o} x n = by x.opened
+pub object_count : {at n a e : ℕ} → Standing at (Object n a e) → (n ≤ at) × (a ≤ 65000) × (e ≤ 65000)
+object_count {at} {n} {a} {e} x = by x.opened
   where
-    by : {f : Frame} → Opened at o f → (o.start ≤ 65000) × (o.end ≤ 65000)
-    by (an_array close is below) = absurd (n close)
-    by (an_object close is below p q u v) = (omega (arith, p, u), omega (arith, q, v))
+    by : {f : Frame} → Opened at (Object n a e) f → (n ≤ at) × (a ≤ 65000) × (e ≤ 65000)
+    by (an_object is below p q) = (omega (arith, is, below), p, q)
 
-module _ {s out : List ℕ} {from at w : ℕ} {o : Open} (x : Blanks s from at) where
-  pub array-within : {r : Next} {out₁ : List ℕ} → o.close ≡ 0x5D → ArrayNext s out at w (o.count + 1) r out₁ → OpenNext s out from w o r out₁
+module _ {s out : List ℕ} {from at w n : ℕ} (x : Blanks s from at) where
+  pub array-within : {r : Result Step Fault} {out₁ : List ℕ} → ArrayNext s out at w (n + 1) r out₁ → OpenNext s out from w (Array n) r out₁
   unfolding row
-  array-within {r} {out₁} k y = record { next = by }
+  array-within {r} {out₁} y = record { next = by }
     where
-      by : (f : Frame) (t : Trees) → Opened from o f → count t ≡ 1 → NextTo s out (λ fs. after t (f ∷ fs)) (row f ++ image t) from w r out₁
-      by (arr ts) t (an_array close is below) one =
+      by : (f : Frame) (t : Trees) → Opened from (Array n) f → count t ≡ 1 → NextTo s out (λ fs. after t (f ∷ fs)) (row f ++ image t) from w r out₁
+      by (arr ts) t (an_array is below) one =
           skipped (λ fs. after t (arr ts ∷ fs)) x (λ fs. skip_behind x t (arr ts ∷ fs))
           (subst (λ (l : List ℕ). NextTo s out (λ fs. after t (arr ts ∷ fs)) l at w r out₁) (image-row ts t) (y.next ts t (omega (arith, count-row ts t, one, is))))
-      by (obj ts v a e) t (an_object close is below p q u z) one = absurd (omega (arith, k, close))
+      by (obj _ _ _ _) t x one = elim x [ ]
 
-  pub object-within : {w₁ : ℕ} {r : Next} {out₁ out₂ : List ℕ} → (o.close ≡ 0x5D → ⊥)
-      → Wrote out w (entry FIELD (span o.start o.end ∷ byte 0 ∷ byte 0 ∷ byte 0 ∷ number 0 ∷ byte 0 ∷ [])) w₁ out₁ → ObjectNext s out₁ at w₁ (o.count + 1) r out₂
-      → OpenNext s out from w o r out₂
+  pub object-within : {a e w₁ : ℕ} {r : Result Step Fault} {out₁ out₂ : List ℕ}
+      → Wrote out w (entry FIELD (span a e ∷ byte 0 ∷ byte 0 ∷ byte 0 ∷ number 0 ∷ byte 0 ∷ [])) w₁ out₁ → ObjectNext s out₁ at w₁ (n + 1) r out₂
+      → OpenNext s out from w (Object n a e) r out₂
   unfolding row count
-  object-within {w₁} {r} {out₁} {out₂} k put y = record { next = by }
+  object-within {a} {e} {w₁} {r} {out₁} {out₂} put y = record { next = by }
     where
-      by : (f : Frame) (t : Trees) → Opened from o f → count t ≡ 1 → NextTo s out (λ fs. after t (f ∷ fs)) (row f ++ image t) from w r out₂
-      by (arr ts) t (an_array close is below) one = absurd (k close)
-      by (obj ts v a e) t (an_object close is below p q u z) one =
+      by : (f : Frame) (t : Trees) → Opened from (Object n a e) f → count t ≡ 1 → NextTo s out (λ fs. after t (f ∷ fs)) (row f ++ image t) from w r out₂
+      by (arr _) t x one = elim x [ ]
+      by (obj ts v a e) t (an_object is below p q) one =
           skipped (λ fs. after t (obj ts v a e ∷ fs)) x (λ fs. skip_behind x t (obj ts v a e ∷ fs))
-          (behind_it (subst (λ (m : ℕ). Wrote out w (entry FIELD (span a m ∷ byte 0 ∷ byte 0 ∷ byte 0 ∷ number 0 ∷ byte 0 ∷ [])) w₁ out₁) q
-          (subst (λ (m : ℕ). Wrote out w (entry FIELD (span m o.end ∷ byte 0 ∷ byte 0 ∷ byte 0 ∷ number 0 ∷ byte 0 ∷ [])) w₁ out₁) p put))
+          (behind_it put
           (subst (λ (l : List ℕ). NextTo s out₁ (λ fs. after t (obj ts v a e ∷ fs)) l at w₁ r out₂) (field-image ts t v a e)
           (y.next ts t v a e (omega (arith, count-row ts (field v a e t), is)))))
 
 -- ── The end of the text ───────────────────────────────────────────────────────────────────────────
 
-module _ {s : List ℕ} {from at w : ℕ} (x : Blanks s from at) where
-  pub text_ends : length s ≤ at → EndedTo s from w (leaves.Done at w)
+module _ {s : List ℕ} {from at : ℕ} (x : Blanks s from at) where
+  pub text_ends : {u : Unit {0}} → length s ≤ at → EndedTo s from (Ok u)
   unfolding run finish ended
-  text_ends h =
-      whole_text {e = at}
+  text_ends {u} h =
+      whole_text {u = u}
       (λ t. record { runs = λ large says. (skip_behind x t []).runs large says ∙ ap (λ (l : List ℕ). run is_deep large (after t []) at l) (drop_of_length-le s h) })
 
-  pub text_goes_on : at < length s → EndedTo s from w (leaves.Broken (NotJson at))
+  pub text_goes_on : at < length s → EndedTo s from (Err (NotJson at))
   text_goes_on h =
       left_over {f = NotJson at}
       (λ t.

@@ -17,12 +17,11 @@ use Rattle.json_import.specs.Machine.{Frame, State, want, after, is_deep}
 use Rattle.json_import.specs.Inner.{Blanks}
 use Rattle.json_import.specs.Leaves.{Goes, Ready}
 use Rattle.json_import.specs.Steps.{row, Opened, an_array, an_object, OpensTo, NextTo, Standing, OpenNext, EndedTo, whole_text, left_over, ParsedTo, parsed}
+use Rattle.std.specs.Prelude.{Ok, Err}
 use Rattle.json_import.specs.declared.Open.{Open}
-use Rattle.json_import.specs.declared.Leaf.{Leaf}
-use Rattle.json_import.specs.declared.Leaf.TheVariants as leaves
 use Rattle.json_import.specs.declared.Fault.{Fault}
-use Rattle.json_import.specs.declared.Step.TheVariants.{Whole, Enter, Broken}
-use Rattle.json_import.specs.declared.Next.TheVariants as nexts
+use Rattle.json_import.specs.declared.Step.{Step}
+use Rattle.json_import.specs.declared.Step.TheVariants.{Whole, Within}
 use Rattle.json_import.proofs.Skips.{skip_want}
 use Rattle.json_import.proofs.LeafPlaces.{goes_on, goes_comes}
 
@@ -34,8 +33,8 @@ pub data Stacked (stack : List Open) (at : ℕ) : ℕ → List Frame → Type 0 
   above : {d k : ℕ} {f : Frame} {fs : List Frame} (o : Open) → k ≡ d + 1 → ((z : Open) → get_or stack d z ≡ o) → Opened at o f → Stacked stack at d fs → Stacked stack at k (f ∷ fs)
 
 opened_later : {at e : ℕ} {o : Open} {f : Frame} → at ≤ e → Opened at o f → Opened e o f
-opened_later h (an_array {ts} close is below) = an_array {ts = ts} close is (omega (arith, h, below))
-opened_later h (an_object {ts} {w} {a} {e = b} close is below p q u v) = an_object {ts = ts} {w = w} {a = a} {e = b} close is (omega (arith, h, below)) p q u v
+opened_later h (an_array {ts = ts} is below) = an_array {ts = ts} is (omega (arith, h, below))
+opened_later h (an_object {ts = ts} {w = w} is below p q) = an_object {ts = ts} {w = w} is (omega (arith, h, below)) p q
 
 stacked_later : {stack : List Open} {at e d : ℕ} {fs : List Frame} → at ≤ e → Stacked stack at d fs → Stacked stack e d fs
 stacked_later h (empty z) = empty z
@@ -82,6 +81,15 @@ pub data Stood (s out₀ : List ℕ) (stack : List Open) (out : List ℕ) (depth
   stood : (fs : List Frame) (t : Trees) → depth ≤ 200 → Stacked stack at depth fs → count t ≡ 1 → Reached s out₀ out (after t fs) (rows fs ++ image t) at w
       → Stood s out₀ stack out depth at w
 
+-- What is next: a value is whole, or one is wanted within an open value that the stack is to have.
+abbrev pub Going : List ℕ → List ℕ → List Open → List ℕ → ℕ → Step → Type 0
+Going s out₀ stack out depth (Whole p) = Stood s out₀ stack out depth p.at p.written
+Going s out₀ stack out depth (Within p o) = (depth < 200) × Wanted s out₀ (set stack depth o) out (depth + 1) p.at p.written
+
+abbrev pub place_of : Step → ℕ
+place_of (Whole p) = p.at
+place_of (Within p o) = p.at
+
 -- ── A value is wanted ─────────────────────────────────────────────────────────────────────────────
 
 -- The text's own value.
@@ -100,29 +108,25 @@ module _ {s out₀ out : List ℕ} {stack : List Open} {depth at w : ℕ} (x : W
   pub wanted_ready : length s ≤ 65000 → Ready s at w × (is_blank (get_or s at 0) ≡ false)
   wanted_ready l = ((x.reached.within, l, x.reached.room), x.unblank)
 
-  pub wanted_broken : {f : Fault} {out₁ : List ℕ} → OpensTo s out (λ gs. length gs ≡ depth) want at w (Broken f) out₁ → ParsedTo s out₀ (leaves.Broken f) out₁
+  pub wanted_broken : {f : Fault} {out₁ : List ℕ} → OpensTo s out (λ gs. length gs ≡ depth) want at w (Err f) out₁ → ParsedTo s out₀ (Err f) out₁
   wanted_broken {f} (OpensTo.broken comes) = ParsedTo.broken {f = f} (goes_comes f x.reached.goes (comes x.frames (stacked_length x.stacked)))
 
-  pub wanted_whole : {e w₁ : ℕ} {out₁ : List ℕ} → OpensTo s out (λ gs. length gs ≡ depth) want at w (Whole e w₁) out₁ → Stood s out₀ stack out₁ depth e w₁
-  wanted_whole (OpensTo.whole t one on within room goes put) =
+  pub wanted_on : {r : Step} {out₁ : List ℕ} → length stack ≡ 200 → OpensTo s out (λ gs. length gs ≡ depth) want at w (Ok r) out₁ → Going s out₀ stack out₁ depth r
+  unfolding rows
+  wanted_on l (OpensTo.whole t one on within room goes put) =
       stood x.frames t x.below (stacked_later on x.stacked) one
       (record { within = within; room = room; goes = goes_on x.reached.goes (goes x.frames (stacked_length x.stacked)); wrote = and_then x.reached.wrote put })
-
-  pub enter_below : {e w₁ : ℕ} {o : Open} {out₁ : List ℕ} → OpensTo s out (λ gs. length gs ≡ depth) want at w (Enter e w₁ o) out₁ → depth < 200
-  enter_below (OpensTo.enter f on within unblank room opened below goes put) = omega (arith, below x.frames (stacked_length x.stacked), stacked_length x.stacked)
-
-  pub wanted_enter : {e w₁ : ℕ} {o : Open} {out₁ : List ℕ} → length stack ≡ 200 → OpensTo s out (λ gs. length gs ≡ depth) want at w (Enter e w₁ o) out₁
-      → Wanted s out₀ (set stack depth o) out₁ (depth + 1) e w₁
-  unfolding rows
-  wanted_enter {o = o} l (OpensTo.enter f on within unblank room opened below goes put) =
-      let h : depth < 200 = omega (arith, below x.frames (stacked_length x.stacked), stacked_length x.stacked) in
-      record {
-        frames = f ∷ x.frames;
-        below = omega (arith, h);
-        stacked = stacked_push {i = depth} o refl refl (omega (arith, l, h)) opened (stacked_later on x.stacked);
-        unblank = unblank;
-        reached = record { within = within; room = room; goes = goes_on x.reached.goes (goes x.frames (stacked_length x.stacked)); wrote = and_then x.reached.wrote put };
-      }
+  wanted_on l (OpensTo.enter {o = o} f on within unblank room opened below goes put) =
+      let h : depth < 200 = omega (arith, below x.frames (stacked_length x.stacked), stacked_length x.stacked) in (
+        h,
+        record {
+          frames = f ∷ x.frames;
+          below = omega (arith, h);
+          stacked = stacked_push {i = depth} o refl refl (omega (arith, l, h)) opened (stacked_later on x.stacked);
+          unblank = unblank;
+          reached = record { within = within; room = room; goes = goes_on x.reached.goes (goes x.frames (stacked_length x.stacked)); wrote = and_then x.reached.wrote put };
+        },
+      )
 
 -- ── A value is whole ──────────────────────────────────────────────────────────────────────────────
 
@@ -137,25 +141,25 @@ of_the_open {out₀} {out₁ = out₁} {bytes = bytes} {w₁ = w₁} f fs t befo
 
 module _ {s out₀ out out₁ : List ℕ} {stack : List Open} {depth d at w : ℕ} (f : Frame) (fs : List Frame) (t : Trees) (k : depth ≡ d + 1) (h : depth ≤ 200) (under : Stacked stack at d fs)
     (x : Reached s out₀ out (after t (f ∷ fs)) (rows (f ∷ fs) ++ image t) at w) where
-  next_wanted : {i w₁ : ℕ} {o : Open} → length stack ≡ 200 → NextTo s out (λ gs. after t (f ∷ gs)) (row f ++ image t) at w (nexts.Again i w₁ o) out₁
-      → Wanted s out₀ (set stack (depth - 1) o) out₁ depth i w₁
+  next_on : {r : Step} → length stack ≡ 200 → NextTo s out (λ gs. after t (f ∷ gs)) (row f ++ image t) at w (Ok r) out₁ → Going s out₀ stack out₁ (depth - 1) r
   unfolding rows
-  next_wanted {o = o} l (NextTo.again g bytes on within unblank room opened goes is put) =
-      record {
-        frames = g ∷ fs;
-        below = h;
-        stacked = stacked_push {i = depth - 1} o (omega (arith, k)) k (omega (arith, l, k, h)) opened (stacked_later (omega (arith, on)) under);
-        unblank = unblank;
-        reached = record { within = within; room = room; goes = goes_on x.goes (goes fs); wrote = of_the_open f fs t x.wrote put is };
-      }
-
-  next_stood : {i w₁ : ℕ} → NextTo s out (λ gs. after t (f ∷ gs)) (row f ++ image t) at w (nexts.Closed i w₁) out₁ → Stood s out₀ stack out₁ (depth - 1) i w₁
-  next_stood {i} (NextTo.closed u bytes one on within room goes is put) =
+  next_on l (NextTo.again {p} {o} g bytes on within unblank room opened goes is put) =
+      let same : depth - 1 + 1 ≡ depth = omega (arith, k) in (
+        omega (arith, k, h),
+        record {
+          frames = g ∷ fs;
+          below = omega (arith, same, h);
+          stacked = stacked_push {i = depth - 1} o (omega (arith, k)) (omega (arith, k)) (omega (arith, l, k, h)) opened (stacked_later (omega (arith, on)) under);
+          unblank = unblank;
+          reached = record { within = within; room = room; goes = goes_on x.goes (goes fs); wrote = of_the_open f fs t x.wrote put is };
+        },
+      )
+  next_on l (NextTo.closed {p} u bytes one on within room goes is put) =
       let same : d ≡ depth - 1 = omega (arith, k) in
-      stood fs u (omega (arith, h)) (subst (λ (n : ℕ). Stacked stack i n fs) same (stacked_later (omega (arith, on)) under)) one
+      stood fs u (omega (arith, h)) (subst (λ (n : ℕ). Stacked stack p.at n fs) same (stacked_later (omega (arith, on)) under)) one
       (record { within = within; room = room; goes = goes_on x.goes (goes fs); wrote = of_the_open f fs t x.wrote put is })
 
-  next_broken : {i : Fault} → NextTo s out (λ gs. after t (f ∷ gs)) (row f ++ image t) at w (nexts.Broken i) out₁ → ParsedTo s out₀ (leaves.Broken i) out₁
+  next_broken : {i : Fault} → NextTo s out (λ gs. after t (f ∷ gs)) (row f ++ image t) at w (Err i) out₁ → ParsedTo s out₀ (Err i) out₁
   next_broken {i} (NextTo.broken comes) = ParsedTo.broken {f = i} (goes_comes i x.goes (comes fs))
 
 -- The entry of the stack that stands for the innermost open value.
@@ -171,52 +175,41 @@ module _ {s out₀ out : List ℕ} {stack : List Open} {depth at w : ℕ} where
   pub stood_below : Stood s out₀ stack out depth at w → depth ≤ 200
   stood_below (stood fs t h st one x) = h
 
-  pub stood_ended : {r : Leaf} → depth ≡ 0 → Stood s out₀ stack out depth at w → EndedTo s at w r → ParsedTo s out₀ r out
+  pub stood_ended : {u : Unit {0}} → depth ≡ 0 → Stood s out₀ stack out depth at w → EndedTo s at (Ok u) → ParsedTo s out₀ (Ok w) out
   unfolding rows
   stood_ended n (stood (f ∷ fs) t h (above o k is opened under) one x) v = absurd (omega (arith, n, k))
-  stood_ended n (stood [] t h (empty k) one x) (whole_text {e = i} comes) =
-      parsed {e = i} {w₁ = w} t (record { runs = λ large says. x.goes.runs large says ∙ (comes t).runs large says }) x.wrote
-  stood_ended n (stood [] t h (empty k) one x) (left_over {f} comes) = ParsedTo.broken {f = f} (goes_comes f x.goes (comes t))
+  stood_ended n (stood [] t h (empty k) one x) (whole_text comes) = parsed {w = w} t (record { runs = λ large says. x.goes.runs large says ∙ (comes t).runs large says }) x.wrote
+
+  pub stood_left_over : {f : Fault} → depth ≡ 0 → Stood s out₀ stack out depth at w → EndedTo s at (Err f) → ParsedTo s out₀ (Err f) out
+  stood_left_over n (stood (f ∷ fs) t h (above o k is opened under) one x) v = absurd (omega (arith, n, k))
+  stood_left_over n (stood [] t h (empty k) one x) (left_over {f} comes) = ParsedTo.broken {f = f} (goes_comes f x.goes (comes t))
 
   module _ (z : Open) (n : ¬ (depth ≡ 0)) where
     pub stood_standing : Stood s out₀ stack out depth at w → Standing at (get_or stack (depth - 1) z)
     stood_standing (stood [] t h (empty k) one x) = absurd (n k)
     stood_standing (stood (f ∷ fs) t h (above {d = d} o k is opened under) one x) = record { frame = f; opened = entry_is stack d z k is opened }
 
-    pub stood_again : {i w₁ : ℕ} {o : Open} {out₁ : List ℕ} → length stack ≡ 200 → Stood s out₀ stack out depth at w → OpenNext s out at w (get_or stack (depth - 1) z) (nexts.Again i w₁ o) out₁
-        → Wanted s out₀ (set stack (depth - 1) o) out₁ depth i w₁
-    stood_again l (stood [] t h (empty k) one x) v = absurd (n k)
-    stood_again l (stood (f ∷ fs) t h (above {d = d} o k is opened under) one x) v = next_wanted f fs t k h under x l (v.next f t (entry_is stack d z k is opened) one)
+    pub stood_on : {r : Step} {out₁ : List ℕ} → length stack ≡ 200 → Stood s out₀ stack out depth at w → OpenNext s out at w (get_or stack (depth - 1) z) (Ok r) out₁ → Going s out₀ stack out₁ (depth - 1) r
+    stood_on l (stood [] t h (empty k) one x) v = absurd (n k)
+    stood_on l (stood (f ∷ fs) t h (above {d = d} o k is opened under) one x) v = next_on f fs t k h under x l (v.next f t (entry_is stack d z k is opened) one)
 
-    pub stood_closed : {i w₁ : ℕ} {out₁ : List ℕ} → Stood s out₀ stack out depth at w → OpenNext s out at w (get_or stack (depth - 1) z) (nexts.Closed i w₁) out₁
-        → Stood s out₀ stack out₁ (depth - 1) i w₁
-    stood_closed (stood [] t h (empty k) one x) v = absurd (n k)
-    stood_closed (stood (f ∷ fs) t h (above {d = d} o k is opened under) one x) v = next_stood f fs t k h under x (v.next f t (entry_is stack d z k is opened) one)
-
-    pub stood_broken : {i : Fault} {out₁ : List ℕ} → Stood s out₀ stack out depth at w → OpenNext s out at w (get_or stack (depth - 1) z) (nexts.Broken i) out₁ → ParsedTo s out₀ (leaves.Broken i) out₁
+    pub stood_broken : {i : Fault} {out₁ : List ℕ} → Stood s out₀ stack out depth at w → OpenNext s out at w (get_or stack (depth - 1) z) (Err i) out₁ → ParsedTo s out₀ (Err i) out₁
     stood_broken (stood [] t h (empty k) one x) v = absurd (n k)
     stood_broken (stood (f ∷ fs) t h (above {d = d} o k is opened under) one x) v = next_broken f fs t k h under x (v.next f t (entry_is stack d z k is opened) one)
 
--- ── The loops end ─────────────────────────────────────────────────────────────────────────────────
+-- ── The loop ends ─────────────────────────────────────────────────────────────────────────────────
 
 -- A value takes the place on, or stays and opens one more.
-pub whole_on : {s out out₁ : List ℕ} {Fits : List Frame → Type 0} {st : List Frame → State} {at w e w₁ : ℕ} → OpensTo s out Fits st at w (Whole e w₁) out₁ → at ≤ e
-whole_on (OpensTo.whole t one on within room goes put) = on
+pub value_later : {s out out₁ : List ℕ} {Fits : List Frame → Type 0} {st : List Frame → State} {at w : ℕ} {r : Step} → OpensTo s out Fits st at w (Ok r) out₁
+    → (at ≤ place_of r) × (place_of r ≤ length s)
+value_later (OpensTo.whole t one on within room goes put) = (on, within)
+value_later (OpensTo.enter f on within unblank room opened below goes put) = (on, within)
 
-pub enter_on : {s out out₁ : List ℕ} {Fits : List Frame → Type 0} {st : List Frame → State} {at w e w₁ : ℕ} {o : Open} → OpensTo s out Fits st at w (Enter e w₁ o) out₁ → (at ≤ e) × (e ≤ length s)
-enter_on (OpensTo.enter f on within unblank room opened below goes put) = (on, within)
-
-again_later : {s out out₁ before : List ℕ} {st : List Frame → State} {at w e w₁ : ℕ} {o : Open} → NextTo s out st before at w (nexts.Again e w₁ o) out₁ → (at < e) × (e ≤ length s)
-again_later (NextTo.again g bytes on within unblank room opened goes is put) = (on, within)
-
-closed_later : {s out out₁ before : List ℕ} {st : List Frame → State} {at w e w₁ : ℕ} → NextTo s out st before at w (nexts.Closed e w₁) out₁ → (at < e) × (e ≤ length s)
-closed_later (NextTo.closed u bytes one on within room goes is put) = (on, within)
+next_later : {s out out₁ before : List ℕ} {st : List Frame → State} {at w : ℕ} {r : Step} → NextTo s out st before at w (Ok r) out₁ → (at < place_of r) × (place_of r ≤ length s)
+next_later (NextTo.again g bytes on within unblank room opened goes is put) = (on, within)
+next_later (NextTo.closed u bytes one on within room goes is put) = (on, within)
 
 -- What comes behind a value takes it on.
-pub again_on : {s out out₁ : List ℕ} {at w e w₁ : ℕ} {o p : Open} → Standing at o → OpenNext s out at w o (nexts.Again e w₁ p) out₁ → (at < e) × (e ≤ length s)
+pub within_later : {s out out₁ : List ℕ} {at w : ℕ} {r : Step} {o : Open} → Standing at o → OpenNext s out at w o (Ok r) out₁ → (at < place_of r) × (place_of r ≤ length s)
 unfolding count
-again_on y v = again_later (v.next y.frame (array none) y.opened refl)
-
-pub closed_on : {s out out₁ : List ℕ} {at w e w₁ : ℕ} {o : Open} → Standing at o → OpenNext s out at w o (nexts.Closed e w₁) out₁ → (at < e) × (e ≤ length s)
-unfolding count
-closed_on y v = closed_later (v.next y.frame (array none) y.opened refl)
+within_later y v = next_later (v.next y.frame (array none) y.opened refl)

@@ -13,13 +13,19 @@ use Rattle.strings.proofs.Stores.{drop-next}
 use Rattle.grammar.specs.Trees.{Trees}
 use Rattle.grammar.specs.Answer.{refused}
 use Rattle.json_import.specs.Json.{NOT_JSON}
-use Rattle.json_import.specs.Machine.{Frame, Use, Escape, State, chars, escape, stuck, spelled, spelling, escaped, step, finish, run}
+use Rattle.json_import.specs.Machine.{Frame, Use, Escape, State, after, chars, escape, stuck, spelled, spelling, escaped, step, finish, run}
 use Rattle.json_import.specs.Inner.{Leads, Sticks, WordTo, spelt, other, EscapeTo, code, stops}
-use Rattle.json_import.specs.declared.Scanned.TheVariants.{To, Stops}
+use Rattle.std.specs.Prelude.{Result, Ok, Err, IsErrAnd}
+use Rattle.std.proofs.lemmas.Result.{err_from_is_err_and}
 use Rattle.json_import.specs.declared.text.Escaped.{Escaped}
-use Rattle.json_import.specs.declared.text.Escaped.TheVariants as variants
+use Rattle.json_import.specs.declared.Fault.{Fault}
+use Rattle.json_import.specs.declared.Fault.TheVariants.{NotJson}
 use Rattle.json_import.proofs.Skips.{stays_stuck}
 use Rattle.json_import.proofs.Tokens.{other_letter}
+
+-- What a `?` hands out is the fault that it met.
+pub err_out : {T E : Type 0} {r : Result T E} {e : E} → IsErrAnd r (λ x. x ≡ e) → r ≡ Err e
+err_out {r = r} h = let p = err_from_is_err_and r h in p.1 ∙ ap Err p.2
 
 -- ── One byte ──────────────────────────────────────────────────────────────────────────────────────
 
@@ -102,7 +108,7 @@ module _ {s letters : List ℕ} {at i : ℕ} (x : SpeltSoFar s letters at i) (h 
             (λ deep large. right_letter deep large (get_or letters i 0) (drop (i + 1) letters) t fs (at + i) (get_or s (at + i) 0) e));
       }
 
-  pub spelt_other : (at + i < length s → get_or s (at + i) 0 ≡ get_or letters i 0 → ⊥) → WordTo s letters at (Stops (at + i))
+  pub spelt_other : (at + i < length s → get_or s (at + i) 0 ≡ get_or letters i 0 → ⊥) → WordTo s letters at (Err (NotJson (at + i)))
   spelt_other n =
       other
       (λ t fs.
@@ -110,32 +116,35 @@ module _ {s letters : List ℕ} {at i : ℕ} (x : SpeltSoFar s letters at i) (h 
       (sticks_here (spelling (get_or letters i 0 ∷ drop (i + 1) letters) t fs) (at + i) (λ deep large. no_letter deep large (get_or letters i 0) (drop (i + 1) letters) t fs (at + i))
       (λ l deep large. wrong_letter deep large (get_or letters i 0) (drop (i + 1) letters) t fs (at + i) (get_or s (at + i) 0) (n l))))
 
-pub spelt_end : {s letters : List ℕ} {at i : ℕ} → SpeltSoFar s letters at i → length letters ≤ i → WordTo s letters at (To (at + i))
+pub spelt_end : {s letters : List ℕ} {at i : ℕ} → SpeltSoFar s letters at i → length letters ≤ i → WordTo s letters at (Ok (at + length letters))
 spelt_end {s} {letters} {at} {i} x h =
-    spelt {e = at + i} (omega (arith, x.most, h)) x.within
-    (λ t fs. subst (λ (r : List ℕ). Leads s (spelling letters t fs) at (spelling r t fs) (at + i)) (drop_of_length-le letters h) (x.leads t fs))
+    let all : i ≡ length letters = omega (arith, x.most, h) in
+    spelt {e = at + length letters} refl (omega (arith, x.within, all))
+    (λ t fs.
+    subst (λ (k : ℕ). Leads s (spelling letters t fs) at (after t fs) (at + k)) all
+    (subst (λ (r : List ℕ). Leads s (spelling letters t fs) at (spelling r t fs) (at + i)) (drop_of_length-le letters h) (x.leads t fs)))
 
 -- ── Escapes ───────────────────────────────────────────────────────────────────────────────────────
 
 -- One byte more of an escape, before what it comes to.
-pub one_before : {s : List ℕ} {k m at j : ℕ} {r : Escaped} (x y : Escape) → at < length s → m ≡ k + 1 → j ≡ at + 1
+pub one_before : {s : List ℕ} {k m at j : ℕ} {r : Result Escaped Fault} (x y : Escape) → at < length s → m ≡ k + 1 → j ≡ at + 1
     → ((w : List ℕ) (us : Use) (fs : List Frame) (i : ℕ) → escaped x w us fs i (get_or s at 0) ≡ escape y w us fs) → EscapeTo s y m j r → EscapeTo s x k at r
 unfolding step
-one_before {s} {k} {m} {at} {j} x y h p q f (code {c} {e} on within below short leads) =
+one_before {s} {k} {m} {at} {j} x y h p q f (code {e} on within below short leads) =
     code {e = e} (omega (arith, on, q)) within below (omega (arith, short, p, q))
     (λ w us fs. leads_on (one_on (escape x w us fs) (escape y w us fs) at j h q (λ deep large. f w us fs at)) (leads w us fs))
 one_before {s} {k} {m} {at} {j} x y h p q f (stops sticks) =
     stops (λ w us fs. leads_stick (one_on (escape x w us fs) (escape y w us fs) at j h q (λ deep large. f w us fs at)) (sticks w us fs))
 
 -- No escape goes on here.
-pub stops-here : {s : List ℕ} {k at : ℕ} (x : Escape) → ((w : List ℕ) (us : Use) (fs : List Frame) (i : ℕ) → escaped x w us fs i (get_or s at 0) ≡ stuck i) → EscapeTo s x k at (variants.Stops at)
+pub stops-here : {s : List ℕ} {k at : ℕ} (x : Escape) → ((w : List ℕ) (us : Use) (fs : List Frame) (i : ℕ) → escaped x w us fs i (get_or s at 0) ≡ stuck i) → EscapeTo s x k at (Err (NotJson at))
 unfolding step finish
 stops-here {s} {k} {at} x f = stops (λ w us fs. sticks_here (escape x w us fs) at (λ deep large. refl) (λ l deep large. f w us fs at))
 
 -- The last byte of an escape.
 pub code_here : {s : List ℕ} {k at j : ℕ} (x : Escape) (c : ℕ) → at < length s → j ≡ at + 1 → c < 0x110000 → length (utf8 c) ≤ k + 1
-    → ((w : List ℕ) (us : Use) (fs : List Frame) (i : ℕ) → escaped x w us fs i (get_or s at 0) ≡ chars (w ++ utf8 c) us fs) → EscapeTo s x k at (variants.Code c j)
+    → ((w : List ℕ) (us : Use) (fs : List Frame) (i : ℕ) → escaped x w us fs i (get_or s at 0) ≡ chars (w ++ utf8 c) us fs) → EscapeTo s x k at (Ok (record { code = c; end = j }))
 unfolding step
 code_here {s} {k} {at} {j} x c h q below short f =
-    code {e = j} (omega (arith, q)) (omega (arith, h, q)) below (omega (arith, short, q))
+    code {e = record { code = c; end = j }} (omega (arith, q)) (omega (arith, h, q)) below (omega (arith, short, q))
     (λ w us fs. one_on (escape x w us fs) (chars (w ++ utf8 c) us fs) at j h q (λ deep large. f w us fs at))

@@ -1,20 +1,21 @@
 -- How far the scanners have come: the invariants of their loops, and what they end in.
 -- Assumes nothing.
 use mathlib.Core.Path.{◌≡◌, refl, sym, ap, subst, ◌∙◌}
-use mathlib.Core.Bool.{Bool, true, false, cond}
+use mathlib.Core.Bool.{Bool, true, false}
 use mathlib.Core.List.{List, [], ◌∷◌, ◌++◌, append_assoc, append-nil}
 use Prim.Native.Nat.{ℕ, ◌+◌, ◌≤◌, ◌<◌}
 use native.Mathlib.Omega.{arith}
 use native.Mathlib.Numerals.{add-one}
 use lib.ListN.{length, drop, get_or, get_or-eq_default, length-append, drop_of_length-le}
 use lib.Seq.{drop-cons}
-use borrow.Author.Tests.{ne_eqb}
-use Rattle.numerals.specs.Value.{is_digit}
 use Rattle.json_import.specs.Tokens.{At, ◌▹◌, is_blank, Ws}
-use Rattle.json_import.specs.Machine.{Shape, zero, int, point, frac, mark, sign, over, is_mark, is_sign, begun, next, whole, is_over, walk, Stopped, Frame, State, digits, run}
+use Rattle.json_import.specs.Machine.{Shape, over, begun, next, whole, is_over, walk, Stopped, Frame, State, digits, run}
 use Rattle.json_import.specs.Json.{NOT_JSON}
-use Rattle.json_import.specs.Inner.{Blanks, ScannedTo, at_end, cut_off, NumberTo, literal, broken}
-use Rattle.json_import.specs.declared.Scanned.{Scanned}
+use Rattle.json_import.specs.Inner.{Blanks, shape, ScannedTo, at_end, cut_off, NumberTo, literal, broken}
+use Rattle.std.specs.Prelude.{Result}
+use Rattle.json_import.specs.declared.Fault.{Fault}
+use Rattle.json_import.specs.declared.scan.Shape.{Shape as Coded}
+use Rattle.json_import.specs.declared.scan.Shape.TheVariants.{Zero, Int, Point, Frac, Mark, Sign, Exp}
 use Rattle.grammar.specs.Answer.{refused}
 use Rattle.json_import.proofs.Skips.{stays_stuck}
 use Rattle.json_import.proofs.NumberShapes.{walk_append}
@@ -49,45 +50,22 @@ blanks_stop x p = record { on = x.on; within = x.within; ws = x.ws; unblank = p 
 pub blanks_end : {s : List ℕ} {from at : ℕ} → BlanksSoFar s from at → length s ≤ at → Blanks s from at
 blanks_end {s} {from} {at} x h = blanks_stop x (ap (λ (b : ℕ). is_blank b) (get_or-eq_default s 0 h))
 
--- ── Shapes of numbers ─────────────────────────────────────────────────────────────────────────────
-
-pub int_other : (b : ℕ) → is_digit b ≡ false → next int b ≡ next zero b
-unfolding next
-int_other b p = rw p refl
-
-pub zero_point : (b : ℕ) → b ≡ 0x2E → next zero b ≡ point
-unfolding next
-zero_point b p = rw p refl
-
-pub zero_other : (b : ℕ) → (b ≡ 0x2E → ⊥) → next zero b ≡ cond (is_mark b) mark over
-unfolding next
-zero_other b n = rw (ne_eqb b 0x2E n) refl
-
-pub frac_other : (b : ℕ) → is_digit b ≡ false → next frac b ≡ cond (is_mark b) mark over
-unfolding next
-frac_other b p = rw p refl
-
-pub mark_sign : (b : ℕ) → is_digit b ≡ false → is_sign b ≡ true → next mark b ≡ sign
-unfolding next
-mark_sign b p q = rw (p, q) refl
-
-pub mark_other : (b : ℕ) → is_digit b ≡ false → is_sign b ≡ false → next mark b ≡ over
-unfolding next
-mark_other b p q = rw (p, q) refl
-
-pub begun_zero : (b : ℕ) → b ≡ 0x30 → begun b ≡ zero
-begun_zero b p = rw p refl
-
-pub begun_int : (b : ℕ) → (b ≡ 0x30 → ⊥) → begun b ≡ int
-begun_int b n = rw (ne_eqb b 0x30 n) refl
-
-pub cond_yes : (c : Bool) (x y : Shape) → c ≡ true → x ≡ cond c x y
-cond_yes c x y p = rw p refl
-
-pub cond_no : (c : Bool) (x y : Shape) → c ≡ false → y ≡ cond c x y
-cond_no c x y p = rw p refl
-
 -- ── A number's literal ────────────────────────────────────────────────────────────────────────────
+
+-- Only where a number doesn't go on its shape is over.
+pub shape_goes : (sh : Coded) → is_over (shape sh) ≡ false
+unfolding is_over
+shape_goes Zero = refl
+shape_goes Int = refl
+shape_goes Point = refl
+shape_goes Frac = refl
+shape_goes Mark = refl
+shape_goes Sign = refl
+shape_goes Exp = refl
+
+pub over_is : is_over over ≡ true
+unfolding is_over
+over_is = refl
 
 -- A number is read up to a place, where its shape is so far.
 pub record WalkedSoFar (s : List ℕ) (at : ℕ) (sh : Shape) (i : ℕ) : Type 0 where
@@ -139,14 +117,14 @@ walked_more {s} {at} {i} {sh} {more} x h e o =
     }
 
 -- The number ends here: whole, or cut off.
-walked_to : {s : List ℕ} {at i : ℕ} {sh : Shape} {r : Scanned} → WalkedSoFar s at sh i → Stopped sh (drop i s)
+walked_to : {s : List ℕ} {at i : ℕ} {sh : Shape} {r : Result ℕ Fault} → WalkedSoFar s at sh i → Stopped sh (drop i s)
     → ((deep : ℕ → Bool) (large : List ℕ → Bool) (neg : Bool) (a : ℕ) (w : List ℕ) (fs : List Frame) → whole sh ≡ false → run deep large (digits sh neg a w fs) i (drop i s) ≡ refused NOT_JSON i i 0)
     → ScannedTo sh i r → NumberTo s at r
 walked_to {s} {at} {i} {sh} x st f (at_end p) =
     literal x.read x.split x.place x.within (ap (λ (y : Shape). whole y) x.shaped ∙ p) (subst (λ (y : Shape). Stopped y (drop i s)) (sym x.shaped) st)
 walked_to {s} {at} {i} {sh} x st f (cut_off p) = broken (λ deep large neg a w fs. x.runs deep large neg a w fs ∙ f deep large neg a (w ++ x.read) fs p)
 
-pub walked_stop : {s : List ℕ} {at i : ℕ} {sh more : Shape} {r : Scanned} → WalkedSoFar s at sh i → i < length s → more ≡ next sh (get_or s i 0) → is_over more ≡ true → ScannedTo sh i r → NumberTo s at r
+pub walked_stop : {s : List ℕ} {at i : ℕ} {sh more : Shape} {r : Result ℕ Fault} → WalkedSoFar s at sh i → i < length s → more ≡ next sh (get_or s i 0) → is_over more ≡ true → ScannedTo sh i r → NumberTo s at r
 unfolding run
 walked_stop {s} {at} {i} {sh} x h e o sc =
     let over-here : is_over (next sh (get_or s i 0)) ≡ true = ap (λ (y : Shape). is_over y) (sym e) ∙ o in
@@ -156,9 +134,11 @@ walked_stop {s} {at} {i} {sh} x h e o sc =
     ∙ ap (λ (y : State). run deep large y (i + 1) (drop (i + 1) s)) (no_digit_lem deep large sh neg a w fs i (get_or s i 0) over-here p) ∙ stays_stuck deep large i (i + 1) (drop (i + 1) s))
     sc
 
-pub walked_end : {s : List ℕ} {at i : ℕ} {sh : Shape} {r : Scanned} → WalkedSoFar s at sh i → length s ≤ i → ScannedTo sh i r → NumberTo s at r
+pub walked_end : {s : List ℕ} {at i : ℕ} {sh : Shape} {r : Result ℕ Fault} → WalkedSoFar s at sh i → length s ≤ i → ScannedTo sh (length s) r → NumberTo s at r
 unfolding run
-walked_end {s} {at} {i} {sh} x h sc =
+walked_end {s} {at} {i} {sh} {r} x h sc =
+    let same : length s ≡ i = omega (arith, h, x.within) in
     let nothing : drop i s ≡ [] = drop_of_length-le s h in
     walked_to x (subst (Stopped sh) (sym nothing) tt)
-    (λ deep large neg a w fs p. ap (λ (l : List ℕ). run deep large (digits sh neg a w fs) i l) nothing ∙ cut_short deep large sh neg a w fs i p) sc
+    (λ deep large neg a w fs p. ap (λ (l : List ℕ). run deep large (digits sh neg a w fs) i l) nothing ∙ cut_short deep large sh neg a w fs i p)
+    (subst (λ (k : ℕ). ScannedTo sh k r) same sc)

@@ -1,14 +1,13 @@
 -- How far a string has come: the invariant of its loop, and what it ends in.
 -- Assumes nothing.
-use mathlib.Core.Path.{◌≡◌, refl, sym, ap, ◌∙◌}
-use mathlib.Core.Bool.{Bool, true, false, true≢false}
+use mathlib.Core.Path.{◌≡◌, refl, ap, ◌∙◌}
+use mathlib.Core.Bool.{Bool, true, false}
 use mathlib.Core.List.{List, [], ◌∷◌, ◌++◌}
 use Prim.Native.Nat.{ℕ, ◌+◌, ◌≤◌, ◌<◌}
 use native.Mathlib.Omega.{arith}
-use native.Mathlib.Decide.{ℕ_discrete}
 use lib.ListN.{length, get_or, set, length-append}
 use lib.Seq.{sets, length-sets}
-use borrow.Author.Tests.{le-leb, lt-leb, ne_eqb}
+use borrow.Author.Tests.{ne_eqb}
 use Rattle.strings.specs.Utf8.{utf8}
 use Rattle.strings.proofs.Stores.{sets_append}
 use Rattle.grammar.specs.Tags.{STRING}
@@ -20,9 +19,10 @@ use Rattle.json_import.specs.Tokens.{is_plain}
 use Rattle.json_import.specs.Json.{NOT_JSON}
 use Rattle.json_import.specs.Machine.{Frame, Use, Escape, slash, chars, escape, closed, step, finish}
 use Rattle.json_import.specs.Inner.{Leads, EscapeTo, code, stops, StringTo, string, cut}
-use Rattle.json_import.specs.declared.Leaf.TheVariants.{Done, Broken}
+use Rattle.std.specs.Prelude.{Ok, Err}
+use Rattle.json_import.specs.declared.text.Escaped.{Escaped}
+use Rattle.json_import.specs.declared.Fault.{Fault}
 use Rattle.json_import.specs.declared.Fault.TheVariants.{NotJson}
-use Rattle.json_import.specs.declared.text.Escaped.TheVariants.{Code, Stops}
 use Rattle.json_import.proofs.Escapes.{plain_step, other_step, slash_step}
 use Rattle.json_import.proofs.Places.{leads_here, leads_on, leads_stick, one_on, sticks_here}
 
@@ -41,21 +41,6 @@ pub record CharsSoFar (s out₀ : List ℕ) (at w i n : ℕ) (out : List ℕ) : 
 pub chars_start : (s out : List ℕ) (at w : ℕ) → at < length s → CharsSoFar s out at w (at + 1) (w + 3) out
 chars_start s out at w h =
     record { read = []; count = omega arith; stored = refl; short = omega arith; within = omega (arith, h); leads = λ us fs. leads_here (chars [] us fs) (at + 1) }
-
--- A byte that is no control character, no quote and no backslash.
-pub plain_byte : (b : ℕ) → 0x20 ≤ b → (b ≡ 0x22 → ⊥) → (b ≡ 0x5C → ⊥) → is_plain b ≡ true
-plain_byte b h p q = rw (le-leb 0x20 b h, ne_eqb b 0x22 p, ne_eqb b 0x5C q) refl
-
-pub control_byte : (b : ℕ) → b < 0x20 → is_plain b ≡ false
-control_byte b h = rw (lt-leb 0x20 b h) refl
-
--- What is not plain, no quote and no control character is a backslash.
-pub backslash_left : (b : ℕ) → is_plain b ≡ false → (b ≡ 0x22 → ⊥) → 0x20 ≤ b → b ≡ 0x5C
-backslash_left b p q h = by (ℕ_discrete b 0x5C)
-  where
-    by : Dec (b ≡ 0x5C) → b ≡ 0x5C
-    by (yes e) = e
-    by (no n) = absurd (true≢false (sym (plain_byte b h q n) ∙ p))
 
 quote_step : (deep : ℕ → Bool) (large : List ℕ → Bool) (w : List ℕ) (us : Use) (fs : List Frame) (i : ℕ) → step deep large (chars w us fs) i 0x22 ≡ closed w us (i + 1) fs
 unfolding step
@@ -82,9 +67,14 @@ module _ {s out₀ out : List ℕ} {at w i n : ℕ} (x : CharsSoFar s out₀ at 
         leads = λ us fs. leads_on (x.leads us fs) (leads us fs);
       }
 
-  pub chars_end : length s ≤ i → (out₁ : List ℕ) → StringTo s out₀ at w (Broken (NotJson i)) out₁
-  chars_end h out₁ =
-      cut (λ us fs. leads_stick (x.leads us fs) (sticks_here (chars x.read us fs) i (λ deep large. endless deep large x.read us fs i) (λ l. absurd (omega (arith, h, l)))))
+  -- Where neither a byte that stands for itself stands, nor a quote, nor a backslash.
+  pub chars_stuck : (i < length s → is_plain (get_or s i 0) ≡ false) → (get_or s i 0 ≡ 0x22 → ⊥) → (get_or s i 0 ≡ 0x5C → ⊥) → (out₁ : List ℕ) → StringTo s out₀ at w (Err (NotJson i)) out₁
+  chars_stuck p q b out₁ =
+      cut
+      (λ us fs.
+      leads_stick (x.leads us fs)
+      (sticks_here (chars x.read us fs) i (λ deep large. endless deep large x.read us fs i)
+      (λ l deep large. other_step deep large x.read us fs i (get_or s i 0) (p l) (ne_eqb (get_or s i 0) 0x22 q) (ne_eqb (get_or s i 0) 0x5C b))))
 
   module _ (h : i < length s) where
     pub chars_plain : (out₁ : List ℕ) → is_plain (get_or s i 0) ≡ true → out₁ ≡ set out n (get_or s i 0) → CharsSoFar s out₀ at w (i + 1) (n + 1) out₁
@@ -99,27 +89,18 @@ module _ {s out₀ out : List ℕ} {at w i n : ℕ} (x : CharsSoFar s out₀ at 
         one_on (chars x.read us fs) (escape slash x.read us fs) i (i + 1) h refl
         (λ deep large. ap (λ (b : ℕ). step deep large (chars x.read us fs) i b) e ∙ slash_step deep large x.read us fs i)
 
-    pub chars_escape : (out₁ : List ℕ) (c j m : ℕ) → get_or s i 0 ≡ 0x5C → EscapeTo s slash 1 (i + 1) (Code c j) → out₁ ≡ sets out n (utf8 c) → m ≡ n + length (utf8 c) → CharsSoFar s out₀ at w j m out₁
-    chars_escape out₁ c j m e (code on within below short leads) p q =
-        more (utf8 c) out₁ j m (omega (arith, short)) within q p (λ us fs. leads_on (slash_on e us fs) (leads x.read us fs))
+    pub chars_escape : (out₁ : List ℕ) (e : Escaped) (m : ℕ) → get_or s i 0 ≡ 0x5C → EscapeTo s slash 1 (i + 1) (Ok e) → out₁ ≡ sets out n (utf8 e.code) → m ≡ n + length (utf8 e.code)
+        → CharsSoFar s out₀ at w e.end m out₁
+    chars_escape out₁ e m k (code on within below short leads) p q =
+        more (utf8 e.code) out₁ e.end m (omega (arith, short)) within q p (λ us fs. leads_on (slash_on k us fs) (leads x.read us fs))
 
-    pub chars_stops : (n₁ : ℕ) (out₁ : List ℕ) → get_or s i 0 ≡ 0x5C → EscapeTo s slash 1 (i + 1) (Stops n₁) → StringTo s out₀ at w (Broken (NotJson n₁)) out₁
-    chars_stops n₁ out₁ e (stops sticks) = cut (λ us fs. leads_stick (x.leads us fs) (leads_stick (slash_on e us fs) (sticks x.read us fs)))
+    pub chars_stops : {f : Fault} (out₁ : List ℕ) → get_or s i 0 ≡ 0x5C → EscapeTo s slash 1 (i + 1) (Err f) → StringTo s out₀ at w (Err f) out₁
+    chars_stops out₁ e (stops sticks) = cut (λ us fs. leads_stick (x.leads us fs) (leads_stick (slash_on e us fs) (sticks x.read us fs)))
 
-    pub chars_control : (out₁ : List ℕ) → get_or s i 0 < 0x20 → StringTo s out₀ at w (Broken (NotJson i)) out₁
-    chars_control out₁ low =
-        let b = get_or s i 0 in
-        cut
-        (λ us fs.
-        leads_stick (x.leads us fs)
-        (sticks_here (chars x.read us fs) i (λ deep large. endless deep large x.read us fs i)
-        (λ l deep large.
-        other_step deep large x.read us fs i b (control_byte b low) (ne_eqb b 0x22 (λ z. omega (arith, low, z))) (ne_eqb b 0x5C (λ z. omega (arith, low, z))))))
-
-    pub chars_closed : (out₁ : List ℕ) (m w₁ : ℕ) → get_or s i 0 ≡ 0x22 → m ≡ length x.read → Wrote out w (STRING ∷ two m) w₁ out₁ → StringTo s out₀ at w (Done (i + 1) n) out₁
+    pub chars_closed : (out₁ : List ℕ) (m w₁ : ℕ) → get_or s i 0 ≡ 0x22 → m ≡ length x.read → Wrote out w (STRING ∷ two m) w₁ out₁ → StringTo s out₀ at w (Ok (record { at = i + 1; written = n })) out₁
     unfolding entry payload
     chars_closed out₁ m w₁ e k v =
-        string {e = i + 1} {w₁ = n} x.read (omega (arith, h)) (omega (arith, x.short))
+        string {p = record { at = i + 1; written = n }} x.read (omega (arith, h)) (omega (arith, x.short))
         (λ us fs.
         leads_on (x.leads us fs)
         (one_on (chars x.read us fs) (closed x.read us (i + 1) fs) i (i + 1) h refl
@@ -130,5 +111,5 @@ module _ {s out₀ out : List ℕ} {at w i n : ℕ} (x : CharsSoFar s out₀ at 
               ∙ head_last out₀ w (STRING ∷ two (length x.read)) x.read;
         })
 
-pub found_code : {s : List ℕ} {x : Escape} {k at c j : ℕ} → EscapeTo s x k at (Code c j) → (c < 0x110000) × (at < j)
+pub found_code : {s : List ℕ} {x : Escape} {k at : ℕ} {e : Escaped} → EscapeTo s x k at (Ok e) → (e.code < 0x110000) × (at < e.end)
 found_code (code on within below short leads) = (below, on)

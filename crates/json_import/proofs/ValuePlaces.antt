@@ -5,6 +5,7 @@ use mathlib.Core.Bool.{Bool, true, false, cond, ◌||◌}
 use mathlib.Core.List.{List, [], ◌∷◌}
 use Prim.Native.Nat.{ℕ, ◌+◌, ◌≤◌, ◌<◌}
 use native.Mathlib.Omega.{arith}
+use Rattle.std.proofs.lemmas.Bool.Decides.{nat_tests}
 use native.Mathlib.Decide.{dec_lt}
 use lib.Dec.{eqb, leb}
 use lib.ListN.{length, drop, get_or, drop_of_length-le}
@@ -24,16 +25,14 @@ use Rattle.json_import.specs.Json.{NOT_JSON}
 use Rattle.json_import.specs.Machine.{Frame, arr, obj, a_value, a_name, State, want, first, first_name, name, colon, after, minus, digits, chars, broken as broken_off, begun, signed, closed, spelling, start, begin, is_deep, step, finish, run}
 use Rattle.json_import.specs.Inner.{Blanks, StringTo, string, cut}
 use Rattle.json_import.specs.Leaves.{Goes, Ready, LeafTo, leaf, Any, NumeralTo, numeral}
-use Rattle.json_import.specs.Steps.{row, an_array, an_object, stepped, Shallow, ColonTo, colon_at, NamedTo, named, OpensTo, whole, enter}
-use Rattle.json_import.specs.declared.Open.{Open}
-use Rattle.json_import.specs.declared.Leaf.{Leaf}
-use Rattle.json_import.specs.declared.Leaf.TheVariants as leaves
+use Rattle.json_import.specs.Steps.{row, an_array, an_object, Shallow, ColonTo, colon_at, NamedTo, named, OpensTo, whole, enter}
+use Rattle.std.specs.Prelude.{Result, Ok, Err}
+use Rattle.json_import.specs.declared.Place.{Place}
+use Rattle.json_import.specs.declared.Open.TheVariants.{Array, Object}
 use Rattle.json_import.specs.declared.Fault.{Fault}
 use Rattle.json_import.specs.declared.Fault.TheVariants.{NotJson, Deep}
 use Rattle.json_import.specs.declared.Step.{Step}
-use Rattle.json_import.specs.declared.Step.TheVariants.{Whole, Enter, Broken}
-use Rattle.json_import.specs.declared.Naming.{Naming}
-use Rattle.json_import.specs.declared.Naming.TheVariants.{Field, Cut}
+use Rattle.json_import.specs.declared.Step.TheVariants.{Whole, Within}
 use Rattle.json_import.proofs.Skips.{skip_want, skip_first, skip_first_name, skip_colon, stays_broken}
 use Rattle.json_import.proofs.Runs.{begins_unblank}
 use Rattle.json_import.proofs.Descends.{no_value, no_name, no_colon}
@@ -82,20 +81,21 @@ unfolding step
 empty_step large fs i = refl
 
 module _ {s out : List ℕ} {from r w : ℕ} (x : Blanks s from r) (ready : Ready s from w) where
-  pub array_empty : {out₁ : List ℕ} {w₁ : ℕ} → get_or s r 0 ≡ 0x5D → Wrote out w (entry ARRAY (number 0 ∷ [])) w₁ out₁ → OpensTo s out Shallow first from w (Whole (r + 1) w₁) out₁
+  pub array_empty : {out₁ : List ℕ} {p : Place} → get_or s r 0 ≡ 0x5D → p.at ≡ r + 1 → Wrote out w (entry ARRAY (number 0 ∷ [])) p.written out₁ → OpensTo s out Shallow first from w (Ok (Whole p)) out₁
   unfolding count
-  array_empty {w₁ = w₁} e v =
+  array_empty {p = p} e q v =
       let there : r < length s = byte_inside s r (λ z. omega (arith, e, z)) in
-      whole {e = r + 1} {w₁ = w₁} (values.array none) refl (omega (arith, x.on)) (omega (arith, there)) (omega (arith, x.on, ready.2, v.to, number_long ARRAY 0))
+      whole {p = p} (values.array none) refl (omega (arith, x.on, q)) (omega (arith, there, q)) (omega (arith, x.on, q, ready.2, v.to, number_long ARRAY 0))
       (λ fs u.
-      goes_on (record { runs = λ large says. skip_first is_deep large fs x.ws })
-      (one_step (first fs) (after (values.array none) fs) r there (λ large. ap (λ (b : ℕ). step is_deep large (first fs) r b) e ∙ empty_step large fs r)))
+      subst (λ (k : ℕ). Goes s (first fs) from (after (values.array none) fs) k) (sym q)
+      (goes_on (record { runs = λ large says. skip_first is_deep large fs x.ws })
+      (one_step (first fs) (after (values.array none) fs) r there (λ large. ap (λ (b : ℕ). step is_deep large (first fs) r b) e ∙ empty_step large fs r))))
       (wrote_leaf ARRAY (number 0 ∷ []) v)
 
-  pub array_enter : {o : Open} → o.close ≡ 0x5D → o.count ≡ 0 → (get_or s r 0 ≡ 0x5D → ⊥) → OpensTo s out Shallow first from w (Enter r w o) out
+  pub array_enter : (get_or s r 0 ≡ 0x5D → ⊥) → OpensTo s out Shallow first from w (Ok (Within (record { at = r; written = w }) (Array 0))) out
   unfolding count row image
-  array_enter {o} close none_yet n =
-      enter {e = r} {w₁ = w} {o = o} (arr none) x.on x.within x.unblank (omega (arith, x.on, ready.2)) (an_array {ts = none} close none_yet (omega arith)) (λ fs u. u)
+  array_enter n =
+      enter {p = record { at = r; written = w }} (arr none) x.on x.within x.unblank (omega (arith, x.on, ready.2)) (an_array {ts = none} refl (omega arith)) (λ fs u. u)
       (λ fs u.
       goes_on (record { runs = λ large says. skip_first is_deep large fs x.ws })
       (same_here (first fs) (want (arr none ∷ fs)) r (λ large. first_end large fs r) (λ large. first_step large fs r (get_or s r 0) x.unblank (ne_eqb (get_or s r 0) 0x5D n))))
@@ -114,8 +114,8 @@ colon_end deep large ts t a b fs i = refl
 skip_to : {s : List ℕ} {at r : ℕ} → Blanks s at r → (ts : Trees) (t : List ℕ) (a b : ℕ) (fs : List Frame) → Goes s (colon ts t a b fs) at (colon ts t a b fs) r
 skip_to x ts t a b fs = record { runs = λ large says. skip_colon is_deep large ts t a b fs x.ws }
 
-module _ {s : List ℕ} {at r w : ℕ} {o : Open} (x : Blanks s at r) where
-  pub no_colon_there : (get_or s r 0 ≡ 0x3A → ⊥) → ColonTo s at w o (Cut (NotJson r))
+module _ {s : List ℕ} {at r : ℕ} (x : Blanks s at r) where
+  pub no_colon_there : (get_or s r 0 ≡ 0x3A → ⊥) → ColonTo s at (Err (NotJson r))
   no_colon_there n =
       ColonTo.broken {f = NotJson r}
       (λ ts t a b fs.
@@ -123,7 +123,7 @@ module _ {s : List ℕ} {at r w : ℕ} {o : Open} (x : Blanks s at r) where
       (comes_of (sticks_here (colon ts t a b fs) r (λ deep large. colon_end deep large ts t a b fs r)
       (λ l deep large. no_colon deep large ts t a b fs r (get_or s r 0) x.unblank (ne_eqb (get_or s r 0) 0x3A n)))))
 
-  pub colon_there : {e : ℕ} → get_or s r 0 ≡ 0x3A → Blanks s (r + 1) e → ColonTo s at w o (Field e w o)
+  pub colon_there : {e : ℕ} → get_or s r 0 ≡ 0x3A → Blanks s (r + 1) e → ColonTo s at (Ok e)
   colon_there {e} k y =
       let there : r < length s = byte_inside s r (λ z. omega (arith, k, z)) in
       colon_at {e = e} (omega (arith, x.on, y.on)) y.within y.unblank
@@ -140,7 +140,7 @@ name_end : (deep : ℕ → Bool) (large : List ℕ → Bool) (ts : Trees) (fs : 
 unfolding finish
 name_end deep large ts fs i = refl
 
-pub no_quote : {s out out₁ : List ℕ} {at w n : ℕ} → is_blank (get_or s at 0) ≡ false → (get_or s at 0 ≡ 0x22 → ⊥) → NamedTo s out at w n (Cut (NotJson at)) out₁
+pub no_quote : {s out out₁ : List ℕ} {at w n : ℕ} → is_blank (get_or s at 0) ≡ false → (get_or s at 0 ≡ 0x22 → ⊥) → NamedTo s out at w n (Err (NotJson at)) out₁
 no_quote {s} {at = at} p k =
     NamedTo.broken {f = NotJson at}
     (λ ts fs. comes_of (sticks_here (name ts fs) at (λ deep large. name_end deep large ts fs at) (λ l deep large. no_name deep large ts fs at (get_or s at 0) p (ne_eqb (get_or s at 0) 0x22 k))))
@@ -149,20 +149,23 @@ quote_on : {s : List ℕ} {at : ℕ} → get_or s at 0 ≡ 0x22 → (ts : Trees)
 quote_on {s} {at} k ts fs =
     one_step (name ts fs) (chars [] (a_name ts at) fs) at (byte_inside s at (λ z. omega (arith, k, z))) (λ large. ap (λ (b : ℕ). step is_deep large (name ts fs) at b) k ∙ name_step large ts fs at)
 
-pub name_cut : {s out out₁ out₂ : List ℕ} {at w n : ℕ} {f : Fault} → get_or s at 0 ≡ 0x22 → StringTo s out at w (leaves.Broken f) out₁ → NamedTo s out at w n (Cut f) out₂
+pub name_cut : {s out out₁ : List ℕ} {at w n : ℕ} {f : Fault} → get_or s at 0 ≡ 0x22 → StringTo s out at w (Err f) out₁ → NamedTo s out at w n (Err f) out₁
 name_cut {at = at} k (cut {n = m} g) = NamedTo.broken {f = NotJson m} (λ ts fs. goes_comes (NotJson m) (quote_on k ts fs) (comes_of (g (a_name ts at) fs)))
 
-pub name_done : {s out out₁ : List ℕ} {at w e w₁ n : ℕ} {o : Open} {st : Naming} → Ready s at w → get_or s at 0 ≡ 0x22 → o.close ≡ 0x7D → o.count ≡ n → o.start ≡ at → o.end ≡ e
-    → StringTo s out at w (leaves.Done e w₁) out₁ → ColonTo s e w₁ o st → NamedTo s out at w n st out₁
-unfolding closed
-name_done {s} {out} {out₁} {at} {w} {e} {w₁} {n} {o} ready k p q u v (string t within short g put) (colon_at {e = j} on last unblank h) =
-    named {e = j} {w₁ = w₁} {o = o} t e (omega (arith, short, on)) last unblank (omega (arith, on)) (omega (arith, ready.2, short, on, put.to, string_long t)) p q u v
-    (λ ts fs. goes_on (quote_on k ts fs) (goes_on (goes_of (g (a_name ts at) fs)) (h ts t at e fs)))
-    (wrote_leaf STRING (text t ∷ []) put)
-name_done {s} {out} {out₁} {at} {w} {e} {w₁} {n} {o} ready k p q u v (string t within short g put) (ColonTo.broken {f = f} h) =
-    NamedTo.broken {f = f} (λ ts fs. goes_comes f (goes_on (quote_on k ts fs) (goes_of (g (a_name ts at) fs))) (h ts t at e fs))
+module _ {s out out₁ : List ℕ} {at w n : ℕ} {p : Place} (ready : Ready s at w) (k : get_or s at 0 ≡ 0x22) where
+  pub colon_cut : {f : Fault} → StringTo s out at w (Ok p) out₁ → ColonTo s p.at (Err f) → NamedTo s out at w n (Err f) out₁
+  unfolding closed
+  colon_cut {f} (string t within short g put) (ColonTo.broken h) =
+      NamedTo.broken {f = f} (λ ts fs. goes_comes f (goes_on (quote_on k ts fs) (goes_of (g (a_name ts at) fs))) (h ts t at p.at fs))
 
-pub string_end : {s out out₁ : List ℕ} {at w e w₁ : ℕ} → StringTo s out at w (leaves.Done e w₁) out₁ → e ≤ length s
+  pub name_done : {e : ℕ} → StringTo s out at w (Ok p) out₁ → ColonTo s p.at (Ok e) → NamedTo s out at w n (Ok (Within (record { at = e; written = p.written }) (Object n at p.at))) out₁
+  unfolding closed
+  name_done {e} (string t within short g put) (colon_at on last unblank h) =
+      named {p = record { at = e; written = p.written }} t p.at (omega (arith, short, on)) last unblank (omega (arith, on)) (omega (arith, ready.2, short, on, put.to, string_long t))
+      (λ ts fs. goes_on (quote_on k ts fs) (goes_on (goes_of (g (a_name ts at) fs)) (h ts t at p.at fs)))
+      (wrote_leaf STRING (text t ∷ []) put)
+
+pub string_end : {s out out₁ : List ℕ} {at w : ℕ} {p : Place} → StringTo s out at w (Ok p) out₁ → p.at ≤ length s
 string_end (string t within short g put) = within
 
 -- ── Behind a `{` ──────────────────────────────────────────────────────────────────────────────────
@@ -185,26 +188,25 @@ to_name {s} {from} {r} x n fs =
     (same_here (first_name fs) (name none fs) r (λ large. first_name_end large fs r) (λ large. first_name_step large fs r (get_or s r 0) x.unblank (ne_eqb (get_or s r 0) 0x7D n)))
 
 module _ {s out : List ℕ} {from r w : ℕ} (x : Blanks s from r) (ready : Ready s from w) where
-  pub object_empty : {out₁ : List ℕ} {w₁ : ℕ} → get_or s r 0 ≡ 0x7D → Wrote out w (entry MEMBERS (number 0 ∷ [])) w₁ out₁ → OpensTo s out Shallow first_name from w (Whole (r + 1) w₁) out₁
+  pub object_empty : {out₁ : List ℕ} {p : Place} → get_or s r 0 ≡ 0x7D → p.at ≡ r + 1 → Wrote out w (entry MEMBERS (number 0 ∷ [])) p.written out₁ → OpensTo s out Shallow first_name from w (Ok (Whole p)) out₁
   unfolding count
-  object_empty {w₁ = w₁} e v =
+  object_empty {p = p} e q v =
       let there : r < length s = byte_inside s r (λ z. omega (arith, e, z)) in
-      whole {e = r + 1} {w₁ = w₁} (values.object none) refl (omega (arith, x.on)) (omega (arith, there)) (omega (arith, x.on, ready.2, v.to, number_long MEMBERS 0))
+      whole {p = p} (values.object none) refl (omega (arith, x.on, q)) (omega (arith, there, q)) (omega (arith, x.on, q, ready.2, v.to, number_long MEMBERS 0))
       (λ fs u.
-      goes_on (record { runs = λ large says. skip_first_name is_deep large fs x.ws })
-      (one_step (first_name fs) (after (values.object none) fs) r there (λ large. ap (λ (b : ℕ). step is_deep large (first_name fs) r b) e ∙ no_fields_step large fs r)))
+      subst (λ (k : ℕ). Goes s (first_name fs) from (after (values.object none) fs) k) (sym q)
+      (goes_on (record { runs = λ large says. skip_first_name is_deep large fs x.ws })
+      (one_step (first_name fs) (after (values.object none) fs) r there (λ large. ap (λ (b : ℕ). step is_deep large (first_name fs) r b) e ∙ no_fields_step large fs r))))
       (wrote_leaf MEMBERS (number 0 ∷ []) v)
 
   module _ (n : get_or s r 0 ≡ 0x7D → ⊥) where
-    pub object_enter : {out₁ : List ℕ} {e w₁ : ℕ} {o : Open} → NamedTo s out r w 0 (Field e w₁ o) out₁ → OpensTo s out Shallow first_name from w (Enter e w₁ o) out₁
+    pub object_named : {out₁ : List ℕ} {st : Result Step Fault} → NamedTo s out r w 0 st out₁ → OpensTo s out Shallow first_name from w st out₁
     unfolding count row image
-    object_enter {out₁} {e} {w₁} {o} (named t b on within unblank inner room p q u v g put) =
-        enter {e = e} {w₁ = w₁} {o = o} (obj none t r b) (omega (arith, x.on, on)) within unblank room
-        (an_object {ts = none} p q (omega arith) u v (omega (arith, x.within, ready.1)) (omega (arith, inner, within, ready.1)))
+    object_named (named {p} t b on within unblank inner room g put) =
+        enter {p = p} (obj none t r b) (omega (arith, x.on, on)) within unblank room
+        (an_object {ts = none} refl (omega arith) (omega (arith, x.within, ready.1)) (omega (arith, inner, within, ready.1)))
         (λ fs z. z) (λ fs z. goes_on (to_name x n fs) (g none fs)) put
-
-    pub object_broken : {out₁ : List ℕ} {f : Fault} → NamedTo s out r w 0 (Cut f) out₁ → OpensTo s out Shallow first_name from w (Broken f) out₁
-    object_broken {f = f} (NamedTo.broken g) = OpensTo.broken {f = f} (λ fs z. goes_comes f (to_name x n fs) (g none fs))
+    object_named (NamedTo.broken {f} g) = OpensTo.broken {f = f} (λ fs z. goes_comes f (to_name x n fs) (g none fs))
 
 -- ── A value's first byte ──────────────────────────────────────────────────────────────────────────
 
@@ -223,11 +225,11 @@ unfolding step begin
 want_step large fs i b c = rw (begins_unblank b c, c) refl
 
 module _ {s out : List ℕ} {at w depth : ℕ} where
-  pub value_cut : {out₁ : List ℕ} → is_blank (get_or s at 0) ≡ false → can_begin (get_or s at 0) ≡ false → OpensTo s out (λ fs. length fs ≡ depth) want at w (Broken (NotJson at)) out₁
+  pub value_cut : {out₁ : List ℕ} → is_blank (get_or s at 0) ≡ false → can_begin (get_or s at 0) ≡ false → OpensTo s out (λ fs. length fs ≡ depth) want at w (Err (NotJson at)) out₁
   value_cut p q =
       OpensTo.broken {f = NotJson at} (λ fs u. comes_of (sticks_here (want fs) at (λ deep large. want_end deep large fs at) (λ l deep large. no_value deep large fs at (get_or s at 0) p q)))
 
-  pub value_deep : {out₁ : List ℕ} → can_begin (get_or s at 0) ≡ true → 200 ≤ depth → OpensTo s out (λ fs. length fs ≡ depth) want at w (Broken (Deep at)) out₁
+  pub value_deep : {out₁ : List ℕ} → can_begin (get_or s at 0) ≡ true → 200 ≤ depth → OpensTo s out (λ fs. length fs ≡ depth) want at w (Err (Deep at)) out₁
   value_deep c h =
       OpensTo.broken {f = Deep at}
       (λ fs u.
@@ -248,74 +250,86 @@ to {s} {at} c h st is fs u = subst (λ (x : State). Goes s (want fs) at x (at + 
 shallow : {depth : ℕ} → depth < 200 → (fs : List Frame) → length fs ≡ depth → Shallow fs
 shallow h fs u = omega (arith, u, h)
 
-module _ {s out : List ℕ} {at w depth : ℕ} (c : can_begin (get_or s at 0) ≡ true) (h : depth < 200) (st : List Frame → State) (is : (fs : List Frame) → start fs at (get_or s at 0) ≡ st fs) where
-  leaf_value : {Fits : List Frame → Type 0} {l : Leaf} {out₁ : List ℕ} → ((fs : List Frame) → length fs ≡ depth → Fits fs) → LeafTo s out Fits st (at + 1) w l out₁
-      → OpensTo s out (λ fs. length fs ≡ depth) want at w (stepped l) out₁
-  leaf_value fit (leaf {e} {w₁} t one on within room g put) = whole {e = e} {w₁ = w₁} t one (omega (arith, on)) within room (λ fs u. goes_on (to c h st is fs u) (g fs (fit fs u))) put
-  leaf_value fit (LeafTo.broken {f = f} g) = OpensTo.broken {f = f} (λ fs u. goes_comes f (to c h st is fs u) (g fs (fit fs u)))
+-- What a value comes to, as its leaf does.
+abbrev pub whole_leaf : Result Place Fault → Result Step Fault
+whole_leaf (Ok p) = Ok (Whole p)
+whole_leaf (Err f) = Err f
 
-  opens_value : {r : Step} {out₁ : List ℕ} → OpensTo s out Shallow st (at + 1) w r out₁ → OpensTo s out (λ fs. length fs ≡ depth) want at w r out₁
-  opens_value (whole {e} {w₁} t one on within room g put) = whole {e = e} {w₁ = w₁} t one (omega (arith, on)) within room (λ fs u. goes_on (to c h st is fs u) (g fs (shallow h fs u))) put
-  opens_value (enter {e} {w₁} {o} f on within unblank room q below g put) =
-      enter {e = e} {w₁ = w₁} {o = o} f (omega (arith, on)) within unblank room q (shallow h) (λ fs u. goes_on (to c h st is fs u) (g fs (shallow h fs u))) put
+module _ {s out : List ℕ} {at w depth : ℕ} (c : can_begin (get_or s at 0) ≡ true) (h : depth < 200) (st : List Frame → State) (is : (fs : List Frame) → start fs at (get_or s at 0) ≡ st fs) where
+  leaf_value : {Fits : List Frame → Type 0} {l : Result Place Fault} {out₁ : List ℕ} → ((fs : List Frame) → length fs ≡ depth → Fits fs) → LeafTo s out Fits st (at + 1) w l out₁
+      → OpensTo s out (λ fs. length fs ≡ depth) want at w (whole_leaf l) out₁
+  leaf_value fit (leaf {p} t one on within room g put) = whole {p = p} t one (omega (arith, on)) within room (λ fs u. goes_on (to c h st is fs u) (g fs (fit fs u))) put
+  leaf_value fit (LeafTo.broken {f} g) = OpensTo.broken {f = f} (λ fs u. goes_comes f (to c h st is fs u) (g fs (fit fs u)))
+
+  opens_value : {r : Result Step Fault} {out₁ : List ℕ} → OpensTo s out Shallow st (at + 1) w r out₁ → OpensTo s out (λ fs. length fs ≡ depth) want at w r out₁
+  opens_value (whole {p} t one on within room g put) = whole {p = p} t one (omega (arith, on)) within room (λ fs u. goes_on (to c h st is fs u) (g fs (shallow h fs u))) put
+  opens_value (enter {p} {o} f on within unblank room q below g put) =
+      enter {p = p} {o = o} f (omega (arith, on)) within unblank room q (shallow h) (λ fs u. goes_on (to c h st is fs u) (g fs (shallow h fs u))) put
   opens_value (OpensTo.broken {f = f} g) = OpensTo.broken {f = f} (λ fs u. goes_comes f (to c h st is fs u) (g fs (shallow h fs u)))
 
 -- By the byte.
+begins_with : (x b : ℕ) → can_begin b ≡ true → x ≡ b → can_begin x ≡ true
+begins_with x b c e = ap (λ (k : ℕ). can_begin k) e ∙ c
+
+digit_begins : (b : ℕ) → is_digit b ≡ true → can_begin b ≡ true
+digit_begins b d = grind (arith, nat_tests)
+
 starts : (b : ℕ) (s : List ℕ) (at : ℕ) → get_or s at 0 ≡ b → (fs : List Frame) → start fs at (get_or s at 0) ≡ start fs at b
 starts b s at e fs = ap (λ (k : ℕ). start fs at k) e
 
-string_leaf : {s out out₁ : List ℕ} {at w : ℕ} {l : Leaf} → Ready s at w → StringTo s out at w l out₁ → LeafTo s out Any (chars [] a_value) (at + 1) w l out₁
+string_leaf : {s out out₁ : List ℕ} {at w : ℕ} {l : Result Place Fault} → Ready s at w → StringTo s out at w l out₁ → LeafTo s out Any (chars [] a_value) (at + 1) w l out₁
 unfolding closed count
-string_leaf ready (string {e} {w₁} t within short g put) =
-    leaf {e = e} {w₁ = w₁} (values.leaf STRING t) refl (omega (arith, short)) within (omega (arith, ready.2, short, put.to, string_long t)) (λ fs u. goes_of (g a_value fs)) (wrote_leaf STRING (text t ∷ []) put)
+string_leaf ready (string {p} t within short g put) =
+    leaf {p = p} (values.leaf STRING t) refl (omega (arith, short)) within (omega (arith, ready.2, short, put.to, string_long t)) (λ fs u. goes_of (g a_value fs)) (wrote_leaf STRING (text t ∷ []) put)
 string_leaf ready (cut {n = n} g) = LeafTo.broken {f = NotJson n} (λ fs u. comes_of (g a_value fs))
 
-module _ {s out : List ℕ} {at w depth : ℕ} (ready : Ready s at w) (c : can_begin (get_or s at 0) ≡ true) (h : depth < 200) where
-  pub a_string : {l : Leaf} {out₁ : List ℕ} → get_or s at 0 ≡ 0x22 → StringTo s out at w l out₁ → OpensTo s out (λ fs. length fs ≡ depth) want at w (stepped l) out₁
+module _ {s out : List ℕ} {at w depth : ℕ} (ready : Ready s at w) (h : depth < 200) where
+  pub a_string : {l : Result Place Fault} {out₁ : List ℕ} → get_or s at 0 ≡ 0x22 → StringTo s out at w l out₁ → OpensTo s out (λ fs. length fs ≡ depth) want at w (whole_leaf l) out₁
   unfolding start
-  a_string e x = leaf_value c h (chars [] a_value) (starts 0x22 s at e) (λ fs u. tt) (string_leaf ready x)
+  a_string e x = leaf_value (begins_with (get_or s at 0) 0x22 refl e) h (chars [] a_value) (starts 0x22 s at e) (λ fs u. tt) (string_leaf ready x)
 
-  pub an_open_array : {r : Step} {out₁ : List ℕ} → get_or s at 0 ≡ 0x5B → OpensTo s out Shallow first (at + 1) w r out₁ → OpensTo s out (λ fs. length fs ≡ depth) want at w r out₁
+  pub an_open_array : {r : Result Step Fault} {out₁ : List ℕ} → get_or s at 0 ≡ 0x5B → OpensTo s out Shallow first (at + 1) w r out₁ → OpensTo s out (λ fs. length fs ≡ depth) want at w r out₁
   unfolding start
-  an_open_array e x = opens_value c h first (starts 0x5B s at e) x
+  an_open_array e x = opens_value (begins_with (get_or s at 0) 0x5B refl e) h first (starts 0x5B s at e) x
 
-  pub an_open_object : {r : Step} {out₁ : List ℕ} → get_or s at 0 ≡ 0x7B → OpensTo s out Shallow first_name (at + 1) w r out₁ → OpensTo s out (λ fs. length fs ≡ depth) want at w r out₁
+  pub an_open_object : {r : Result Step Fault} {out₁ : List ℕ} → get_or s at 0 ≡ 0x7B → OpensTo s out Shallow first_name (at + 1) w r out₁ → OpensTo s out (λ fs. length fs ≡ depth) want at w r out₁
   unfolding start
-  an_open_object e x = opens_value c h first_name (starts 0x7B s at e) x
+  an_open_object e x = opens_value (begins_with (get_or s at 0) 0x7B refl e) h first_name (starts 0x7B s at e) x
 
-  pub a_negative : {l : Leaf} {out₁ : List ℕ} → get_or s at 0 ≡ 0x2D → LeafTo s out (λ fs. length fs + 1 ≡ depth + 1) minus (at + 1) w l out₁ → OpensTo s out (λ fs. length fs ≡ depth) want at w (stepped l) out₁
+  pub a_negative : {l : Result Place Fault} {out₁ : List ℕ} → get_or s at 0 ≡ 0x2D → LeafTo s out (λ fs. length fs + 1 ≡ depth + 1) minus (at + 1) w l out₁ → OpensTo s out (λ fs. length fs ≡ depth) want at w (whole_leaf l) out₁
   unfolding start
-  a_negative e x = leaf_value c h minus (starts 0x2D s at e) (λ fs u. ap (λ (k : ℕ). k + 1) u) x
+  a_negative e x = leaf_value (begins_with (get_or s at 0) 0x2D refl e) h minus (starts 0x2D s at e) (λ fs u. ap (λ (k : ℕ). k + 1) u) x
 
-  pub a_false : {l : Leaf} {out₁ : List ℕ} → get_or s at 0 ≡ 0x66 → LeafTo s out Any (spelling (0x61 ∷ 0x6C ∷ 0x73 ∷ 0x65 ∷ []) (tree BOOL (byte 0 ∷ []) none)) (at + 1) w l out₁
-      → OpensTo s out (λ fs. length fs ≡ depth) want at w (stepped l) out₁
+  pub a_false : {l : Result Place Fault} {out₁ : List ℕ} → get_or s at 0 ≡ 0x66 → LeafTo s out Any (spelling (0x61 ∷ 0x6C ∷ 0x73 ∷ 0x65 ∷ []) (tree BOOL (byte 0 ∷ []) none)) (at + 1) w l out₁
+      → OpensTo s out (λ fs. length fs ≡ depth) want at w (whole_leaf l) out₁
   unfolding start
-  a_false e x = leaf_value c h (spelling (0x61 ∷ 0x6C ∷ 0x73 ∷ 0x65 ∷ []) (tree BOOL (byte 0 ∷ []) none)) (starts 0x66 s at e) (λ fs u. tt) x
+  a_false e x = leaf_value (begins_with (get_or s at 0) 0x66 refl e) h (spelling (0x61 ∷ 0x6C ∷ 0x73 ∷ 0x65 ∷ []) (tree BOOL (byte 0 ∷ []) none)) (starts 0x66 s at e) (λ fs u. tt) x
 
-  pub a_null : {l : Leaf} {out₁ : List ℕ} → get_or s at 0 ≡ 0x6E → LeafTo s out Any (spelling (0x75 ∷ 0x6C ∷ 0x6C ∷ []) (tree NULL [] none)) (at + 1) w l out₁
-      → OpensTo s out (λ fs. length fs ≡ depth) want at w (stepped l) out₁
+  pub a_null : {l : Result Place Fault} {out₁ : List ℕ} → get_or s at 0 ≡ 0x6E → LeafTo s out Any (spelling (0x75 ∷ 0x6C ∷ 0x6C ∷ []) (tree NULL [] none)) (at + 1) w l out₁
+      → OpensTo s out (λ fs. length fs ≡ depth) want at w (whole_leaf l) out₁
   unfolding start
-  a_null e x = leaf_value c h (spelling (0x75 ∷ 0x6C ∷ 0x6C ∷ []) (tree NULL [] none)) (starts 0x6E s at e) (λ fs u. tt) x
+  a_null e x = leaf_value (begins_with (get_or s at 0) 0x6E refl e) h (spelling (0x75 ∷ 0x6C ∷ 0x6C ∷ []) (tree NULL [] none)) (starts 0x6E s at e) (λ fs u. tt) x
 
-  pub a_true : {l : Leaf} {out₁ : List ℕ} → get_or s at 0 ≡ 0x74 → LeafTo s out Any (spelling (0x72 ∷ 0x75 ∷ 0x65 ∷ []) (tree BOOL (byte 1 ∷ []) none)) (at + 1) w l out₁
-      → OpensTo s out (λ fs. length fs ≡ depth) want at w (stepped l) out₁
+  pub a_true : {l : Result Place Fault} {out₁ : List ℕ} → get_or s at 0 ≡ 0x74 → LeafTo s out Any (spelling (0x72 ∷ 0x75 ∷ 0x65 ∷ []) (tree BOOL (byte 1 ∷ []) none)) (at + 1) w l out₁
+      → OpensTo s out (λ fs. length fs ≡ depth) want at w (whole_leaf l) out₁
   unfolding start
-  a_true e x = leaf_value c h (spelling (0x72 ∷ 0x75 ∷ 0x65 ∷ []) (tree BOOL (byte 1 ∷ []) none)) (starts 0x74 s at e) (λ fs u. tt) x
+  a_true e x = leaf_value (begins_with (get_or s at 0) 0x74 refl e) h (spelling (0x72 ∷ 0x75 ∷ 0x65 ∷ []) (tree BOOL (byte 1 ∷ []) none)) (starts 0x74 s at e) (λ fs u. tt) x
 
   -- None of the others: a digit.
-  pub a_number : {l : Leaf} {out₁ : List ℕ} → is_digit (get_or s at 0) ≡ true → NumeralTo s out at w l out₁ → OpensTo s out (λ fs. length fs ≡ depth) want at w (stepped l) out₁
+  pub a_number : {l : Result Place Fault} {out₁ : List ℕ} → is_digit (get_or s at 0) ≡ true → NumeralTo s out at w l out₁ → OpensTo s out (λ fs. length fs ≡ depth) want at w (whole_leaf l) out₁
   unfolding start signed count
-  a_number d (numeral {e} {w₁} v size on within g put) =
+  a_number d (numeral {p} v size on within g put) =
       let long : length (image (values.leaf NUMBER v)) ≡ 3 + length v = ap length (image-leaf NUMBER (text v ∷ [])) ∙ text_long NUMBER v in
-      whole {e = e} {w₁ = w₁} (values.leaf NUMBER v) refl (omega (arith, on)) within (omega (arith, ready.2, size, on, put.to, long))
-      (λ fs u. goes_on (to c h (digits (begun (get_or s at 0)) false at (get_or s at 0 ∷ [])) (λ gs. rw d refl) fs u) (g false fs)) put
+      whole {p = p} (values.leaf NUMBER v) refl (omega (arith, on)) within (omega (arith, ready.2, size, on, put.to, long))
+      (λ fs u. goes_on (to (digit_begins (get_or s at 0) d) h (digits (begun (get_or s at 0)) false at (get_or s at 0 ∷ [])) (λ gs. rw d refl) fs u) (g false fs)) put
   a_number d (NumeralTo.broken {f = f} g) =
-      OpensTo.broken {f = f} (λ fs u. goes_comes f (to c h (digits (begun (get_or s at 0)) false at (get_or s at 0 ∷ [])) (λ gs. rw d refl) fs u) (g false fs))
+      OpensTo.broken {f = f} (λ fs u. goes_comes f (to (digit_begins (get_or s at 0) d) h (digits (begun (get_or s at 0)) false at (get_or s at 0 ∷ [])) (λ gs. rw d refl) fs u) (g false fs))
 
--- None of the other bytes that can begin a value: it can if it is a digit.
-pub digit_or_none : (b : ℕ) → (b ≡ 0x22 → ⊥) → (b ≡ 0x5B → ⊥) → (b ≡ 0x7B → ⊥) → (b ≡ 0x2D → ⊥) → (b ≡ 0x66 → ⊥) → (b ≡ 0x6E → ⊥) → (b ≡ 0x74 → ⊥) → can_begin b ≡ is_digit b
-digit_or_none b p1 p2 p3 p4 p5 p6 p7 =
-    rw (ne_eqb b 0x7B p3, ne_eqb b 0x5B p2, ne_eqb b 0x22 p1, ne_eqb b 0x2D p4, ne_eqb b 0x66 p5, ne_eqb b 0x6E p6, ne_eqb b 0x74 p7) refl
+-- Whether the byte there can begin a value, as the code found it out.
+pub begin_is : {b x : ℕ} {r v : Bool} → b ≡ x → r ≡ can_begin b → r ≡ v → can_begin x ≡ v
+begin_is e f g = ap (λ (k : ℕ). can_begin k) (sym e) ∙ sym f ∙ g
 
-pub begins_with : (x b : ℕ) → can_begin b ≡ true → x ≡ b → can_begin x ≡ true
-begins_with x b c e = ap (λ (k : ℕ). can_begin k) e ∙ c
+-- A byte that begins none.
+pub no_begin : (b : ℕ) → (b ≡ 0x22 → ⊥) → (b ≡ 0x5B → ⊥) → (b ≡ 0x7B → ⊥) → (b ≡ 0x2D → ⊥) → (b ≡ 0x66 → ⊥) → (b ≡ 0x6E → ⊥) → (b ≡ 0x74 → ⊥)
+    → (0x30 ≤ b → b ≤ 0x39 → ⊥) → can_begin b ≡ false
+no_begin b p1 p2 p3 p4 p5 p6 p7 d = grind (arith, nat_tests)

@@ -2,7 +2,7 @@
 ghost use Rattle.std.specs.Prelude.{◌≡◌, length};
 ghost use Rattle.json_import.specs.Importer.{numbers as numbers02, refusal as refusal02, tree_of as tree02, answered, five as five02};
 
-use crate::Importing;
+use crate::{Importing, Unread};
 use grammar::numbers::Number;
 
 // 02's new number: the text is no JSON.
@@ -43,17 +43,18 @@ fn tree(number: u8, length: usize) -> Fields
     }
 }
 
+#[tactic(auto, unfolding(crate::specs::Importer::numbers))]
 pub fn numbers(r: Importing) -> Fields
     ensures { answered result ≡ numbers02 r }
 {
     match r {
-        Importing::Tree(n) => tree(Number::TREE, n),
-        Importing::Long => refusal(Number::LONG, 0, 0),
-        Importing::Encoding(n) => refusal(Number::ENCODING, n, n),
-        Importing::NotJson(n) => refusal(NOT_JSON, n, n),
-        Importing::Depth(n) => refusal(Number::DEPTH, n, n),
-        Importing::Room(n) => tree(Number::ROOM, n),
-        Importing::Large(a, e) => refusal(Number::LARGE, a, e),
+        Ok(n) => tree(Number::TREE, n),
+        Err(Unread::Long) => refusal(Number::LONG, 0, 0),
+        Err(Unread::Encoding(n)) => refusal(Number::ENCODING, n, n),
+        Err(Unread::NotJson(n)) => refusal(NOT_JSON, n, n),
+        Err(Unread::Depth(n)) => refusal(Number::DEPTH, n, n),
+        Err(Unread::Room(n)) => tree(Number::ROOM, n),
+        Err(Unread::Large(a, e)) => refusal(Number::LARGE, a, e),
     }
 }
 

@@ -9,8 +9,8 @@ ghost use Rattle.json_import.specs.Values.{can_begin};
 ghost use Rattle.json_import.specs.Tokens.{is_blank};
 ghost use Rattle.json_import.specs.Machine.{spelling, minus, first, first_name, want};
 ghost use Rattle.json_import.specs.Leaves.{Ready, LeafTo, Any, NumeralTo};
-ghost use Rattle.json_import.specs.Steps.{stepped, Shallow, ColonTo, NamedTo, OpensTo, Behind, Standing, ArrayNext, ObjectNext, OpenNext, EndedTo, ParsedTo};
-ghost use Rattle.json_import.specs.Importer.{importing, written as written01, Finds, Imports};
+ghost use Rattle.json_import.specs.Steps.{Shallow, ColonTo, NamedTo, OpensTo, Behind, Standing, ArrayNext, ObjectNext, OpenNext, EndedTo, ParsedTo};
+ghost use Rattle.json_import.specs.Importer.{importing, Finds, Imports};
 
 use grammar::tags::Tag;
 use grammar::writers;
@@ -22,10 +22,9 @@ mod text; // strings
 
 pub use fields::{Fields, five, numbers};
 
-// What becomes of a text, with its place: the cases are named as their numbers.
-#[derive(Clone, Copy)]
-pub enum Importing {
-    Tree(usize), // the image's length
+// Why a text is not read, with the place: the cases are named as their numbers.
+#[derive(Clone, Copy, PartialEq, Eq)]
+pub enum Unread {
     Long,
     Encoding(usize), // the bytes valid so far
     NotJson(usize), // the first byte where no JSON text continues
@@ -34,59 +33,48 @@ pub enum Importing {
     Large(usize, usize), // a number
 }
 
-// The place behind a token, or the byte at which none goes on.
-#[derive(Drop)]
-pub(crate) enum Scanned {
-    To(usize),
-    Stops(usize),
-}
+// What becomes of a text: its image's length.
+pub type Importing = Result<usize, Unread>;
 
 // Why the reading breaks off: 19, 11 and 17, each with its place.
-#[derive(Drop)]
+#[derive(Clone, Copy)]
 pub(crate) enum Fault {
     NotJson(usize),
     Deep(usize),
     Large(usize, usize),
 }
 
-// A leaf's record is written: the place behind the leaf, and the image's length; or why it is not.
-#[derive(Drop)]
-pub(crate) enum Leaf {
-    Done(usize, usize),
-    Broken(Fault),
+impl From<Fault> for Unread {
+    ghost from_gives = { λ fault unread. unread ≡ importing fault };
+
+    fn from(fault: Fault) -> Unread {
+        match fault {
+            Fault::NotJson(n) => Unread::NotJson(n),
+            Fault::Deep(n) => Unread::Depth(n),
+            Fault::Large(start, end) => Unread::Large(start, end),
+        }
+    }
 }
 
-// An open value: the bracket that closes it, how many elements or fields it has, and of an object where the name of the field stands whose value is
-// being read.
+// How far the text is read, and how long the image is so far.
 #[derive(Clone, Copy)]
-pub(crate) struct Open {
-    close: u8,
-    count: usize,
-    start: usize,
-    end: usize,
+pub(crate) struct Place {
+    at: usize,
+    written: usize,
 }
 
-// What a value comes to, with the place and the image's length.
-#[derive(Drop)]
+// An open value: how many elements or fields it has, and of an object where the name of the field stands whose value is being read.
+#[derive(Clone, Copy)]
+pub(crate) enum Open {
+    Array(usize),
+    Object(usize, usize, usize),
+}
+
+// What is next, with the place.
+#[derive(Clone, Copy)]
 pub(crate) enum Step {
-    Whole(usize, usize), // it is whole
-    Enter(usize, usize, Open), // it is open, and a value is wanted within it
-    Broken(Fault),
-}
-
-// What comes behind a whole value within an open one.
-#[derive(Drop)]
-pub(crate) enum Next {
-    Again(usize, usize, Open), // another value is wanted within it
-    Closed(usize, usize), // the open value is whole
-    Broken(Fault),
-}
-
-// A field's name and its colon are read, and its value is wanted; or why they are not.
-#[derive(Drop)]
-pub(crate) enum Naming {
-    Field(usize, usize, Open),
-    Cut(Fault),
+    Whole(Place), // a value is whole
+    Within(Place, Open), // a value is wanted within an open one
 }
 
 // The limits: the longest text, and how many values may be open.
@@ -95,224 +83,185 @@ const LONGEST: usize = 65_000;
 const DEPTH: usize = 200;
 
 // `null` behind its first letter, and `false` or `true`.
-fn null(text: &[u8], out: &mut [u8], at: usize, w: usize) -> Leaf
-    requires { Ready text.now at w }
-    ensures { LeafTo text.now out.old Any (spelling (0x75 ∷ 0x6C ∷ 0x6C ∷ []) (tree NULL [] none)) at w result out.new }
+fn null(text: &[u8], out: &mut [u8], from: Place) -> Result<Place, Fault>
+    requires { Ready text.now from.at from.written }
+    ensures { LeafTo text.now out.old Any (spelling (0x75 ∷ 0x6C ∷ 0x6C ∷ []) (tree NULL [] none)) from.at from.written result out.new }
 {
-    let letters = scan::word(text, at, b"ull");
-    match letters {
-        Scanned::Stops(place) => Leaf::Broken(Fault::NotJson(place)),
-        Scanned::To(end) => Leaf::Done(end, writers::put_none(out, w, Tag::NULL)),
-    }
+    let at = scan::word(text, from.at, b"ull")?;
+    let written = writers::put_none(out, from.written, Tag::NULL);
+    Ok(Place { at, written })
 }
 
-fn bool(text: &[u8], out: &mut [u8], at: usize, w: usize, rest: &[u8], flag: u8) -> Leaf
-    requires { Ready text.now at w × (1 ≤ length rest.now) }
-    ensures { LeafTo text.now out.old Any (spelling rest.now (tree BOOL (byte flag ∷ []) none)) at w result out.new }
+fn bool(text: &[u8], out: &mut [u8], from: Place, rest: &[u8], flag: u8) -> Result<Place, Fault>
+    requires { Ready text.now from.at from.written × (1 ≤ length rest.now) }
+    ensures { LeafTo text.now out.old Any (spelling rest.now (tree BOOL (byte flag ∷ []) none)) from.at from.written result out.new }
 {
-    let letters = scan::word(text, at, rest);
-    match letters {
-        Scanned::Stops(place) => Leaf::Broken(Fault::NotJson(place)),
-        Scanned::To(end) => Leaf::Done(end, writers::put_flag(out, w, Tag::BOOL, flag)),
-    }
+    let at = scan::word(text, from.at, rest)?;
+    let written = writers::put_flag(out, from.written, Tag::BOOL, flag);
+    Ok(Place { at, written })
 }
 
 // The number whose first digit stands at a place.
-fn number(text: &[u8], out: &mut [u8], at: usize, w: usize) -> Leaf
-    requires { (at < length text.now) × Ready text.now at w }
-    ensures { NumeralTo text.now out.old at w result out.new }
+fn number(text: &[u8], out: &mut [u8], from: Place) -> Result<Place, Fault>
+    requires { (from.at < length text.now) × Ready text.now from.at from.written }
+    ensures { NumeralTo text.now out.old from.at from.written result out.new }
 {
-    let scanned = scan::number(text, at);
-    match scanned {
-        Scanned::Stops(place) => Leaf::Broken(Fault::NotJson(place)),
-        Scanned::To(end) => {
-            if numerals::too_large(&text[at..end]) {
-                return Leaf::Broken(Fault::Large(at, end));
-            }
-            Leaf::Done(end, writers::put_word(out, w, Tag::NUMBER, &text[at..end]))
-        }
+    let at = scan::number(text, from.at)?;
+    let literal = &text[from.at..at];
+    if numerals::too_large(literal) {
+        return Err(Fault::Large(from.at, at));
     }
+    let written = writers::put_word(out, from.written, Tag::NUMBER, literal);
+    Ok(Place { at, written })
 }
 
 // The number behind a minus within so many open values, and the prefix over it.
-fn negative(text: &[u8], out: &mut [u8], at: usize, w: usize, depth: usize) -> Leaf
-    requires { Ready text.now at w }
-    ensures { LeafTo text.now out.old (λ fs. length fs + 1 ≡ depth) minus at w result out.new }
+fn negative(text: &[u8], out: &mut [u8], from: Place, depth: usize) -> Result<Place, Fault>
+    requires { Ready text.now from.at from.written }
+    ensures { LeafTo text.now out.old (λ fs. length fs + 1 ≡ depth) minus from.at from.written result out.new }
 {
-    if !scan::is_digit(scan::peek(text, at)) {
-        return Leaf::Broken(Fault::NotJson(at));
+    if !scan::peek(text, from.at).is_ascii_digit() {
+        return Err(Fault::NotJson(from.at));
     }
     if DEPTH <= depth {
-        return Leaf::Broken(Fault::Deep(at));
+        return Err(Fault::Deep(from.at));
     }
-    let n = number(text, out, at, w);
-    match n {
-        Leaf::Broken(fault) => Leaf::Broken(fault),
-        Leaf::Done(end, w1) => Leaf::Done(end, writers::put_flag(out, w1, Tag::PREFIX, 1)),
-    }
+    let behind = number(text, out, from)?;
+    let written = writers::put_flag(out, behind.written, Tag::PREFIX, 1);
+    Ok(Place { written, ..behind })
 }
 
 // Whether a byte can begin a value.
 fn begins(b: u8) -> bool
     ensures { result ≡ can_begin b }
 {
-    match b {
-        b'"' => true,
-        b'[' => true,
-        b'{' => true,
-        b'-' => true,
-        b'f' => true,
-        b'n' => true,
-        b't' => true,
-        _ => scan::is_digit(b),
-    }
+    matches!(
+        b,
+        b'"' | b'[' | b'{' | b'-' | b'f' | b'n' | b't' | b'0'..=b'9'
+    )
 }
 
-fn step_of(leaf: Leaf) -> Step
-    ensures { result ≡ stepped leaf }
+// Behind the bracket of an array or object that has so many: its record is written.
+fn closed(out: &mut [u8], bracket: Place, tag: u8, count: usize) -> Place
+    requires { (bracket.at < 2 ^ 40) × (bracket.written < 2 ^ 40) × (count < 2 ^ 16) }
+    ensures { (result.at ≡ bracket.at + 1) × Wrote out.old bracket.written (entry tag (number01 count ∷ [])) result.written out.new }
 {
-    match leaf {
-        Leaf::Done(at, w) => Step::Whole(at, w),
-        Leaf::Broken(fault) => Step::Broken(fault),
+    let written = writers::put_count(out, bracket.written, tag, count);
+    Place {
+        at: bracket.at + 1,
+        written,
     }
 }
 
 // Behind a field's name: its colon, and where its value begins.
-fn behind_name(text: &[u8], end: usize, w: usize, o: Open) -> Naming
+fn behind_name(text: &[u8], end: usize) -> Result<usize, Fault>
     requires { (end ≤ length text.now) × (length text.now ≤ 65000) }
-    ensures { ColonTo text.now end w o result }
+    ensures { ColonTo text.now end result }
 {
     let colon = scan::blanks(text, end);
     if scan::peek(text, colon) != b':' {
-        return Naming::Cut(Fault::NotJson(colon));
+        return Err(Fault::NotJson(colon));
     }
-    Naming::Field(scan::blanks(text, colon + 1), w, o)
+    Ok(scan::blanks(text, colon + 1))
 }
 
-// A field's name at a place, and the colon behind it.
-fn named(text: &[u8], out: &mut [u8], at: usize, w: usize, count: usize) -> Naming
-    requires { Ready text.now at w × (is_blank (get_or text.now at 0) ≡ false) }
-    ensures { NamedTo text.now out.old at w count result out.new }
+// A field's name at a place, and the colon behind it: its value is wanted within the object, which has so many fields before.
+fn named(text: &[u8], out: &mut [u8], from: Place, count: usize) -> Result<Step, Fault>
+    requires { Ready text.now from.at from.written × (is_blank (get_or text.now from.at 0) ≡ false) }
+    ensures { NamedTo text.now out.old from.at from.written count result out.new }
 {
-    if scan::peek(text, at) != b'"' {
-        return Naming::Cut(Fault::NotJson(at));
+    if scan::peek(text, from.at) != b'"' {
+        return Err(Fault::NotJson(from.at));
     }
-    let name = text::string(text, out, at, w);
-    match name {
-        Leaf::Broken(fault) => Naming::Cut(fault),
-        Leaf::Done(end, w1) => {
-            let o = Open {
-                close: b'}',
-                count: count,
-                start: at,
-                end: end,
-            };
-            behind_name(text, end, w1, o)
-        }
-    }
+    let name = text::string(text, out, from)?;
+    let at = behind_name(text, name.at)?;
+    let field = Open::Object(count, from.at, name.at);
+    Ok(Step::Within(Place { at, ..name }, field))
 }
 
 // Behind a `[`: an empty array, or a first element.
-fn array(text: &[u8], out: &mut [u8], from: usize, w: usize) -> Step
-    requires { Ready text.now from w }
-    ensures { OpensTo text.now out.old Shallow first from w result out.new }
+fn array(text: &[u8], out: &mut [u8], from: Place) -> Result<Step, Fault>
+    requires { Ready text.now from.at from.written }
+    ensures { OpensTo text.now out.old Shallow first from.at from.written result out.new }
 {
-    let at = scan::blanks(text, from);
+    let at = scan::blanks(text, from.at);
+    let inside = Place { at, ..from };
     if scan::peek(text, at) == b']' {
-        return Step::Whole(at + 1, writers::put_count(out, w, Tag::ARRAY, 0));
+        return Ok(Step::Whole(closed(out, inside, Tag::ARRAY, 0)));
     }
-    let o = Open {
-        close: b']',
-        count: 0,
-        start: 0,
-        end: 0,
-    };
-    Step::Enter(at, w, o)
+    Ok(Step::Within(inside, Open::Array(0)))
 }
 
 // Behind a `{`: an empty object, or a first field's name.
-fn object(text: &[u8], out: &mut [u8], from: usize, w: usize) -> Step
-    requires { Ready text.now from w }
-    ensures { OpensTo text.now out.old Shallow first_name from w result out.new }
+fn object(text: &[u8], out: &mut [u8], from: Place) -> Result<Step, Fault>
+    requires { Ready text.now from.at from.written }
+    ensures { OpensTo text.now out.old Shallow first_name from.at from.written result out.new }
 {
-    let at = scan::blanks(text, from);
+    let at = scan::blanks(text, from.at);
+    let inside = Place { at, ..from };
     if scan::peek(text, at) == b'}' {
-        return Step::Whole(at + 1, writers::put_count(out, w, Tag::MEMBERS, 0));
+        return Ok(Step::Whole(closed(out, inside, Tag::MEMBERS, 0)));
     }
-    let first = named(text, out, at, w, 0);
-    match first {
-        Naming::Field(inside, w1, o) => Step::Enter(inside, w1, o),
-        Naming::Cut(fault) => Step::Broken(fault),
-    }
+    named(text, out, inside, 0)
 }
 
 // A value within so many open ones.
-fn value(text: &[u8], out: &mut [u8], at: usize, w: usize, depth: usize) -> Step
-    requires { Ready text.now at w × (is_blank (get_or text.now at 0) ≡ false) }
-    ensures { OpensTo text.now out.old (λ fs. length fs ≡ depth) want at w result out.new }
+fn value(text: &[u8], out: &mut [u8], from: Place, depth: usize) -> Result<Step, Fault>
+    requires { Ready text.now from.at from.written × (is_blank (get_or text.now from.at 0) ≡ false) }
+    ensures { OpensTo text.now out.old (λ fs. length fs ≡ depth) want from.at from.written result out.new }
 {
+    let at = from.at;
     let b = scan::peek(text, at);
     if DEPTH <= depth {
-        if begins(b) {
-            return Step::Broken(Fault::Deep(at));
-        }
-        return Step::Broken(Fault::NotJson(at));
+        return Err(if begins(b) {
+            Fault::Deep(at)
+        } else {
+            Fault::NotJson(at)
+        });
     }
-    match b {
-        b'"' => step_of(text::string(text, out, at, w)),
-        b'[' => array(text, out, at + 1, w),
-        b'{' => object(text, out, at + 1, w),
-        b'-' => step_of(negative(text, out, at + 1, w, depth + 1)),
-        b'f' => step_of(bool(text, out, at + 1, w, b"alse", 0)),
-        b'n' => step_of(null(text, out, at + 1, w)),
-        b't' => step_of(bool(text, out, at + 1, w, b"rue", 1)),
-        _ => {
-            if scan::is_digit(b) {
-                return step_of(number(text, out, at, w));
-            }
-            Step::Broken(Fault::NotJson(at))
-        }
-    }
+    let behind = Place { at: at + 1, ..from };
+    let whole = match b {
+        b'[' => return array(text, out, behind),
+        b'{' => return object(text, out, behind),
+        b'"' => text::string(text, out, from)?,
+        b'-' => negative(text, out, behind, depth + 1)?,
+        b'f' => bool(text, out, behind, b"alse", 0)?,
+        b'n' => null(text, out, behind)?,
+        b't' => bool(text, out, behind, b"rue", 1)?,
+        b'0'..=b'9' => number(text, out, from)?,
+        _ => return Err(Fault::NotJson(at)),
+    };
+    Ok(Step::Whole(whole))
 }
 
 // A value is whole within an array: the next element, or the array's end.
-fn within_array(text: &[u8], out: &mut [u8], at: usize, w: usize, count: usize) -> Next
-    requires { Behind text.now at w count }
-    ensures { ArrayNext text.now out.old at w count result out.new }
+fn within_array(text: &[u8], out: &mut [u8], from: Place, count: usize) -> Result<Step, Fault>
+    requires { Behind text.now from.at from.written count }
+    ensures { ArrayNext text.now out.old from.at from.written count result out.new }
 {
-    let b = scan::peek(text, at);
-    if b == b',' {
-        let o = Open {
-            close: b']',
-            count: count,
-            start: 0,
-            end: 0,
-        };
-        return Next::Again(scan::blanks(text, at + 1), w, o);
+    match scan::peek(text, from.at) {
+        b',' => {
+            let at = scan::blanks(text, from.at + 1);
+            Ok(Step::Within(Place { at, ..from }, Open::Array(count)))
+        }
+        b']' => Ok(Step::Whole(closed(out, from, Tag::ARRAY, count))),
+        _ => Err(Fault::NotJson(from.at)),
     }
-    if b != b']' {
-        return Next::Broken(Fault::NotJson(at));
-    }
-    Next::Closed(at + 1, writers::put_count(out, w, Tag::ARRAY, count))
 }
 
 // A field is whole within an object: the next name, or the object's end.
-fn within_object(text: &[u8], out: &mut [u8], at: usize, w: usize, count: usize) -> Next
-    requires { Behind text.now at w count }
-    ensures { ObjectNext text.now out.old at w count result out.new }
+fn within_object(text: &[u8], out: &mut [u8], from: Place, count: usize) -> Result<Step, Fault>
+    requires { Behind text.now from.at from.written count }
+    ensures { ObjectNext text.now out.old from.at from.written count result out.new }
 {
-    let b = scan::peek(text, at);
-    if b == b',' {
-        let next = named(text, out, scan::blanks(text, at + 1), w, count);
-        return match next {
-            Naming::Field(inside, w1, o) => Next::Again(inside, w1, o),
-            Naming::Cut(fault) => Next::Broken(fault),
-        };
+    match scan::peek(text, from.at) {
+        b',' => {
+            let at = scan::blanks(text, from.at + 1);
+            named(text, out, Place { at, ..from }, count)
+        }
+        b'}' => Ok(Step::Whole(closed(out, from, Tag::MEMBERS, count))),
+        _ => Err(Fault::NotJson(from.at)),
     }
-    if b != b'}' {
-        return Next::Broken(Fault::NotJson(at));
-    }
-    Next::Closed(at + 1, writers::put_count(out, w, Tag::MEMBERS, count))
 }
 
 // A field's record: its name's span, nothing computed, no plus, no method, no parameters, `:`. Where there is room for all of it, which one test tells, its
@@ -347,93 +296,59 @@ fn put_field(out: &mut [u8], w: usize, a: u16, e: u16) -> usize
 }
 
 // A value is whole within an open one: of an object, its field is.
-fn within(text: &[u8], out: &mut [u8], from: usize, w: usize, o: Open) -> Next
-    requires { Ready text.now from w × Standing from o }
-    ensures { OpenNext text.now out.old from w o result out.new }
+fn within(text: &[u8], out: &mut [u8], from: Place, opened: Open) -> Result<Step, Fault>
+    requires { Ready text.now from.at from.written × Standing from.at opened }
+    ensures { OpenNext text.now out.old from.at from.written opened result out.new }
 {
-    let at = scan::blanks(text, from);
-    let count = o.count + 1;
-    if o.close == b']' {
-        return within_array(text, out, at, w, count);
+    let at = scan::blanks(text, from.at);
+    match opened {
+        Open::Array(count) => within_array(text, out, Place { at, ..from }, count + 1),
+        Open::Object(count, start, end) => {
+            let written = put_field(out, from.written, start as u16, end as u16);
+            within_object(text, out, Place { at, written }, count + 1)
+        }
     }
-    let w1 = put_field(out, w, o.start as u16, o.end as u16);
-    within_object(text, out, at, w1, count)
 }
 
 // The text's value is whole: only white space may be left.
-fn ended(text: &[u8], from: usize, w: usize) -> Leaf
+fn ended(text: &[u8], from: usize) -> Result<(), Fault>
     requires { from ≤ length text.now }
-    ensures { EndedTo text.now from w result }
+    ensures { EndedTo text.now from result }
 {
-    let at = scan::blanks(text, from);
-    if at < text.len() {
-        return Leaf::Broken(Fault::NotJson(at));
+    let end = scan::blanks(text, from);
+    if end < text.len() {
+        return Err(Fault::NotJson(end));
     }
-    Leaf::Done(at, w)
+    Ok(())
 }
 
-// The text's value, and nothing but white space round it. The image stands in the output, as far as it has room.
-fn parse(text: &[u8], out: &mut [u8]) -> Leaf
+// The text's value, and nothing but white space round it: the image's length. It stands in the output, as far as it has room.
+fn parse(text: &[u8], out: &mut [u8]) -> Result<usize, Fault>
     requires { length text.now ≤ 65000 }
     ensures { ParsedTo text.now out.old result out.new }
 {
-    let mut stack = [Open {
-        close: 0,
-        count: 0,
-        start: 0,
-        end: 0,
-    }; 200];
+    let mut stack = [Open::Array(0); 200];
     let mut depth = 0;
-    let mut at = scan::blanks(text, 0);
-    let mut w = 0;
-    'values: loop {
-        let step = value(text, out, at, w, depth);
-        match step {
-            Step::Broken(fault) => return Leaf::Broken(fault),
-            Step::Enter(inside, w1, o) => {
-                stack[depth] = o;
-                depth += 1;
-                at = inside;
-                w = w1;
-                continue;
-            }
-            Step::Whole(end, w1) => {
-                at = end;
-                w = w1;
-            }
-        }
+    let mut place = Place {
+        at: scan::blanks(text, 0),
+        written: 0,
+    };
+    loop {
+        let mut step = value(text, out, place, depth)?;
         // A value is whole, and perhaps open ones with it.
-        loop {
+        while let Step::Whole(behind) = step {
             if depth == 0 {
-                return ended(text, at, w);
+                ended(text, behind.at)?;
+                return Ok(behind.written);
             }
-            let o = stack[depth - 1];
-            let next = within(text, out, at, w, o);
-            match next {
-                Next::Broken(fault) => return Leaf::Broken(fault),
-                Next::Again(inside, w1, o1) => {
-                    stack[depth - 1] = o1;
-                    at = inside;
-                    w = w1;
-                    continue 'values;
-                }
-                Next::Closed(end, w1) => {
-                    depth -= 1;
-                    at = end;
-                    w = w1;
-                }
-            }
+            depth -= 1;
+            step = within(text, out, behind, stack[depth])?;
         }
-    }
-}
-
-fn broken(fault: Fault) -> Importing
-    ensures { result ≡ importing fault }
-{
-    match fault {
-        Fault::NotJson(at) => Importing::NotJson(at),
-        Fault::Deep(at) => Importing::Depth(at),
-        Fault::Large(start, end) => Importing::Large(start, end),
+        if let Step::Within(inside, opened) = step {
+            stack[depth] = opened;
+            depth += 1;
+            place = inside;
+        }
     }
 }
 
@@ -442,40 +357,25 @@ fn find(text: &[u8], output: &mut [u8]) -> Importing
     ensures { Finds text.now output.old result output.new }
 {
     if LONGEST < text.len() {
-        return Importing::Long;
+        return Err(Unread::Long);
     }
     let valid = strings::utf8::valid_to(text);
     if valid < text.len() {
-        return Importing::Encoding(valid);
+        return Err(Unread::Encoding(valid));
     }
-    let leaf = parse(text, output);
-    match leaf {
-        Leaf::Broken(fault) => broken(fault),
-        Leaf::Done(_, w) => {
-            if output.len() < w {
-                return Importing::Room(w);
-            }
-            Importing::Tree(w)
-        }
+    let length = parse(text, output)?;
+    if output.len() < length {
+        return Err(Unread::Room(length));
     }
-}
-
-// How many bytes of the output are the image's.
-fn written(r: Importing) -> usize
-    ensures { result ≡ written01 r }
-{
-    match r {
-        Importing::Tree(n) => n,
-        _ => 0,
-    }
+    Ok(length)
 }
 
 // A text read into a lent output: what is beyond the image is cleared.
 pub fn read_json(text: &[u8], output: &mut [u8]) -> Importing
     ensures { Imports text.now output.old result output.new }
 {
-    let r = find(text, output);
-    let n = written(r);
-    strings::clear(&mut output[n..]);
-    r
+    let found = find(text, output);
+    let length = found.unwrap_or(0);
+    output[length..].fill(0);
+    found
 }
