@@ -1,5 +1,5 @@
 -- BOTH READERS, OF ONE TEXT: theorems about the importer of JSON and the reader of Jsonnet under setting 0 together. What they promise is
--- `Imports` (crates/json/specs/Importer.antt) and `Reads` (crates/reader/specs/Reader.antt); `HasSolidus` is the escape `\/` in a string.
+-- `Imports` (crates/json_import/specs/Importer.antt) and `Reads` (crates/reader/specs/Reader.antt); `HasSolidus` is the escape `\/` in a string.
 -- Assumes nothing.
 use mathlib.Core.Path.{◌≡◌, refl, sym, ap, subst, ◌∙◌}
 use mathlib.Core.List.{List, ◌++◌}
@@ -8,6 +8,7 @@ use Prim.Native.Nat.{ℕ}
 use native.Mathlib.Omega.{arith}
 use lib.ListN.{length, take, replicate}
 use lib.Seq.{take_at}
+use Rattle.std.specs.Prelude.{Ok}
 use Rattle.lexemes.proofs.KeptLaws.{kept_none_bad}
 use Rattle.grammar.specs.Numbers.{TREE, ROOM, DEPTH, LARGE, ESCAPE}
 use Rattle.grammar.specs.Trees.{Trees}
@@ -23,13 +24,9 @@ use Rattle.json_import.specs.Values.{Part, Reads as Derives, broken}
 use Rattle.json_import.specs.Values as values
 use Rattle.json_import.specs.Json.{Text, Judged, ReadsJson}
 use Rattle.json_import.specs.Json as json
-use Rattle.json_import.specs.Importer.{Imports}
+use Rattle.json_import.specs.Importer.{Importing, Imports}
 use Rattle.json_import.specs.Importer as imports
-use Rattle.json_import.specs.declared.Importing.{Importing}
-use Rattle.json_import.specs.declared.Importing.TheVariants as importer
-use Rattle.reader.specs.Reader.{Reads, numbers}
-use Rattle.reader.specs.declared.Reading.{Reading}
-use Rattle.reader.specs.declared.Reading.TheVariants.{Tree}
+use Rattle.reader.specs.Reader.{Reading, Reads, numbers}
 use Rattle.reader.proofs.AnswerLaws.{fits-output, tree-answer}
 use Rattle.reader.proofs.Demands.{answers_found}
 use Rattle.both.specs.Solidus.{HasSolidus, SolidusAt}
@@ -130,7 +127,7 @@ module _ (s : List ℕ) (out₀ : List ℕ) (importing : Importing) (out₁ : Li
   same_image h (inr e) = ⊎_elim (λ z. (z.1, z.2)) (λ z. absurd (omega (arith, sym e ∙ z.1))) (both h)
 
 -- With outputs of any two lengths: where both answer 0, the image's length is the same, and so are its bytes.
-module _ (s out₀ : List ℕ) (m : ℕ) (out₁ : List ℕ) (x : Imports s out₀ (importer.Tree m) out₁) (out : List ℕ) (n : ℕ) (out₂ : List ℕ) (y : Reads 0 s out (Tree n) out₂) where
+module _ (s out₀ : List ℕ) (m : ℕ) (out₁ : List ℕ) (x : Imports s out₀ (Ok m) out₁) (out : List ℕ) (n : ℕ) (out₂ : List ℕ) (y : Reads 0 s out (Ok n) out₂) where
   pub same_bytes : (m ≡ n) × (take m out₁ ≡ take n out₂)
   unfolding answer numbers imports.numbers
   same_bytes = let z = imported x (inl refl) in by z.2 z.3 (both_find z.1)
@@ -140,8 +137,8 @@ module _ (s out₀ : List ℕ) (m : ℕ) (out₁ : List ℕ) (x : Imports s out�
 
       by : {t : Trees} → imports.tree_of TREE m ≡ answer (length out₀) (tree t) → out₁ ≡ output (length out₀) (tree t) → Found s t → (m ≡ n) × (take m out₁ ≡ take n out₂)
       by {t} p q (same j l) =
-          let z = answers_found 0 s out (Tree n) out₂ y j in
+          let z = answers_found 0 s out (Ok n) out₂ y j in
           let e = tree-answer (length out) t n z.0 in
           let f = tree-answer (length out₀) t m p in
           (f.0 ∙ sym e.0, front t m _ (q ∙ fits-output (length out₀) t f.1) f.0 ∙ sym (front t n _ (z.1 ∙ fits-output (length out) t e.1) e.0))
-      by p q (nine j o l) = absurd (omega (arith, ap (λ (b : Answer). b.number) (answers_found 0 s out (Tree n) out₂ y j).0))
+      by p q (nine j o l) = absurd (omega (arith, ap (λ (b : Answer). b.number) (answers_found 0 s out (Ok n) out₂ y j).0))

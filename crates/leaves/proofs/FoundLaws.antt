@@ -10,10 +10,10 @@ use Rattle.lexemes.specs.Kinds.{LOCAL_KW, ASSERT_KW}
 use Rattle.grammar.specs.Productions.{with_field, with_assert, with_member, Switch, always, exp_destruct, exp_object_iteration, exp_null_coaelse, Operator, op, operators}
 use Rattle.grammar.specs.Reading.{has}
 use Rattle.leaves.specs.Operators.{infix_in, infix_under}
-use Rattle.grammar.specs.Operators.{infix_of, operator_in}
+use Rattle.grammar.specs.Operators.{binary, infix_of, operator_in}
 use Rattle.grammar.proofs.Chosen.{pick_no, true_false}
-use Rattle.grammar.specs.declared.operators.Infix.{Infix}
-use Rattle.grammar.specs.declared.operators.Infix.TheVariants.{Binary, NoInfix}
+use Rattle.std.specs.Prelude.{Option, None}
+use Rattle.grammar.specs.declared.operators.Operator as code
 
 pub same_fault : (c : ℕ) → ¬ (c ≡ 4) → ¬ (c ≡ 0) → c ≡ with_field c
 unfolding with_field
@@ -66,7 +66,7 @@ no_switch g k j exp_destruct h n e = absurd (n (eqb-true k j e ∙ eqb-true j 3 
 no_switch g k j exp_object_iteration h n e = absurd (n (eqb-true k j e ∙ eqb-true j 3 h))
 no_switch g k j exp_null_coaelse h n e = absurd (n (eqb-true k j e ∙ eqb-true j 3 h))
 
-choice : (t u : Bool) (a x y : Infix) → (t ≡ true → u ≡ true) → x ≡ y → cond t a x ≡ cond (t && u) a y
+choice : (t u : Bool) (a x y : Option code.Operator) → (t ≡ true → u ≡ true) → x ≡ y → cond t a x ≡ cond (t && u) a y
 choice true true a x y f e = refl
 choice true false a x y f e = absurd (true_false (sym (f refl)))
 choice false u a x y f e = e
@@ -75,19 +75,19 @@ same_in : (g k : ℕ) (ops : List Operator) → usual ops ≡ true → ¬ (k ≡
 unfolding operator_in infix_in usual
 same_in g k [] h n = refl
 same_in g k (op j w l r o ∷ rest) h n =
-    choice (eqb k j) (has g w) (Binary o l r) (operator_in k rest) (infix_in g k rest) (no_switch g k j w (and_l (is_always w || eqb j 3) (usual rest) h) n)
+    choice (eqb k j) (has g w) (binary o l r) (operator_in k rest) (infix_in g k rest) (no_switch g k j w (and_l (is_always w || eqb j 3) (usual rest) h) n)
     (same_in g k rest (and_r (is_always w || eqb j 3) (usual rest) h) n)
 
 pub same_infix : (g k : ℕ) → ¬ (k ≡ 3) → infix_of k ≡ infix_under g k
 unfolding infix_of infix_under usual is_always operators
 same_infix g k n = same_in g k operators refl n
 
-pub switched_on : (g k : ℕ) → k ≡ 3 → has g exp_null_coaelse ≡ true → Binary 18 2 3 ≡ infix_under g k
+pub switched_on : (g k : ℕ) → k ≡ 3 → has g exp_null_coaelse ≡ true → binary 18 2 3 ≡ infix_under g k
 unfolding infix_under infix_in has operators
 switched_on g k e h =
-    subst (λ (m : ℕ). Binary 18 2 3 ≡ infix_under g m) (sym e) (sym (ap (λ (t : Bool). cond t (Binary 18 2 3) NoInfix) h))
+    subst (λ (m : ℕ). binary 18 2 3 ≡ infix_under g m) (sym e) (sym (ap (λ (t : Bool). cond t (binary 18 2 3) None) h))
 
-pub switched_off : (g k : ℕ) → k ≡ 3 → has g exp_null_coaelse ≡ false → NoInfix ≡ infix_under g k
+pub switched_off : (g k : ℕ) → k ≡ 3 → has g exp_null_coaelse ≡ false → None ≡ infix_under g k
 unfolding infix_under infix_in has operators
 switched_off g k e h =
-    subst (λ (m : ℕ). NoInfix ≡ infix_under g m) (sym e) (sym (ap (λ (t : Bool). cond t (Binary 18 2 3) NoInfix) h))
+    subst (λ (m : ℕ). None ≡ infix_under g m) (sym e) (sym (ap (λ (t : Bool). cond t (binary 18 2 3) None) h))

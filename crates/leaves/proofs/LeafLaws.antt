@@ -1,7 +1,10 @@
 -- Laws that the phrases without other phrases rest on.
 -- Assumes nothing.
+use Rattle.std.specs.Prelude.{Ok, Err}
 use mathlib.Core.Path.{◌≡◌, refl, sym, ap, subst, subst⁻¹, ◌∙◌}
 use mathlib.Core.Bool.{Bool, true, false}
+use mathlib.Core.Logic.{inl, inr}
+use types.Run.{OneOf}
 use mathlib.Core.List.{List, [], ◌∷◌}
 use Prim.Native.Nat.{ℕ, ◌+◌, ◌-◌, ◌≤◌, ◌<◌, ◌^◌}
 use native.Mathlib.Omega.{arith}
@@ -19,7 +22,7 @@ use Rattle.grammar.specs.Reading.{choose}
 use Rattle.grammar.specs.Writing.{Wrote}
 use Rattle.grammar.specs.Productions.{Phrase, Body, end, goto, fail, ◌▸◌, eat, leaf, rule, basic, string, object_rest_end, object_pattern_close}
 use Rattle.leaves.specs.Lexing.{Stands, Moved, Past, past, same, Quoting, double, single, double_verbatim, single_verbatim, block, Quotes, quotes, none as no-quotes}
-use Rattle.leaves.specs.Meets.{Ready, State, state, Seg, Eats, Leads, power}
+use Rattle.leaves.specs.Meets.{Ready, State, state, Seg, Eats, Leads, power, Answer, reached}
 use Rattle.leaves.proofs.LexemeLaws.{lies, sight}
 use Rattle.leaves.proofs.Steps
 use Rattle.leaves.proofs.PartLaws.{lent_short, wrote_lent}
@@ -27,20 +30,19 @@ use Rattle.leaves.proofs.LeafRules.{rest_comma, rest_over, bad_string, large_num
 use Rattle.leaves.proofs.TextLaws.{spoiling, exceeding}
 use Rattle.leaves.specs.declared.Cursor.{Cursor}
 use Rattle.leaves.specs.declared.Refusal.{Refusal}
-use Rattle.leaves.specs.declared.Answer.{Answer}
-use Rattle.leaves.specs.declared.Answer.TheVariants.{Done, Broken}
+use Rattle.leaves.specs.declared.Done.{Done}
 
 -- ── Answers ───────────────────────────────────────────────────────────────────────────────────────
 
-pub done_once : {c c₁ : Cursor} {w w₁ k k₁ : ℕ} → Done c w k ≡ Done c₁ w₁ k₁ → (c ≡ c₁) × (w ≡ w₁) × (k ≡ k₁)
-done_once e = (cc, cc, cc)
+pub done_once : {c c₁ : Cursor} {w w₁ k k₁ : ℕ} → reached c w k ≡ reached c₁ w₁ k₁ → (c ≡ c₁) × (w ≡ w₁) × (k ≡ k₁)
+done_once e = let x = Steps.one_end e in (ap (λ (y : Done). y.0) x, ap (λ (y : Done). y.1) x, ap (λ (y : Done). y.2) x)
 
 -- no answer is both
-pub not_both : {a : Answer} {r : Refusal} {c : Cursor} {w k : ℕ} → a ≡ Broken r → a ≡ Done c w k → ⊥
+pub not_both : {a : Answer} {r : Refusal} {c : Cursor} {w k : ℕ} → a ≡ Err r → a ≡ reached c w k → ⊥
 not_both e f = let z : ◌≡◌ {A = ℕ} 0 1 = cc in omega arith
 
 -- past a lexeme
-pub moves : {s : List ℕ} {c c₁ c₂ : Cursor} {w w₁ k k₁ : ℕ} → Stands s c → Moved s c c₁ → ¬ (c.kind ≡ 1) → Done c₁ w k ≡ Done c₂ w₁ k₁
+pub moves : {s : List ℕ} {c c₁ c₂ : Cursor} {w w₁ k k₁ : ℕ} → Stands s c → Moved s c c₁ → ¬ (c.kind ≡ 1) → reached c₁ w k ≡ reached c₂ w₁ k₁
     → (c.at < c₂.at) × (w₁ ≡ w) × (c₂.at ≡ c.end)
 moves st mv h q =
     let x = done_once q in
@@ -49,18 +51,22 @@ moves st mv h q =
 
 -- ── Strings ───────────────────────────────────────────────────────────────────────────────────────
 
-pub a_string : {j k : ℕ} → Quoting j → k ≡ j → Quotes k true
-a_string q e = quotes (subst⁻¹ Quoting e q)
+pub string_kind : {k : ℕ} → OneOf (41 ∷ 43 ∷ 45 ∷ 47 ∷ 50 ∷ []) k → Quoting k
+string_kind (inl e) = subst⁻¹ Quoting e double
+string_kind (inr (inl e)) = subst⁻¹ Quoting e single
+string_kind (inr (inr (inl e))) = subst⁻¹ Quoting e double_verbatim
+string_kind (inr (inr (inr (inl e)))) = subst⁻¹ Quoting e single_verbatim
+string_kind (inr (inr (inr (inr e)))) = subst⁻¹ Quoting e block
 
-which : {k : ℕ} → Quoting k → ¬ (k ≡ 41) → ¬ (k ≡ 43) → ¬ (k ≡ 45) → ¬ (k ≡ 47) → ¬ (k ≡ 50) → ⊥
-which double a b c d e = a refl
-which single a b c d e = b refl
-which double_verbatim a b c d e = c refl
-which single_verbatim a b c d e = d refl
-which block a b c d e = e refl
+which : {k : ℕ} → Quoting k → OneOf (41 ∷ 43 ∷ 45 ∷ 47 ∷ 50 ∷ []) k
+which double = inl refl
+which single = inr (inl refl)
+which double_verbatim = inr (inr (inl refl))
+which single_verbatim = inr (inr (inr (inl refl)))
+which block = inr (inr (inr (inr refl)))
 
-pub no_string : {k : ℕ} → ¬ (k ≡ 41) → ¬ (k ≡ 43) → ¬ (k ≡ 45) → ¬ (k ≡ 47) → ¬ (k ≡ 50) → Quotes k false
-no_string a b c d e = no-quotes (λ q. which q a b c d e)
+pub no_string : {k : ℕ} → ¬ (OneOf (41 ∷ 43 ∷ 45 ∷ 47 ∷ 50 ∷ []) k) → Quotes k false
+no_string n = no-quotes (λ q. n (which q))
 
 -- ── Room ──────────────────────────────────────────────────────────────────────────────────────────
 
@@ -122,8 +128,8 @@ past_comma {g} {s} {d} {from} {r} {n} {e} {v} {w} {x} {c} {c₁} {o} st (same h 
 
 -- ── Past a lexeme that `eat` took ─────────────────────────────────────────────────────────────────
 
-pub ate_stands : {s : List ℕ} {c c₁ : Cursor} {w w₁ k j : ℕ} {a : Answer} → Stands s c → Eats s k c w a → a ≡ Done c₁ w₁ j → Stands s c₁
-ate_stands {s} {c} {c₁} {w} {k = k} st m q = (Steps.ate m q (Steps.at 0 s 0 (eat k ▸ end) 0 c w [])).stands st
+pub ate_stands : {s : List ℕ} {c : Cursor} {w k : ℕ} {a : Answer} {x : Done} → Stands s c → Eats s k c w a → a ≡ Ok x → Stands s x.0
+ate_stands {s} {c} {w} {k} st m q = (Steps.ate m q (Steps.at 0 s 0 (eat k ▸ end) 0 c w [])).stands st
 
 -- ── What `is_string_token` tells ──────────────────────────────────────────────────────────────────
 
@@ -143,13 +149,13 @@ any_size k st t h = omega (arith, h, (lies st).from)
 
 -- a literal with a bad escape
 pub bad-answer : {g : ℕ} {s : List ℕ} {d n w u m x : ℕ} {b : Body} {c : Cursor} {o o₁ : List ℕ} {a : Answer} → Stands s c → Spoils s c.kind c.start c.end x
-    → a ≡ Broken (record { number = ESCAPE; place = c; detail = c.start + 1 + x }) → Leads g s d (state (goto string) n c w o) u b m a o₁
+    → a ≡ Err (record { number = ESCAPE; place = c; detail = c.start + 1 + x }) → Leads g s d (state (goto string) n c w o) u b m a o₁
 bad-answer {g} {n = n} {x = x} {c = c} st f e =
     Steps.broke (Steps.fails st (spoiling (fail 9 (c.start + 1 + x)) st f (λ xs. bad_string g c xs n c.kind x) Steps.here)) e
 
 -- a number beyond a double
 pub large_answer : {g : ℕ} {s : List ℕ} {d n w u m : ℕ} {b : Body} {c : Cursor} {o o₁ : List ℕ} {a : Answer} → Stands s c → c.kind ≡ FLOAT
-    → TooLarge (plain (slice c.start c.end s)) → a ≡ Broken (record { number = LARGE; place = c; detail = 0 }) → Leads g s d (state (goto basic) n c w o) u b m a o₁
+    → TooLarge (plain (slice c.start c.end s)) → a ≡ Err (record { number = LARGE; place = c; detail = 0 }) → Leads g s d (state (goto basic) n c w o) u b m a o₁
 large_answer {g} {n = n} {c = c} st k l e = Steps.broke (Steps.fails st (exceeding (fail LARGE 0) st k l (λ xs. large_number g c xs n) Steps.here)) e
 
 -- ── Phrases of one lexeme ─────────────────────────────────────────────────────────────────────────
@@ -158,7 +164,7 @@ module _ {g : ℕ} {s : List ℕ} {d : ℕ} {q : Phrase} {n w w₁ j : ℕ} {c c
   -- a lexeme of kind k is a record of at most 8 bytes
   pub one_leaf : {k t : ℕ} {f : List Field} → Stands s c → c.kind ≡ k → 1 < k
       → ((xs : List Lexeme) (u : Said) → choose g (rule (power g) q (sight c xs n k u)) ≡ leaf t f ▸ end) → Moved s c c₁ → length (entry t f) ≤ 8 → Wrote o w (entry t f) w₁ o₁
-      → Leads g s d (state (goto q) n c w o) 0 end (n + 1) (Done c₁ w₁ j) o₁
+      → Leads g s d (state (goto q) n c w o) 0 end (n + 1) (reached c₁ w₁ j) o₁
   one_leaf {k} {t} {f} st e h r mv i u =
       let some : 1 < c.kind = omega (arith, e, h) in
       Steps.ends (omega arith) (Steps.leaved st mv some (small st some i) u (Steps.known (leaf t f ▸ end) st e r Steps.here))
@@ -167,7 +173,7 @@ module _ {g : ℕ} {s : List ℕ} {d : ℕ} {q : Phrase} {n w w₁ j : ℕ} {c c
   pub one_name : (t : ℕ) → Stands s c → c.kind ≡ 55
       → ((xs : List Lexeme) → choose g (rule (power g) q (sight c xs n 55 (says (slice c.start c.end s)))) ≡ leaf t (span c.start c.end ∷ text (slice c.start c.end s) ∷ []) ▸ end)
       → Moved s c c₁ → Wrote o w (entry t (span c.start c.end ∷ text (take (c.end - c.start) (drop c.start s)) ∷ [])) w₁ o₁
-      → Leads g s d (state (goto q) n c w o) 0 end (n + 1) (Done c₁ w₁ j) o₁
+      → Leads g s d (state (goto q) n c w o) 0 end (n + 1) (reached c₁ w₁ j) o₁
   one_name t st e r mv u =
       let written = wrote_lent t (λ (l : List ℕ). span c.start c.end ∷ text l ∷ []) s c.start c.end u in
       let there = Steps.called (leaf t (span c.start c.end ∷ text (slice c.start c.end s) ∷ []) ▸ end) st e r Steps.here in
@@ -176,6 +182,6 @@ module _ {g : ℕ} {s : List ℕ} {d : ℕ} {q : Phrase} {n w w₁ j : ℕ} {c c
 -- a phrase that is broken off by rule
 module _ {g : ℕ} {s : List ℕ} {d : ℕ} {q : Phrase} {n w : ℕ} {c : Cursor} {o o₁ : List ℕ} where
   pub one_fault : {m x u k : ℕ} {b : Body} {a : Answer} → Stands s c
-      → ((xs : List Lexeme) (t : Said) → choose g (rule (power g) q (sight c xs n c.kind t)) ≡ fail m x) → a ≡ Broken (record { number = m; place = c; detail = x })
+      → ((xs : List Lexeme) (t : Said) → choose g (rule (power g) q (sight c xs n c.kind t)) ≡ fail m x) → a ≡ Err (record { number = m; place = c; detail = x })
       → Leads g s d (state (goto q) n c w o) u b k a o₁
   one_fault {m} {x} st r e = Steps.broke (Steps.fails st (Steps.known (fail m x) st refl r Steps.here)) e

@@ -10,7 +10,7 @@ use Rattle.lexemes.specs.declared.Lexeme.{Lexeme as Token}
 use Rattle.blocks.specs.Blocks.{BlockAt}
 use Rattle.blocks.proofs.Laws.{block_end_lem}
 use Rattle.lexemes.proofs.Letters.{inside}
-use Rattle.blocks.specs.declared.Block.TheVariants.{Good}
+use Rattle.std.specs.Prelude.{Ok}
 use Rattle.lexemes.specs.Lexeme.{lexeme}
 use Rattle.lexemes.specs.Kept.{NextKept, first}
 use Rattle.lexemes.proofs.KeptLaws.{Rest, nothing as no_rest, next, kept_step, next_once}
@@ -33,7 +33,7 @@ pub record Lies (s : List ℕ) (at : ℕ) (l : Token) : Type 0 where
   pub raw : l.kind ≡ 45 → l.start + 3 ≤ l.end
   pub raw' : l.kind ≡ 47 → l.start + 3 ≤ l.end
   pub block : l.kind ≡ 50 → l.start + 3 ≤ l.end
-  pub block' : l.kind ≡ 50 → BlockAt s (l.start + 3) (Good l.end)
+  pub block' : l.kind ≡ 50 → BlockAt s (l.start + 3) (Ok l.end)
 
 pub next_lies : {s : List ℕ} {at : ℕ} {l : Token} → at ≤ length s → NextKept s at l → Lies s at l
 next_lies {s} {at} {l} h n = subst⁻¹ (Lies s at) n.is_first (by (kept_step n.is_left))

@@ -1,12 +1,12 @@
 -- The steps of a reading: what each step of a production adds to a stretch, and the ways to end.
 -- Assumes nothing.
+use Rattle.std.specs.Prelude.{Ok, Err, IsErr, IsErrAnd}
 use mathlib.Core.Path.{◌≡◌, refl, sym, ap, subst, subst⁻¹, ◌∙◌}
 use mathlib.Core.List.{List, [], ◌++◌, append_assoc, append-nil}
 use Prim.Native.Nat.{ℕ, suc, ◌+◌, ◌-◌, ◌*◌, ◌≤◌, ◌<◌, ◌^◌}
 use native.Mathlib.Omega.{arith}
 use lib.ListN.{length, length-append}
 use lib.Seq.{sets, slice, length-sets}
-use denote.Enum.Declared.{tag_of}
 use Rattle.strings.proofs.Stores.{sets_append}
 use Rattle.grammar.specs.Trees.{Field, Trees, none, tree, ◌⊕◌, count as size}
 use Rattle.grammar.specs.Image.{image, entry}
@@ -15,14 +15,12 @@ use Rattle.grammar.specs.Writing.{Wrote}
 use Rattle.grammar.specs.Productions.{Phrase, Body, end, goto, fail, ◌▸◌, Step, eat, leaf, sub, deep, close, rule}
 use Rattle.grammar.specs.Reading.{Outcome, done, Reading, ended, failed, gone as read_gone, eaten, uneaten, leafed, closed as read-closed, subbed, unsubbed, deepened, undeepened, too_deep as read-too-deep, production, choose}
 use Rattle.leaves.specs.Lexing.{Left, Stands, Moved}
-use Rattle.leaves.specs.Meets.{power, Ready, State, state, Seg, Breaks, Led, Leads, Takes, TakesSome, Counted, Counts, Told, Tells, Eats}
+use Rattle.leaves.specs.Meets.{power, Ready, State, state, Seg, Breaks, Led, Leads, Takes, TakesSome, Counted, Counts, Told, Tells, Eats, Answer, reached}
 use Rattle.grammar.proofs.ImageLaws.{image-row, count-row, image_close, image-leaf}
 use Rattle.leaves.proofs.LexemeLaws.{lies, Sees, sees, sight, seen, name_says}
-use Rattle.leaves.specs.contracts.Answer.{the_type}
 use Rattle.leaves.specs.declared.Cursor.{Cursor}
 use Rattle.leaves.specs.declared.Refusal.{Refusal}
-use Rattle.leaves.specs.declared.Answer.{Answer}
-use Rattle.leaves.specs.declared.Answer.TheVariants.{Done, Broken}
+use Rattle.leaves.specs.declared.Done.{Done}
 
 -- ── Where a function begins ───────────────────────────────────────────────────────────────────────
 
@@ -53,10 +51,14 @@ at g s d b n c w o = here
 ungone : {g d : ℕ} {q : Phrase} {ts : Trees} {p : ℕ} {xs : List Lexeme} {o : Outcome} → Reading (power g) g (goto q) ts d p xs o → Reading (power g) g (production (power g) g q p xs (size ts)) ts d p xs o
 ungone (read_gone r) = r
 
--- an answer that is not `Done` is `Broken`
-pub no_done : (a : Answer) → tag_of the_type a ≡ 1 → (r : Refusal) × (a ≡ Broken r)
-no_done (Done c w k) e = absurd (let z : ◌≡◌ {A = ℕ} 0 1 = e in omega arith)
-no_done (Broken r) e = (r, refl)
+-- an answer ends in one way
+pub one_end : {x y : Done} → ◌≡◌ {A = Answer} (Ok x) (Ok y) → x ≡ y
+one_end e = cc
+
+-- what `?` hands on of a refusal
+pub handed : {r : Refusal} {a : Answer} → IsErr a × IsErrAnd a (λ x. x ≡ r) → a ≡ Err r
+handed {a = Ok x} h = absurd h.1
+handed {a = Err x} h = ap Err h.1
 
 module _ {g : ℕ} {s : List ℕ} {d : ℕ} where
   -- two stretches make one, with what it has taken and written counted anew
@@ -235,30 +237,30 @@ module _ {g : ℕ} {s : List ℕ} {d : ℕ} where
 
   -- ── Answers of other functions ──────────────────────────────────────────────────────────────────
 
-  pub led : {mid : State} {b : Body} {n v w k : ℕ} {c : Cursor} {o : List ℕ} {a : Answer} → Leads g s d mid v b n a o → a ≡ Done c w k → Seg g s d mid 0 v (state b n c w o)
+  pub led : {mid : State} {b : Body} {n v : ℕ} {o : List ℕ} {a : Answer} {x : Done} → Leads g s d mid v b n a o → a ≡ Ok x → Seg g s d mid 0 v (state b n x.0 x.1 o)
   unfolding Led
   led {mid} {b} {n} {v} {o = o} m q = subst (λ (x : Answer). Led g s d mid v b n x o) q m.led
 
   -- a function leads on, and owes u
-  pub went : {from mid : State} {b : Body} {n e v u w k : ℕ} {c : Cursor} {o : List ℕ} {a : Answer} → Leads g s d mid u b n a o → a ≡ Done c w k → Seg g s d from e v mid
-      → Seg g s d from e (v + u) (state b n c w o)
+  pub went : {from mid : State} {b : Body} {n e v u : ℕ} {o : List ℕ} {a : Answer} {x : Done} → Leads g s d mid u b n a o → a ≡ Ok x → Seg g s d from e v mid
+      → Seg g s d from e (v + u) (state b n x.0 x.1 o)
   went {e = e} {v} {u} m q p = sum e (v + u) (omega arith) (omega arith) p (led m q)
 
   -- a step is taken by a function
-  pub took : {from : State} {st : Step} {b : Body} {n k e v w w₁ j : ℕ} {c c₁ : Cursor} {o o₁ : List ℕ} {a : Answer} → Takes g s st k 0 d c w o a o₁ → a ≡ Done c₁ w₁ j
-      → Seg g s d from e v (state (st ▸ b) n c w o) → Seg g s d from e v (state b (n + k) c₁ w₁ o₁)
+  pub took : {from : State} {st : Step} {b : Body} {n k e v w : ℕ} {c : Cursor} {o o₁ : List ℕ} {a : Answer} {x : Done} → Takes g s st k 0 d c w o a o₁ → a ≡ Ok x
+      → Seg g s d from e v (state (st ▸ b) n c w o) → Seg g s d from e v (state b (n + k) x.0 x.1 o₁)
   took {b = b} {n} m q p = then p (led (m.takes b n) q)
 
   -- by one that owes u
-  pub took_owing : {from : State} {st : Step} {b : Body} {n k e v u w w₁ j : ℕ} {c c₁ : Cursor} {o o₁ : List ℕ} {a : Answer} → Takes g s st k u d c w o a o₁ → a ≡ Done c₁ w₁ j
-      → Seg g s d from e v (state (st ▸ b) n c w o) → Seg g s d from e (v + u) (state b (n + k) c₁ w₁ o₁)
+  pub took_owing : {from : State} {st : Step} {b : Body} {n k e v u w : ℕ} {c : Cursor} {o o₁ : List ℕ} {a : Answer} {x : Done} → Takes g s st k u d c w o a o₁ → a ≡ Ok x
+      → Seg g s d from e v (state (st ▸ b) n c w o) → Seg g s d from e (v + u) (state b (n + k) x.0 x.1 o₁)
   took_owing {b = b} {n} m q p = went (m.takes b n) q p
 
   -- a lexeme is taken by `eat`
-  pub ate : {from : State} {b : Body} {n k e v w w₁ j : ℕ} {c c₁ : Cursor} {o : List ℕ} {a : Answer} → Eats s k c w a → a ≡ Done c₁ w₁ j
-      → Seg g s d from e v (state (eat k ▸ b) n c w o) → Seg g s d from (e + 1) v (state b n c₁ w₁ o)
-  ate {n = n} {w₁ = w₁} {j} {c₁ = c₁} {o = o} m q p =
-      let x = m.moved c₁ w₁ j q in
+  pub ate : {from : State} {b : Body} {n k e v w : ℕ} {c : Cursor} {o : List ℕ} {a : Answer} {x : Done} → Eats s k c w a → a ≡ Ok x
+      → Seg g s d from e v (state (eat k ▸ b) n c w o) → Seg g s d from (e + 1) v (state b n x.0 x.1 o)
+  ate {n = n} {o = o} {x = y} m q p =
+      let x = m.moved y.0 y.1 y.2 q in
       let r = count_is (let z : n + 0 ≡ n = omega arith in z) (took (m.eats g d o) q p) in
       record {
         bytes = r.bytes;
@@ -273,55 +275,55 @@ module _ {g : ℕ} {s : List ℕ} {d : ℕ} where
         credit = omega (arith, p.credit, x.0, x.1);
       }
 
-  pub told : {mid : State} {next : ℕ → Body} {n w k : ℕ} {c : Cursor} {o : List ℕ} {a : Answer} → Tells g s d mid next n a o → a ≡ Done c w k → Told g s d mid next n (Done c w k) o
+  pub told : {mid : State} {next : ℕ → Body} {n : ℕ} {o : List ℕ} {a : Answer} {x : Done} → Tells g s d mid next n a o → a ≡ Ok x → Told g s d mid next n (Ok x) o
   told {mid} {next} {n} {o = o} m q = subst (λ (x : Answer). Told g s d mid next n x o) q m.tells
 
   -- what it tells comes next
-  pub follows : {from mid : State} {next : ℕ → Body} {n e v w k : ℕ} {c : Cursor} {o : List ℕ} {a : Answer} → Tells g s d mid next n a o → a ≡ Done c w k → Seg g s d from e v mid
-      → Seg g s d from e v (state (next k) n c w o)
+  pub follows : {from mid : State} {next : ℕ → Body} {n e v : ℕ} {o : List ℕ} {a : Answer} {x : Done} → Tells g s d mid next n a o → a ≡ Ok x → Seg g s d from e v mid
+      → Seg g s d from e v (state (next x.2) n x.0 x.1 o)
   unfolding Told
   follows m q p = then p (told m q).0
 
-  pub told_small : {mid : State} {next : ℕ → Body} {n w k : ℕ} {c : Cursor} {o : List ℕ} {a : Answer} → Tells g s d mid next n a o → a ≡ Done c w k → k ≤ 4
+  pub told_small : {mid : State} {next : ℕ → Body} {n : ℕ} {o : List ℕ} {a : Answer} {x : Done} → Tells g s d mid next n a o → a ≡ Ok x → x.2 ≤ 4
   unfolding Told
   told_small m q = (told m q).1
 
   -- a list was read, of as many trees as it tells
-  pub counted : {q : Phrase} {v w w₁ k : ℕ} {c c₁ : Cursor} {o o₁ : List ℕ} {a : Answer} → Counts g s q v d c w o a o₁ → a ≡ Done c₁ w₁ k
-      → Takes g s (sub q) k v d c w o (Done c₁ w₁ k) o₁ × (c.at + k ≤ c₁.at)
+  pub counted : {q : Phrase} {v w : ℕ} {c : Cursor} {o o₁ : List ℕ} {a : Answer} {x : Done} → Counts g s q v d c w o a o₁ → a ≡ Ok x
+      → Takes g s (sub q) x.2 v d c w o (Ok x) o₁ × (c.at + x.2 ≤ x.0.at)
   unfolding Counted
   counted {q} {v} {w} {c = c} {o = o} {o₁ = o₁} m e = subst (λ (x : Answer). Counted g s q v d c w o x o₁) e m.counts
 
   -- ── The ways to end ─────────────────────────────────────────────────────────────────────────────
 
-  pub ends : {from : State} {b : Body} {n e v w k : ℕ} {c : Cursor} {o : List ℕ} → v ≤ 32 * e → Seg g s d from e v (state b n c w o) → Leads g s d from 0 b n (Done c w k) o
+  pub ends : {from : State} {b : Body} {n e v w k : ℕ} {c : Cursor} {o : List ℕ} → v ≤ 32 * e → Seg g s d from e v (state b n c w o) → Leads g s d from 0 b n (reached c w k) o
   unfolding Led
   ends h p = record { led = settled 0 (omega (arith, h)) p }
 
   -- this one owes u
-  pub owes : {from : State} {b : Body} {n e v u w k : ℕ} {c : Cursor} {o : List ℕ} → v ≤ 32 * e + u → Seg g s d from e v (state b n c w o) → Leads g s d from u b n (Done c w k) o
+  pub owes : {from : State} {b : Body} {n e v u w k : ℕ} {c : Cursor} {o : List ℕ} → v ≤ 32 * e + u → Seg g s d from e v (state b n c w o) → Leads g s d from u b n (reached c w k) o
   unfolding Led
   owes {u = u} h p = record { led = settled u h p }
 
   -- this one tells k
   pub says_on : {from : State} {next : ℕ → Body} {n e v w k : ℕ} {c : Cursor} {o : List ℕ} → k ≤ 4 → v ≤ 32 * e → Seg g s d from e v (state (next k) n c w o)
-      → Tells g s d from next n (Done c w k) o
+      → Tells g s d from next n (reached c w k) o
   unfolding Told
   says_on i h p = record { tells = (settled 0 (omega (arith, h)) p, i) }
 
-  pub broke : {from : State} {b : Body} {n u : ℕ} {o : List ℕ} {r : Refusal} {a : Answer} → Breaks g s d from r → a ≡ Broken r → Leads g s d from u b n a o
+  pub broke : {from : State} {b : Body} {n u : ℕ} {o : List ℕ} {r : Refusal} {a : Answer} → Breaks g s d from r → a ≡ Err r → Leads g s d from u b n a o
   unfolding Led
   broke {from} {b} {n} {u} {o} h e = record { led = subst⁻¹ (λ (x : Answer). Led g s d from u b n x o) e h }
 
-  pub broke_telling : {from : State} {next : ℕ → Body} {n : ℕ} {o : List ℕ} {r : Refusal} {a : Answer} → Breaks g s d from r → a ≡ Broken r → Tells g s d from next n a o
+  pub broke_telling : {from : State} {next : ℕ → Body} {n : ℕ} {o : List ℕ} {r : Refusal} {a : Answer} → Breaks g s d from r → a ≡ Err r → Tells g s d from next n a o
   unfolding Told
   broke_telling {from} {next} {n} {o} h e = record { tells = subst⁻¹ (λ (x : Answer). Told g s d from next n x o) e h }
 
-  pub refused : {mid : State} {b : Body} {n u : ℕ} {o : List ℕ} {r : Refusal} {a : Answer} → Leads g s d mid u b n a o → a ≡ Broken r → Breaks g s d mid r
+  pub refused : {mid : State} {b : Body} {n u : ℕ} {o : List ℕ} {r : Refusal} {a : Answer} → Leads g s d mid u b n a o → a ≡ Err r → Breaks g s d mid r
   unfolding Led
   refused {mid} {b} {n} {u} {o} m e = subst (λ (x : Answer). Led g s d mid u b n x o) e m.led
 
-  pub refused_telling : {mid : State} {next : ℕ → Body} {n : ℕ} {o : List ℕ} {r : Refusal} {a : Answer} → Tells g s d mid next n a o → a ≡ Broken r → Breaks g s d mid r
+  pub refused_telling : {mid : State} {next : ℕ → Body} {n : ℕ} {o : List ℕ} {r : Refusal} {a : Answer} → Tells g s d mid next n a o → a ≡ Err r → Breaks g s d mid r
   unfolding Told
   refused_telling {mid} {next} {n} {o} m e = subst (λ (x : Answer). Told g s d mid next n x o) e m.tells
 
@@ -335,51 +337,52 @@ module _ {g : ℕ} {s : List ℕ} {d : ℕ} where
         stands = h.stands;
       }
 
-  -- the refusal of a function that leads on, takes a step, tells, or counts, is found by
-  pub leads_broken : {mid : State} {b : Body} {n u : ℕ} {o : List ℕ} {a : Answer} → Leads g s d mid u b n a o → tag_of the_type a ≡ 1 → (r : Refusal) × (a ≡ Broken r) × Breaks g s d mid r
-  leads_broken {a = a} m q = let x = no_done a q in (x.0, x.1, refused m x.1)
+  -- the refusal of a function that leads on, takes a step, tells, or counts, which `?` hands on
+  pub leads_broken : {mid : State} {b : Body} {n u : ℕ} {o : List ℕ} {a a′ : Answer} {r : Refusal} → Leads g s d mid u b n a o → a ≡ Err r → a′ ≡ Err r
+      → (r : Refusal) × (a′ ≡ Err r) × Breaks g s d mid r
+  leads_broken {r = r} m q t = (r, t, refused m q)
 
-  pub tells_broken : {mid : State} {next : ℕ → Body} {n : ℕ} {o : List ℕ} {a : Answer} → Tells g s d mid next n a o → tag_of the_type a ≡ 1 → (r : Refusal) × (a ≡ Broken r) × Breaks g s d mid r
-  tells_broken {a = a} m q = let x = no_done a q in (x.0, x.1, refused_telling m x.1)
+  pub tells_broken : {mid : State} {next : ℕ → Body} {n : ℕ} {o : List ℕ} {a a′ : Answer} {r : Refusal} → Tells g s d mid next n a o → a ≡ Err r → a′ ≡ Err r
+      → (r : Refusal) × (a′ ≡ Err r) × Breaks g s d mid r
+  tells_broken {r = r} m q t = (r, t, refused_telling m q)
 
-  pub takes_broken : {st : Step} {b : Body} {n k u w : ℕ} {c : Cursor} {o o₁ : List ℕ} {a : Answer} → Takes g s st k u d c w o a o₁ → tag_of the_type a ≡ 1
-      → (r : Refusal) × (a ≡ Broken r) × Breaks g s d (state (st ▸ b) n c w o) r
-  takes_broken {b = b} {n = n} m q = leads_broken (m.takes b n) q
+  pub takes_broken : {st : Step} {b : Body} {n k u w : ℕ} {c : Cursor} {o o₁ : List ℕ} {a a′ : Answer} {r : Refusal} → Takes g s st k u d c w o a o₁ → a ≡ Err r → a′ ≡ Err r
+      → (r : Refusal) × (a′ ≡ Err r) × Breaks g s d (state (st ▸ b) n c w o) r
+  takes_broken {b = b} {n = n} m q t = leads_broken (m.takes b n) q t
 
-  pub eats_broken : {b : Body} {n k w : ℕ} {c : Cursor} {o : List ℕ} {a : Answer} → Eats s k c w a → tag_of the_type a ≡ 1
-      → (r : Refusal) × (a ≡ Broken r) × Breaks g s d (state (eat k ▸ b) n c w o) r
-  eats_broken {b = b} {n = n} {o = o} m q = takes_broken {b = b} {n = n} (m.eats g d o) q
+  pub eats_broken : {b : Body} {n k w : ℕ} {c : Cursor} {o : List ℕ} {a a′ : Answer} {r : Refusal} → Eats s k c w a → a ≡ Err r → a′ ≡ Err r
+      → (r : Refusal) × (a′ ≡ Err r) × Breaks g s d (state (eat k ▸ b) n c w o) r
+  eats_broken {b = b} {n = n} {o = o} m q t = takes_broken {b = b} {n = n} (m.eats g d o) q t
 
-  pub counts_broken : {q : Phrase} {b : Body} {n v w : ℕ} {c : Cursor} {o o₁ : List ℕ} {a : Answer} → Counts g s q v d c w o a o₁ → tag_of the_type a ≡ 1
-      → (r : Refusal) × (a ≡ Broken r) × Breaks g s d (state (sub q ▸ b) n c w o) r
+  pub counts_broken : {q : Phrase} {b : Body} {n v w : ℕ} {c : Cursor} {o o₁ : List ℕ} {a a′ : Answer} {r : Refusal} → Counts g s q v d c w o a o₁ → a ≡ Err r → a′ ≡ Err r
+      → (r : Refusal) × (a′ ≡ Err r) × Breaks g s d (state (sub q ▸ b) n c w o) r
   unfolding Counted
-  counts_broken {q} {b} {n} {v} {w} {c} {o} {o₁} {a} m e =
-      let x = no_done a e in
-      let y : Takes g s (sub q) 0 v d c w o (Broken x.0) o₁ = subst (λ (z : Answer). Counted g s q v d c w o z o₁) x.1 m.counts in
-      (x.0, x.1, refused (y.takes b n) refl)
+  counts_broken {q} {b} {n} {v} {w} {c} {o} {o₁} {a} {r = r} m e t =
+      let y : Takes g s (sub q) 0 v d c w o (Err r) o₁ = subst (λ (z : Answer). Counted g s q v d c w o z o₁) e m.counts in
+      (r, t, refused (y.takes b n) refl)
 
   -- and passed up, by a function that leads on or tells
-  pub passed : {from mid : State} {b : Body} {n u e v : ℕ} {o : List ℕ} {a : Answer} → ((r : Refusal) × (a ≡ Broken r) × Breaks g s d mid r) → Seg g s d from e v mid → Leads g s d from u b n a o
+  pub passed : {from mid : State} {b : Body} {n u e v : ℕ} {o : List ℕ} {a : Answer} → ((r : Refusal) × (a ≡ Err r) × Breaks g s d mid r) → Seg g s d from e v mid → Leads g s d from u b n a o
   passed x p = broke (breaks_on x.2 p) x.1
 
-  pub passed_telling : {from mid : State} {next : ℕ → Body} {n e v : ℕ} {o : List ℕ} {a : Answer} → ((r : Refusal) × (a ≡ Broken r) × Breaks g s d mid r) → Seg g s d from e v mid
+  pub passed_telling : {from mid : State} {next : ℕ → Body} {n e v : ℕ} {o : List ℕ} {a : Answer} → ((r : Refusal) × (a ≡ Err r) × Breaks g s d mid r) → Seg g s d from e v mid
       → Tells g s d from next n a o
   passed_telling x p = broke_telling (breaks_on x.2 p) x.1
 
   -- a function's answer is this one's
   pub tail : {from mid : State} {b : Body} {n e v u t : ℕ} {o : List ℕ} {a : Answer} → v + u ≤ 32 * e + t → Leads g s d mid u b n a o → Seg g s d from e v mid → Leads g s d from t b n a o
-  tail {a = Done c w k} h m p = owes h (went m refl p)
-  tail {a = Broken r} h m p = broke (breaks_on (refused m refl) p) refl
+  tail {a = Ok x} h m p = owes h (went m refl p)
+  tail {a = Err r} h m p = broke (breaks_on (refused m refl) p) refl
 
   pub tail_telling : {from mid : State} {next : ℕ → Body} {n e v : ℕ} {o : List ℕ} {a : Answer} → v ≤ 32 * e → Tells g s d mid next n a o → Seg g s d from e v mid → Tells g s d from next n a o
   unfolding Told
-  tail_telling {a = Done c w k} h m p = says_on (told m refl).1 h (follows m refl p)
-  tail_telling {a = Broken r} h m p = broke_telling (breaks_on (refused_telling m refl) p) refl
+  tail_telling {a = Ok x} h m p = says_on (told m refl).1 h (follows m refl p)
+  tail_telling {a = Err r} h m p = broke_telling (breaks_on (refused_telling m refl) p) refl
 
   -- a lexeme that ends the phrase
   pub eat_last : {from : State} {n k e v w : ℕ} {c : Cursor} {o : List ℕ} {a : Answer} → Eats s k c w a → v ≤ 32 * (e + 1) → Seg g s d from e v (state (eat k ▸ end) n c w o) → Leads g s d from 0 end n a o
-  eat_last {a = Done c₁ w₁ j} m h p = ends h (ate m refl p)
-  eat_last {a = Broken r} m h p = broke (breaks_on (refused ((m.eats g d _).takes end _) refl) p) refl
+  eat_last {a = Ok x} m h p = ends h (ate m refl p)
+  eat_last {a = Err r} m h p = broke (breaks_on (refused ((m.eats g d _).takes end _) refl) p) refl
 
   -- a refusal by rule
   pub fails : {from : State} {n e v m x w : ℕ} {c : Cursor} {o : List ℕ} → Stands s c → Seg g s d from e v (state (fail m x) n c w o)
@@ -425,8 +428,8 @@ module _ {g : ℕ} {s : List ℕ} {d : ℕ} where
 
   pub as_sub : {q : Phrase} {c : Cursor} {w k v : ℕ} {o o₁ : List ℕ} {a : Answer} → Leads g s d (state (goto q) 0 c w o) v end k a o₁ → Takes g s (sub q) k v d c w o a o₁
   unfolding size Led
-  as_sub {a = Done c₁ w₁ j} m = record { takes = λ b n. record { led = under (led m refl) b n } }
-  as_sub {a = Broken r} m =
+  as_sub {a = Ok x} m = record { takes = λ b n. record { led = under (led m refl) b n } }
+  as_sub {a = Err r} m =
       let h = refused m refl in
       record {
         takes = λ b n. broke (record {
@@ -458,8 +461,8 @@ module _ {g : ℕ} {s : List ℕ} {d : ℕ} where
 
   deeper : {q : Phrase} {c : Cursor} {w k : ℕ} {o o₁ : List ℕ} {a : Answer} → Leads g s d (state (goto q) 0 c w o) 0 end k a o₁ → Takes g s (deep q) k 0 (suc d) c w o a o₁
   unfolding size Led
-  deeper {a = Done c₁ w₁ j} m = record { takes = λ b n. record { led = below (led m refl) b n } }
-  deeper {a = Broken r} m =
+  deeper {a = Ok x} m = record { takes = λ b n. record { led = below (led m refl) b n } }
+  deeper {a = Err r} m =
       let h = refused m refl in
       record {
         takes = λ b n. broke (record {
@@ -498,22 +501,22 @@ turned h l p = record { ok = ready h.ok l p; seg = then h.seg (settled 0 (omega 
 
 -- ── For `eat` ─────────────────────────────────────────────────────────────────────────────────────
 
-pub moved_to : (c : Cursor) {c₀ c₁ : Cursor} {w w₁ k j : ℕ} → Done c₀ w k ≡ Done c₁ w₁ j → c.at < c₀.at → c₀.at ≡ c.end → (c.at < c₁.at) × (w₁ ≡ w) × (c₁.at ≡ c.end)
+pub moved_to : (c : Cursor) {c₀ c₁ : Cursor} {w w₁ k j : ℕ} → reached c₀ w k ≡ reached c₁ w₁ j → c.at < c₀.at → c₀.at ≡ c.end → (c.at < c₁.at) × (w₁ ≡ w) × (c₁.at ≡ c.end)
 moved_to c {c₀} {c₁} {w} {w₁} q h e =
-    let x : c₀ ≡ c₁ = cc in
-    let y : w ≡ w₁ = cc in
+    let x : c₀ ≡ c₁ = ap (λ (z : Done). z.0) (one_end q) in
+    let y : w ≡ w₁ = ap (λ (z : Done). z.1) (one_end q) in
     (subst (λ (z : Cursor). c.at < z.at) x h, sym y, subst (λ (z : Cursor). z.at ≡ c.end) x e)
 
-pub not_done : {r : Refusal} {c : Cursor} {w k : ℕ} → Broken r ≡ Done c w k → ⊥
+pub not_done : {r : Refusal} {c : Cursor} {w k : ℕ} → Err r ≡ reached c w k → ⊥
 not_done e = let z : ◌≡◌ {A = ℕ} 0 1 = cc in omega arith
 
 -- ── Steps that surely take a byte ─────────────────────────────────────────────────────────────────
 
 module _ {g : ℕ} {s : List ℕ} {st : Step} {k v d w : ℕ} {c : Cursor} {o o₁ : List ℕ} where
-  pub taking : {c₁ : Cursor} {w₁ j : ℕ} → Takes g s st k v d c w o (Done c₁ w₁ j) o₁ → c.at < c₁.at → TakesSome g s st k v d c w o (Done c₁ w₁ j) o₁
-  taking {c₁} m h = record { takes = m; some = λ c₂ w₂ n q. let e : c₁ ≡ c₂ = cc in subst (λ (x : Cursor). c.at < x.at) e h }
+  pub taking : {c₁ : Cursor} {w₁ j : ℕ} → Takes g s st k v d c w o (reached c₁ w₁ j) o₁ → c.at < c₁.at → TakesSome g s st k v d c w o (reached c₁ w₁ j) o₁
+  taking {c₁} m h = record { takes = m; some = λ c₂ w₂ n q. let e : c₁ ≡ c₂ = ap (λ (x : Done). x.0) (one_end q) in subst (λ (x : Cursor). c.at < x.at) e h }
 
-  pub taking_none : {a : Answer} {r : Refusal} → a ≡ Broken r → Takes g s st k v d c w o a o₁ → TakesSome g s st k v d c w o a o₁
+  pub taking_none : {a : Answer} {r : Refusal} → a ≡ Err r → Takes g s st k v d c w o a o₁ → TakesSome g s st k v d c w o a o₁
   taking_none e m = record { takes = m; some = λ c₂ w₂ n q. absurd (not_done (sym e ∙ q)) }
 
 -- past a lexeme

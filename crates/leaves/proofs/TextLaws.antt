@@ -11,14 +11,14 @@ use lib.Dec.{eqb}
 use borrow.Author.Tests.{eq-eqb, ne_eqb}
 use lib.ListN.{length, get_or, set, take, drop, length-append}
 use lib.Seq.{sets, slice, length-slice, take-suc}
-use Rattle.strings.specs.Decoding.{Decoding, text as decoded, refused, Never, Missing}
+use Rattle.std.specs.Prelude.{Ok, Err}
+use Rattle.strings.specs.Decoding.{Decoded, Decoding, text as decoded, refused, Never, Missing}
 use Rattle.strings.specs.Literals.{Quoted, BadEscape, Verbatim}
-use Rattle.strings.specs.declared.Decoded.{Decoded}
-use Rattle.strings.specs.declared.Decoded.TheVariants.{Text, Refused}
+use Rattle.strings.specs.declared.Refused.{Refused}
 use Rattle.strings.proofs.LiteralLaws.{quoted_short, verbatim_short, bad_escape_within}
 use Rattle.strings.proofs.Stores.{sets_append}
 use Rattle.blocks.specs.Blocks.{BlockAt, BlockText}
-use Rattle.blocks.specs.declared.Block.TheVariants.{Good}
+use Rattle.std.specs.Prelude.{Ok}
 use Rattle.blocks.proofs.Laws.{text_short, never_refused}
 use Rattle.numerals.specs.Value.{TooLarge}
 use Rattle.grammar.specs.Lexemes.{Lexeme, Said, says, spoiled, nothing}
@@ -110,15 +110,17 @@ plainly_takes {xs} {out₀} {i = i} {n} p h e u =
 -- ── Decoders ──────────────────────────────────────────────────────────────────────────────────────
 
 -- a decoder's text
-pub found : {P : List ℕ → Type 0} {F : ℕ → Type 0} {out out₁ : List ℕ} {d : Decoded} {n : ℕ} → Decoding P F out d out₁ → d ≡ Text n
+pub found : {P : List ℕ → Type 0} {F : ℕ → Type 0} {out out₁ : List ℕ} {d : Decoded} {n : ℕ} → Decoding P F out d out₁ → d ≡ Ok n
     → (t : List ℕ) × P t × (n ≡ length t) × (out₁ ≡ sets out 0 t)
 found (decoded {t} m) e = (t, m, cc, refl)
 found (refused f) e = absurd (let z : ◌≡◌ {A = ℕ} 0 1 = cc in omega arith)
 
 -- or its fault
-pub fault_found : {P : List ℕ → Type 0} {F : ℕ → Type 0} {out out₁ : List ℕ} {d : Decoded} {n : ℕ} → Decoding P F out d out₁ → d ≡ Refused n → F n
+pub fault_found : {P : List ℕ → Type 0} {F : ℕ → Type 0} {out out₁ : List ℕ} {d : Decoded} {r : Refused} → Decoding P F out d out₁ → d ≡ Err r → F r.at
 fault_found (decoded m) e = absurd (let z : ◌≡◌ {A = ℕ} 0 1 = cc in omega arith)
-fault_found {F = F} {n = n} (refused {n = m} f) e = let q : m ≡ n = cc in subst F q f
+fault_found {F = F} {r = r} (refused {n = m} f) e =
+    let q : ◌≡◌ {A = Refused} (record { at = m }) r = cc in
+    subst F (ap (λ (x : Refused). x.at) q) f
 
 -- the same text or fault, said otherwise
 decodes : {P Q : List ℕ → Type 0} {F G : ℕ → Type 0} {out out₁ : List ℕ} {d : Decoded} → ((t : List ℕ) → P t → Q t) → ((n : ℕ) → F n → G n) → Decoding P F out d out₁
@@ -137,7 +139,7 @@ module _ {s : List ℕ} {k a e : ℕ} {out out₁ : List ℕ} {d : Decoded} wher
   kind_is : {j : ℕ} → k ≡ j → Decoding (Means s j a e) (Spoils s j a e) out d out₁ → Decoding (Means s k a e) (Spoils s k a e) out d out₁
   kind_is q h = subst⁻¹ (λ (i : ℕ). Decoding (Means s i a e) (Spoils s i a e) out d out₁) q h
 
-  pub decodes_block : k ≡ 50 → BlockAt s (a + 3) (Good e) → Decoding (BlockText (drop (a + 3) s)) (Missing (BlockText (drop (a + 3) s))) out d out₁
+  pub decodes_block : k ≡ 50 → BlockAt s (a + 3) (Ok e) → Decoding (BlockText (drop (a + 3) s)) (Missing (BlockText (drop (a + 3) s))) out d out₁
       → Decoding (Means s k a e) (Spoils s k a e) out d out₁
   decodes_block q g h = kind_is q (decodes (λ t m. block m) (λ n f. absurd (never_refused g f)) h)
 

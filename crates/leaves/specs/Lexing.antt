@@ -36,25 +36,25 @@ pub data Named (s : List ℕ) (c : Cursor) : ℕ → Type 0 where
   no_name : (c.kind ≡ IDENT → ⊥) → Named s c 0
   no_value : {c₁ : Cursor} → c.kind ≡ IDENT → Moved s c c₁ → (c₁.kind ≡ ASSIGN → ⊥) → Named s c 0
 
--- `[`, a name, `]` and `:`, where setting g has object iteration: 1, and they stand at these cursors; else 0.
-pub data Header (g : ℕ) (s : List ℕ) (c : Cursor) : ℕ → Type 0 where
+-- Whether `[`, a name, `]` and `:` stand next, where setting g has object iteration, and at which cursors.
+pub data Header (g : ℕ) (s : List ℕ) (c : Cursor) : Bool → Type 0 where
   header : {c₁ c₂ c₃ : Cursor} → has g exp_object_iteration ≡ true → c.kind ≡ L_BRACK → Moved s c c₁ → c₁.kind ≡ IDENT → Moved s c₁ c₂ → c₂.kind ≡ R_BRACK
-      → Moved s c₂ c₃ → c₃.kind ≡ COLON → Header g s c 1
-  off : has g exp_object_iteration ≡ false → Header g s c 0
-  no_bracket : (c.kind ≡ L_BRACK → ⊥) → Header g s c 0
-  no_key : {c₁ : Cursor} → Moved s c c₁ → (c₁.kind ≡ IDENT → ⊥) → Header g s c 0
-  not_closed : {c₁ c₂ : Cursor} → Moved s c c₁ → Moved s c₁ c₂ → (c₂.kind ≡ R_BRACK → ⊥) → Header g s c 0
-  no_colon : {c₁ c₂ c₃ : Cursor} → Moved s c c₁ → Moved s c₁ c₂ → Moved s c₂ c₃ → (c₃.kind ≡ COLON → ⊥) → Header g s c 0
+      → Moved s c₂ c₃ → c₃.kind ≡ COLON → Header g s c true
+  off : has g exp_object_iteration ≡ false → Header g s c false
+  no_bracket : (c.kind ≡ L_BRACK → ⊥) → Header g s c false
+  no_key : {c₁ : Cursor} → Moved s c c₁ → (c₁.kind ≡ IDENT → ⊥) → Header g s c false
+  not_closed : {c₁ c₂ : Cursor} → Moved s c c₁ → Moved s c₁ c₂ → (c₂.kind ≡ R_BRACK → ⊥) → Header g s c false
+  no_colon : {c₁ c₂ c₃ : Cursor} → Moved s c c₁ → Moved s c₁ c₂ → Moved s c₂ c₃ → (c₃.kind ≡ COLON → ⊥) → Header g s c false
 
--- A kind that a suffix begins with, under setting g: 1; else 0.
-pub data Suffixed (g k : ℕ) : ℕ → Type 0 where
-  mark : k ≡ QUESTION_MARK → has g exp_null_coaelse ≡ true → Suffixed g k 1
-  dot : k ≡ DOT → Suffixed g k 1
-  bracket : k ≡ L_BRACK → Suffixed g k 1
-  paren : k ≡ L_PAREN → Suffixed g k 1
-  brace : k ≡ L_BRACE → Suffixed g k 1
-  no_mark : k ≡ QUESTION_MARK → has g exp_null_coaelse ≡ false → Suffixed g k 0
-  none : (k ≡ QUESTION_MARK → ⊥) → (k ≡ DOT → ⊥) → (k ≡ L_BRACK → ⊥) → (k ≡ L_PAREN → ⊥) → (k ≡ L_BRACE → ⊥) → Suffixed g k 0
+-- Whether a suffix begins with a kind, under setting g.
+pub data Suffixed (g k : ℕ) : Bool → Type 0 where
+  mark : k ≡ QUESTION_MARK → has g exp_null_coaelse ≡ true → Suffixed g k true
+  dot : k ≡ DOT → Suffixed g k true
+  bracket : k ≡ L_BRACK → Suffixed g k true
+  paren : k ≡ L_PAREN → Suffixed g k true
+  brace : k ≡ L_BRACE → Suffixed g k true
+  no_mark : k ≡ QUESTION_MARK → has g exp_null_coaelse ≡ false → Suffixed g k false
+  none : (k ≡ QUESTION_MARK → ⊥) → (k ≡ DOT → ⊥) → (k ≡ L_BRACK → ⊥) → (k ≡ L_PAREN → ⊥) → (k ≡ L_BRACE → ⊥) → Suffixed g k false
 
 -- A string's kind.
 pub data Quoting : ℕ → Type 0 where

@@ -1,6 +1,6 @@
 -- What a phrase function promises.
 -- Assumes nothing.
-use Rattle.std.specs.Prelude.{◌≡◌, List, [], ◌∷◌, ◌++◌, ℕ, ◌+◌, ◌-◌, ◌*◌, ◌≤◌, ◌<◌, length}
+use Rattle.std.specs.Prelude.{◌≡◌, List, [], ◌∷◌, ◌++◌, ℕ, ◌+◌, ◌-◌, ◌*◌, ◌≤◌, ◌<◌, length, Result, Ok, Err}
 use Rattle.std.proofs.lemmas.List.Edits.{sets}
 use Rattle.lexemes.specs.Kinds.{R_BRACK, DOT, ASSIGN}
 use Rattle.grammar.specs.Tags.{SLICE, BIND}
@@ -13,8 +13,7 @@ use Rattle.grammar.specs.Answer.{prefix_power}
 use Rattle.leaves.specs.Lexing.{Left, Stands}
 use Rattle.leaves.specs.declared.Cursor.{Cursor}
 use Rattle.leaves.specs.declared.Refusal.{Refusal}
-use Rattle.leaves.specs.declared.Answer.{Answer}
-use Rattle.leaves.specs.declared.Answer.TheVariants.{Done, Broken}
+use Rattle.leaves.specs.declared.Done.{Done}
 
 -- The prefix power of a setting.
 abbrev pub power : ℕ → ℕ
@@ -70,6 +69,14 @@ pub record Breaks (g : ℕ) (s : List ℕ) (d : ℕ) (from : State) (r : Refusal
 
 -- ── Answers ───────────────────────────────────────────────────────────────────────────────────────
 
+-- What a phrase function answers with: where the phrase ended, or its refusal.
+abbrev pub Answer : Type 0
+Answer = Result Done Refusal
+
+-- It ended at c, with w bytes written, and a number k.
+abbrev pub reached : Cursor → ℕ → ℕ → Answer
+reached c w k = Ok (record { 0 = c; 1 = w; 2 = k })
+
 -- What a suffix and a field's name tell.
 abbrev pub suffixes : ℕ → Body
 suffixes f = goto (suffix f)
@@ -78,8 +85,8 @@ abbrev pub titled : ℕ → ℕ → Body
 titled a c = goto (field_named c a)
 
 unfoldable pub Led : ℕ → List ℕ → ℕ → State → ℕ → Body → ℕ → Answer → List ℕ → Type 0
-Led g s d from v b n (Done c w k) o = Seg g s d from 0 v (state b n c w o)
-Led g s d from v b n (Broken r) o = Breaks g s d from r
+Led g s d from v b n (Ok x) o = Seg g s d from 0 v (state b n x.0 x.1 o)
+Led g s d from v b n (Err r) o = Breaks g s d from r
 
 -- An answer that leads from a state on to body b with n trees, or breaks off. Of the bytes written it may owe v, which whoever asks pays.
 pub record Leads (g : ℕ) (s : List ℕ) (d : ℕ) (from : State) (v : ℕ) (b : Body) (n : ℕ) (a : Answer) (o : List ℕ) : Type 0 where
@@ -91,7 +98,7 @@ pub record Takes (g : ℕ) (s : List ℕ) (st : Step) (k v d : ℕ) (c : Cursor)
 
 -- Where it is done, an answer is further on than that place.
 abbrev pub Onward : Cursor → Answer → Type 0
-Onward c a = (c₁ : Cursor) (w n : ℕ) → a ≡ Done c₁ w n → c.at < c₁.at
+Onward c a = (c₁ : Cursor) (w n : ℕ) → a ≡ reached c₁ w n → c.at < c₁.at
 
 -- The same of a step that surely takes a byte.
 pub record TakesSome (g : ℕ) (s : List ℕ) (st : Step) (k v d : ℕ) (c : Cursor) (w : ℕ) (o : List ℕ) (a : Answer) (o₁ : List ℕ) : Type 0 where
@@ -99,16 +106,16 @@ pub record TakesSome (g : ℕ) (s : List ℕ) (st : Step) (k v d : ℕ) (c : Cur
   pub some : Onward c a
 
 unfoldable pub Counted : ℕ → List ℕ → Phrase → ℕ → ℕ → Cursor → ℕ → List ℕ → Answer → List ℕ → Type 0
-Counted g s q v d c w o (Done c₁ w₁ k) o₁ = Takes g s (sub q) k v d c w o (Done c₁ w₁ k) o₁ × (c.at + k ≤ c₁.at)
-Counted g s q v d c w o (Broken r) o₁ = Takes g s (sub q) 0 v d c w o (Broken r) o₁
+Counted g s q v d c w o (Ok x) o₁ = Takes g s (sub q) x.2 v d c w o (Ok x) o₁ × (c.at + x.2 ≤ x.0.at)
+Counted g s q v d c w o (Err r) o₁ = Takes g s (sub q) 0 v d c w o (Err r) o₁
 
 -- The same of a list, which tells how many trees it adds: each takes a byte at least. It may owe v bytes.
 pub record Counts (g : ℕ) (s : List ℕ) (q : Phrase) (v d : ℕ) (c : Cursor) (w : ℕ) (o : List ℕ) (a : Answer) (o₁ : List ℕ) : Type 0 where
   pub counts : Counted g s q v d c w o a o₁
 
 unfoldable pub Told : ℕ → List ℕ → ℕ → State → (ℕ → Body) → ℕ → Answer → List ℕ → Type 0
-Told g s d from next n (Done c w k) o = Seg g s d from 0 0 (state (next k) n c w o) × (k ≤ 4)
-Told g s d from next n (Broken r) o = Breaks g s d from r
+Told g s d from next n (Ok x) o = Seg g s d from 0 0 (state (next x.2) n x.0 x.1 o) × (x.2 ≤ 4)
+Told g s d from next n (Err r) o = Breaks g s d from r
 
 -- An answer that tells what the phrase goes on with.
 pub record Tells (g : ℕ) (s : List ℕ) (d : ℕ) (from : State) (next : ℕ → Body) (n : ℕ) (a : Answer) (o : List ℕ) : Type 0 where
@@ -151,7 +158,7 @@ pub record Argues (g : ℕ) (s : List ℕ) (d m k : ℕ) (c : Cursor) (w : ℕ) 
 -- What `eat` promises.
 pub record Eats (s : List ℕ) (k : ℕ) (c : Cursor) (w : ℕ) (a : Answer) : Type 0 where
   pub eats : (g d : ℕ) (o : List ℕ) → Takes g s (eat k) 0 0 d c w o a o
-  pub moved : (c₁ : Cursor) (w₁ n : ℕ) → a ≡ Done c₁ w₁ n → (c.at < c₁.at) × (w₁ ≡ w) × (c₁.at ≡ c.end)
+  pub moved : (c₁ : Cursor) (w₁ n : ℕ) → a ≡ reached c₁ w₁ n → (c.at < c₁.at) × (w₁ ≡ w) × (c₁.at ≡ c.end)
 
 -- ── Bodies that more than one function goes on with ───────────────────────────────────────────────
 

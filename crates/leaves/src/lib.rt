@@ -7,11 +7,11 @@ ghost use Rattle.strings.specs.Decoding.{Decoding, Never};
 ghost use Rattle.strings.specs.Literals.{Quoted, BadEscape, Verbatim};
 ghost use Rattle.numerals.specs.Value.{TooLarge};
 ghost use Rattle.lexemes.specs.Kinds.{L_BRACK, L_BRACE, FLOAT};
-ghost use Rattle.lexemes.specs.Texts.{plain as plainText};
+ghost use Rattle.lexemes.specs.Texts.{plain as plain_text};
 ghost use Rattle.grammar.specs.Tags.{MEMBERS};
 ghost use Rattle.grammar.specs.Trees.{number, span};
 ghost use Rattle.grammar.specs.Says.{Means, Spoils};
-ghost use Rattle.grammar.specs.Productions.{goto, end, ◌▸◌, close, string, basic, pattern, array_pattern_close, object_pattern_close, object_rest, with_field, with_assert, with_member, member_name as memberName, call_close, field};
+ghost use Rattle.grammar.specs.Productions.{goto, end, ◌▸◌, close, string, basic, pattern, array_pattern_close, object_pattern_close, object_rest, with_field, with_assert, with_member, member_name as member_name_phrase, call_close, field};
 ghost use Rattle.leaves.specs.Lexing.{Stands, Quoting, Quotes, Atom, Colons, Past};
 ghost use Rattle.leaves.specs.Meets.{Ready, state, Ends, EndsAny, EndsOver, EndsUnder, TellsEver, TellsEverAny, suffixes, titled, bracketed, sliced};
 
@@ -44,13 +44,13 @@ pub struct Refusal {
     pub detail: usize,
 }
 
-// A phrase's answer: where it ended, how long the image is then, and a number; or where it was broken off. What the number is, the type says
-// that a function answers by: of an `Answer` nobody reads it.
+// Where a phrase ended, how long the image is then, and a number. What the number is, the type says that a function answers by: of an `Answer`
+// nobody reads it.
 #[derive(Clone, Copy)]
-pub enum Answer {
-    Done(Cursor, usize, usize),
-    Broken(Refusal),
-}
+pub struct Done(pub Cursor, pub usize, pub usize);
+
+// A phrase's answer: where it ended, or where it was broken off.
+pub type Answer = Result<Done, Refusal>;
 
 // The number is how many trees a list has.
 pub type WithCount = Answer;
@@ -106,10 +106,10 @@ pub fn parse_string_content(src: &[u8], out: &mut [u8], c: Cursor, w: usize) -> 
     let from = least(w + 3, out.len());
     let d = decode(src, c, &mut out[from..]);
     match d {
-        Decoded::Refused(n) => error(c, Number::ESCAPE, c.start as usize + 1 + n),
-        Decoded::Text(n) => {
+        Err(refused) => error(c, Number::ESCAPE, c.start as usize + 1 + refused.at),
+        Ok(n) => {
             let w1 = writers::put_head(out, w, Tag::STRING, n);
-            Answer::Done(eat_any(src, c), w1 + n, 1)
+            Ok(Done(eat_any(src, c), w1 + n, 1))
         }
     }
 }
@@ -118,26 +118,23 @@ pub fn parse_string_content(src: &[u8], out: &mut [u8], c: Cursor, w: usize) -> 
 pub fn is_string_token(kind: u8) -> bool
     ensures { Quotes kind result }
 {
-    match kind {
-        Kind::STRING_DOUBLE => true,
-        Kind::STRING_SINGLE => true,
-        Kind::STRING_DOUBLE_VERBATIM => true,
-        Kind::STRING_SINGLE_VERBATIM => true,
-        Kind::STRING_BLOCK => true,
-        _ => false,
-    }
+    matches!(
+        kind,
+        Kind::STRING_DOUBLE
+            | Kind::STRING_SINGLE
+            | Kind::STRING_DOUBLE_VERBATIM
+            | Kind::STRING_SINGLE_VERBATIM
+            | Kind::STRING_BLOCK
+    )
 }
 
 // A number's literal without underscores, into a lent part of the output; its length.
 fn plain(text: &[u8], part: &mut [u8]) -> usize
     requires { length text.now ≤ 65000 }
-    ensures { (result ≡ length (plainText text.now)) × (part.new ≡ sets part.old 0 (plainText text.now)) }
+    ensures { (result ≡ length (plain_text text.now)) × (part.new ≡ sets part.old 0 (plain_text text.now)) }
 {
-    let mut i = 0;
     let mut n = 0;
-    while i < text.len() {
-        let b = text[i];
-        i += 1;
+    for &b in text {
         if b == b'_' {
             continue;
         }
@@ -149,7 +146,7 @@ fn plain(text: &[u8], part: &mut [u8]) -> usize
 
 // A number that a double holds: its record.
 fn number_in_range(src: &[u8], out: &mut [u8], c: Cursor, w: usize) -> Answer
-    requires { Ready src.now c w × (c.kind ≡ FLOAT) × (TooLarge (plainText (slice c.start c.end src.now)) → ⊥) }
+    requires { Ready src.now c w × (c.kind ≡ FLOAT) × (TooLarge (plain_text (slice c.start c.end src.now)) → ⊥) }
     ensures { Ends src.now (state (goto basic) 0 c w out.old) 0 end 1 result out.new }
 {
     let start = c.start;
@@ -157,7 +154,7 @@ fn number_in_range(src: &[u8], out: &mut [u8], c: Cursor, w: usize) -> Answer
     let from = least(w + 3, out.len());
     let n = plain(&src[start as usize..end as usize], &mut out[from..]);
     let w1 = writers::put_head(out, w, Tag::NUMBER, n);
-    Answer::Done(eat_any(src, c), w1 + n, 1)
+    Ok(Done(eat_any(src, c), w1 + n, 1))
 }
 
 // parse_number, with `NumValue::try_from`, which refuses what a double does not hold.
@@ -182,26 +179,26 @@ pub fn atom(src: &[u8], out: &mut [u8], c: Cursor, w: usize) -> Answer
     let end = c.end;
     let kind = c.kind;
     match kind {
-        Kind::SELF_KW => Answer::Done(
+        Kind::SELF_KW => Ok(Done(
             eat_any(src, c),
             writers::put_kind(out, w, Tag::IDENTITY, 0, start, end),
             1,
-        ),
-        Kind::SUPER_KW => Answer::Done(
+        )),
+        Kind::SUPER_KW => Ok(Done(
             eat_any(src, c),
             writers::put_kind(out, w, Tag::IDENTITY, 1, start, end),
             1,
-        ),
-        Kind::DOLLAR => Answer::Done(
+        )),
+        Kind::DOLLAR => Ok(Done(
             eat_any(src, c),
             writers::put_kind(out, w, Tag::IDENTITY, 2, start, end),
             1,
-        ),
-        Kind::NULL_KW => Answer::Done(eat_any(src, c), writers::put_none(out, w, Tag::NULL), 1),
-        Kind::TRUE_KW => Answer::Done(eat_any(src, c), writers::put_flag(out, w, Tag::BOOL, 1), 1),
-        Kind::FALSE_KW => Answer::Done(eat_any(src, c), writers::put_flag(out, w, Tag::BOOL, 0), 1),
+        )),
+        Kind::NULL_KW => Ok(Done(eat_any(src, c), writers::put_none(out, w, Tag::NULL), 1)),
+        Kind::TRUE_KW => Ok(Done(eat_any(src, c), writers::put_flag(out, w, Tag::BOOL, 1), 1)),
+        Kind::FALSE_KW => Ok(Done(eat_any(src, c), writers::put_flag(out, w, Tag::BOOL, 0), 1)),
         Kind::FLOAT => parse_number(src, out, c, w),
-        Kind::IDENT => Answer::Done(
+        Kind::IDENT => Ok(Done(
             eat_any(src, c),
             writers::put_name(
                 out,
@@ -212,7 +209,7 @@ pub fn atom(src: &[u8], out: &mut [u8], c: Cursor, w: usize) -> Answer
                 &src[start as usize..end as usize],
             ),
             1,
-        ),
+        )),
         _ => {
             if is_string_token(kind) {
                 return parse_string_content(src, out, c, w);
@@ -239,14 +236,14 @@ pub fn pattern_atom(src: &[u8], out: &mut [u8], c: Cursor, w: usize, set: u64) -
             end,
             &src[start as usize..end as usize],
         );
-        return Answer::Done(eat_any(src, c), w1, 1);
+        return Ok(Done(eat_any(src, c), w1, 1));
     }
     if !settings::has_destruct(set) {
         return error(c, Number::WANTED, NAME);
     }
     if kind == Kind::QUESTION_MARK {
         let w1 = writers::put_none(out, w, Tag::SKIP);
-        return Answer::Done(eat_any(src, c), w1, 1);
+        return Ok(Done(eat_any(src, c), w1, 1));
     }
     error(c, Number::ABSENT, 2)
 }
@@ -265,14 +262,11 @@ pub fn array_pattern_close(
     requires { Ready src.now c w × (n ≤ c.at) × (m ≤ c.at) × (name.start ≤ name.end) × (name.end ≤ length src.now) }
     ensures { Ends src.now (state (goto (array_pattern_close n rest (slice name.start name.end src.now))) (n + m) c w out.old) (name.end - name.start) end 1 result out.new }
 {
-    let a = eat(src, c, w, Kind::R_BRACK);
-    let Answer::Done(c1, w1, _) = a else {
-        return a;
-    };
+    let Done(c1, w1, _) = eat(src, c, w, Kind::R_BRACK)?;
     let from = name.start;
     let to = name.end;
     let w2 = writers::put_array_pattern(out, w1, n, rest, m, &src[from as usize..to as usize]);
-    Answer::Done(c1, w2, 1)
+    Ok(Done(c1, w2, 1))
 }
 
 // destruct_object from its `}` on.
@@ -288,14 +282,11 @@ pub fn object_pattern_close(
     requires { Ready src.now c w × (n ≤ c.at) × (name.start ≤ name.end) × (name.end ≤ length src.now) }
     ensures { Ends src.now (state (goto (object_pattern_close rest (slice name.start name.end src.now))) n c w out.old) (name.end - name.start) end 1 result out.new }
 {
-    let a = eat(src, c, w, Kind::R_BRACE);
-    let Answer::Done(c1, w1, _) = a else {
-        return a;
-    };
+    let Done(c1, w1, _) = eat(src, c, w, Kind::R_BRACE)?;
     let from = name.start;
     let to = name.end;
     let w2 = writers::put_object_pattern(out, w1, n, rest, &src[from as usize..to as usize]);
-    Answer::Done(c1, w2, 1)
+    Ok(Done(c1, w2, 1))
 }
 
 // A comma, if one stands here.
@@ -357,12 +348,9 @@ pub fn array_close(src: &[u8], out: &mut [u8], c: Cursor, w: usize, tag: u8, n: 
     requires { Ready src.now c w × (n ≤ c.at) }
     ensures { EndsAny src.now (bracketed tag n) c w out.old 0 end 1 result out.new }
 {
-    let a = eat(src, c, w, Kind::R_BRACK);
-    let Answer::Done(c1, w1, _) = a else {
-        return a;
-    };
+    let Done(c1, w1, _) = eat(src, c, w, Kind::R_BRACK)?;
     let w2 = writers::put_count(out, w1, tag, n);
-    Answer::Done(c1, w2, 1)
+    Ok(Done(c1, w2, 1))
 }
 
 // objinside without clauses.
@@ -371,7 +359,7 @@ pub fn members_close(out: &mut [u8], c: Cursor, w: usize, n: usize) -> Answer
     ensures { EndsOver (close MEMBERS (number n ∷ []) ▸ end) c w out.old 5 end 1 result out.new }
 {
     let w1 = writers::put_count(out, w, Tag::MEMBERS, n);
-    Answer::Done(c, w1, 1)
+    Ok(Done(c, w1, 1))
 }
 
 // objinside, the loop over a comprehension's members: its fault with one field more, and with one assert more.
@@ -422,7 +410,7 @@ pub fn member_name(
     safe: u8,
 ) -> WithFirst
     requires { Ready src.now c w × (first ≤ 4) }
-    ensures { TellsEver src.now (state (goto (memberName first safe)) 1 c w out.old) suffixes 1 result out.new }
+    ensures { TellsEver src.now (state (goto (member_name_phrase first safe)) 1 c w out.old) suffixes 1 result out.new }
 {
     if c.kind != Kind::IDENT {
         return error(c, Number::WANTED, NAME);
@@ -431,7 +419,7 @@ pub fn member_name(
     let end = c.end;
     let w1 = writers::put_word(out, w, Tag::STRING, &src[start as usize..end as usize]);
     let w2 = records::put_index(out, w1, start, end, first, safe);
-    WithFirst::Done(eat_any(src, c), w2, 0)
+    Ok(Done(eat_any(src, c), w2, 0))
 }
 
 // expr_suffix: a slice from its `]` on.
@@ -448,14 +436,11 @@ pub fn slice_close(
     requires { Ready src.now c w × (x.start < 65536) × (x.end < 65536) × (y.start < 65536) × (y.end < 65536) × (z.start < 65536) × (z.end < 65536) }
     ensures { TellsEverAny src.now (sliced parts (span x.start x.end) (span y.start y.end) (span z.start z.end)) c w out.old suffixes 1 result out.new }
 {
-    let a = eat(src, c, w, Kind::R_BRACK);
-    let Answer::Done(c1, w1, _) = a else {
-        return a;
-    };
+    let Done(c1, w1, _) = eat(src, c, w, Kind::R_BRACK)?;
     let w2 = writers::put_slice(
         out, w1, parts, x.start, x.end, y.start, y.end, z.start, z.end,
     );
-    WithFirst::Done(c1, w2, 1)
+    Ok(Done(c1, w2, 1))
 }
 
 // expr_suffix: a call from its `)` on, and perhaps `tailstrict`.
@@ -471,17 +456,14 @@ pub fn call_close(
     requires { Ready src.now c w × (from < 65536) × (unnamed ≤ c.at) × (named ≤ c.at) }
     ensures { TellsEverAny src.now (goto (call_close from unnamed named)) c w out.old suffixes 1 result out.new }
 {
-    let a = eat(src, c, w, Kind::R_PAREN);
-    let Answer::Done(c1, w1, _) = a else {
-        return a;
-    };
+    let Done(c1, w1, _) = eat(src, c, w, Kind::R_PAREN)?;
     let to = c1.at;
     if c1.kind == Kind::TAILSTRICT_KW {
         let w2 = writers::put_call(out, w1, from, to, 1, unnamed, named);
-        return WithFirst::Done(eat_any(src, c1), w2, 1);
+        return Ok(Done(eat_any(src, c1), w2, 1));
     }
     let w2 = writers::put_call(out, w1, from, to, 0, unnamed, named);
-    WithFirst::Done(c1, w2, 1)
+    Ok(Done(c1, w2, 1))
 }
 
 // field_name, but for a computed name.
@@ -493,14 +475,11 @@ pub fn fixed_name(src: &[u8], out: &mut [u8], c: Cursor, w: usize) -> WithComput
     let end = c.end;
     if c.kind == Kind::IDENT {
         let w1 = writers::put_word(out, w, Tag::STRING, &src[start as usize..end as usize]);
-        return WithComputed::Done(eat_any(src, c), w1, 0);
+        return Ok(Done(eat_any(src, c), w1, 0));
     }
     if !is_string_token(c.kind) {
         return error(c, Number::ABSENT, 1);
     }
-    let a = parse_string_content(src, out, c, w);
-    let Answer::Done(c1, w1, _) = a else {
-        return a;
-    };
-    WithComputed::Done(c1, w1, 0)
+    let Done(c1, w1, _) = parse_string_content(src, out, c, w)?;
+    Ok(Done(c1, w1, 0))
 }

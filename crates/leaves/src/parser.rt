@@ -1,11 +1,10 @@
 // `Parser` and its methods: a cursor by value.
-ghost use Rattle.std.specs.Prelude.{◌≡◌, ◌≤◌, ◌<◌, length};
+ghost use Rattle.std.specs.Prelude.{◌≡◌, ◌≤◌, ◌<◌, length, Err};
 ghost use Rattle.lexemes.specs.Kinds.{EOF};
 ghost use Rattle.leaves.specs.Lexing.{Stands, Moved, Named, Header, Suffixed};
 ghost use Rattle.leaves.specs.Meets.{Eats};
-ghost use Rattle.leaves.specs.declared.Answer.TheVariants.{Broken};
 
-use crate::{Answer, Cursor, Refusal};
+use crate::{Answer, Cursor, Done, Refusal};
 use grammar::numbers::Number;
 use grammar::settings;
 use lexemes::kept;
@@ -40,9 +39,9 @@ pub fn eat_any(src: &[u8], c: Cursor) -> Cursor
 
 // Parser::error: broken off here, with 01's number and detail.
 pub fn error(c: Cursor, number: u8, detail: usize) -> Answer
-    ensures { result ≡ Broken (record { number = number; place = c; detail = detail }) }
+    ensures { result ≡ Err (record { number = number; place = c; detail = detail }) }
 {
-    Answer::Broken(Refusal {
+    Err(Refusal {
         number,
         place: c,
         detail,
@@ -55,12 +54,13 @@ pub fn eat(src: &[u8], c: Cursor, w: usize, kind: u8) -> Answer
     ensures { Eats src.now kind c w result }
 {
     if c.kind == kind {
-        return Answer::Done(eat_any(src, c), w, 0);
+        return Ok(Done(eat_any(src, c), w, 0));
     }
     error(c, Number::WANTED, kind as usize)
 }
 
 // args: whether a name and `=` stand next, as 1 or 0.
+// Kept: the number is counted, `named += k`; a flag would be cast to a number at each of its three uses.
 pub fn named_at(src: &[u8], c: Cursor) -> usize
     requires { Stands src.now c }
     ensures { Named src.now c result }
@@ -75,47 +75,38 @@ pub fn named_at(src: &[u8], c: Cursor) -> usize
     1
 }
 
-// for_spec: whether `[`, a name, `]` and `:` stand next under their switch, as 1 or 0.
-pub fn header_at(src: &[u8], c: Cursor, set: u64) -> usize
+// for_spec: whether `[`, a name, `]` and `:` stand next under their switch.
+pub fn header_at(src: &[u8], c: Cursor, set: u64) -> bool
     requires { Stands src.now c }
     ensures { Header set src.now c result }
 {
     if !settings::has_object_iteration(set) {
-        return 0;
+        return false;
     }
     if c.kind != Kind::L_BRACK {
-        return 0;
+        return false;
     }
     let c1 = eat_any(src, c);
     if c1.kind != Kind::IDENT {
-        return 0;
+        return false;
     }
     let c2 = eat_any(src, c1);
     if c2.kind != Kind::R_BRACK {
-        return 0;
+        return false;
     }
     let c3 = eat_any(src, c2);
-    if c3.kind != Kind::COLON {
-        return 0;
-    }
-    1
+    c3.kind == Kind::COLON
 }
 
-// expr_suffix: whether a suffix stands next, as 1 or 0.
-pub fn suffix_at(kind: u8, set: u64) -> usize
+// expr_suffix: whether a suffix stands next.
+pub fn suffix_at(kind: u8, set: u64) -> bool
     ensures { Suffixed set kind result }
 {
     if kind == Kind::QUESTION_MARK {
-        if settings::has_null_coaelse(set) {
-            return 1;
-        }
-        return 0;
+        return settings::has_null_coaelse(set);
     }
-    match kind {
-        Kind::DOT => 1,
-        Kind::L_BRACK => 1,
-        Kind::L_PAREN => 1,
-        Kind::L_BRACE => 1,
-        _ => 0,
-    }
+    matches!(
+        kind,
+        Kind::DOT | Kind::L_BRACK | Kind::L_PAREN | Kind::L_BRACE
+    )
 }

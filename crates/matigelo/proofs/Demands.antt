@@ -13,21 +13,19 @@ use Rattle.grammar.specs.Derived.{Spanned, Derived}
 use Rattle.grammar.specs.Answer.{prefix_power}
 use Rattle.grammar.proofs.Derived.{whole_exactly}
 use Rattle.grammar.proofs.Ranges.{source_obeys}
-use Rattle.images.specs.declared.Answer.{Answer}
-use Rattle.images.specs.declared.Answer.TheVariants as back
-use Rattle.images.specs.Images.{new, Accepted, records, links, needed, ReadsBack}
+use Rattle.std.proofs.Common.{Ok}
+use Rattle.images.specs.Images.{Answer, new, Accepted, records, links, needed, ReadsBack}
 use Rattle.images.specs.Numbers.{Numbers, numbers}
 use Rattle.images.proofs.Sole.{one_tree}
 use Rattle.images.proofs.OldImages.{dated_new}
 use Rattle.images.proofs.Demands.{no_second, accepted_is_tree}
 use Rattle.mass.specs.Numbers as listed
-use Rattle.mass.specs.declared.Answer.TheVariants as planner
 use Rattle.mass.specs.Mass.{MASS, FixedPlus, Subtree, MassDepth}
 use Rattle.mass.specs.Minutes.{Minuted}
 use Rattle.mass.proofs.Demands as demands
 use Rattle.mass.proofs.Minutes.{minutes}
 use Rattle.reader.specs.Reader.{Reads}
-use Rattle.reader.specs.declared.Reading.TheVariants.{Tree}
+use Rattle.std.specs.Prelude.{Ok}
 use Rattle.reader.proofs.AnswerLaws.{HasTree}
 use Rattle.reader.proofs.Demands.{tree_is_derived}
 use Rattle.matigelo.specs.Three.{three, Back02, Mass02}
@@ -46,16 +44,16 @@ derived_is_accepted {ts = ts} d =
     }
 
 -- A call of `read` that has answered with a tree, and whatever call of `back` on the bytes that it wrote.
-module _ (setting : ℕ) (source out : List ℕ) (n : ℕ) (out' : List ℕ) (x : Reads setting source out (Tree n) out') where
+module _ (setting : ℕ) (source out : List ℕ) (n : ℕ) (out' : List ℕ) (x : Reads setting source out (Ok n) out') where
   written : (ts : Trees) × HasTree setting source ts × (take n out' ≡ image ts) × Accepted (take n out') ts
   written =
-      let z = tree_is_derived setting source out (Tree n) out' x n refl in
+      let z = tree_is_derived setting source out (Ok n) out' x n refl in
       let e : take n out' ≡ image z.0 = ap (take n) z.3 ∙ take_at (image z.0) _ n (sym z.2) in
       (z.0, z.1, e, subst (λ (l : List ℕ). Accepted l z.0) (sym e) (derived_is_accepted z.1))
 
   -- They are accepted with the number of records; the links are those of the tree that the rules derive of the source, and no other tree has these bytes.
   pub read_back : (room : ℕ) (b : Answer) (array : List ℕ) → needed (take n out') ≤ room → ReadsBack (take n out') room b array
-      → (ts : Trees) × HasTree setting source ts × (take n out' ≡ image ts) × (b ≡ back.Tree (records ts))
+      → (ts : Trees) × HasTree setting source ts × (take n out' ≡ image ts) × (b ≡ Ok (records ts))
       × (array ≡ links 0 0 ts ++ replicate (room - 2 * records ts) 0) × ((u : Trees) → Accepted (take n out') u → u ≡ ts)
   read_back room b array h y =
       let w = written in
@@ -64,7 +62,7 @@ module _ (setting : ℕ) (source out : List ℕ) (n : ℕ) (out' : List ℕ) (x 
 
   -- THE RULE OF THE MINUTES, of a source: whatever call of `list` on what was written, each field `mass+:` of the tree that the rules derive of the source stands in
   -- an object that raises depth too, or that is listed, or that is undecided and listed so.
-  pub read_minuted : (room size m : ℕ) (array list : List ℕ) → MassDepth (take n out') room size (planner.Listed m) array list
+  pub read_minuted : (room size m : ℕ) (array list : List ℕ) → MassDepth (take n out') room size (Ok m) array list
       → (ts : Trees) × HasTree setting source ts
       × ((o tag a e : ℕ) (fields : List Field) (children : Trees) → Subtree 0 ts o tag fields children → FixedPlus MASS a e tag fields children → Minuted ts m list tag fields children)
   read_minuted room size m array list y = let w = written in (w.0, w.1, λ o tag a e fields children h f. minutes y w.3 h f)

@@ -1,12 +1,11 @@
 -- An answer to an image as C gets it: three numbers, "number, offset, count".
 -- Assumes nothing.
 use Rattle.std.specs.Prelude.{◌≡◌, List, ℕ, get_or}
-use Rattle.images.specs.declared.Answer.{Answer}
 use Rattle.images.specs.Numbers.{Numbers, numbers}
-use Rattle.images.specs.Images.{ReadsBack}
-use Rattle.mass.specs.declared.Answer as mass
+use Rattle.images.specs.Images.{Answer, ReadsBack}
 use Rattle.mass.specs.Numbers as listed
 use Rattle.mass.specs.Mass.{MassDepth}
+use Rattle.mass.specs.Mass as mass
 
 abbrev pub three : List ℕ → Numbers
 three a = record { number = get_or a 0 0; offset = get_or a 1 0; count = get_or a 2 0 }

@@ -16,8 +16,7 @@ use Rattle.grammar.specs.Answer.{Answer, valid_setting, document_01}
 use Rattle.grammar.specs.Source.{Reads01}
 use Rattle.grammar.proofs.Whole.{Accepted, Fifth}
 use Rattle.grammar.proofs.Source.{lexing, reads_once, larger_setting, smaller_setting}
-use Rattle.reader.specs.Reader.{numbers, Reads}
-use Rattle.reader.specs.declared.Reading.{Reading}
+use Rattle.reader.specs.Reader.{Reading, numbers, Reads}
 use Rattle.reader.proofs.AnswerLaws.{refusal-output}
 use Rattle.night.specs.Night.{READ, LISTS, begins, stops, file, size_of, answer_of, Fit, Each, Night, read, unfit}
 use Rattle.night.proofs.Parts.{same_parts}

@@ -2,7 +2,7 @@
 -- Assumes nothing.
 use mathlib.Core.Path.{◌≡◌, refl, sym, ap, subst, subst⁻¹, ◌∙◌}
 use mathlib.Core.Bool.{Bool, true, false, true≢false}
-use mathlib.Core.List.{List, [], ◌∷◌, ◌++◌, append-nil}
+use mathlib.Core.List.{List, [], ◌∷◌, ◌++◌}
 use Prim.Native.Nat.{ℕ, zero, suc, ◌+◌, ◌*◌, ◌-◌, ◌/◌, ◌%◌, ◌≤◌, ◌<◌}
 use native.Mathlib.Omega.{arith}
 use native.Mathlib.Numerals.{add-one}
@@ -10,13 +10,14 @@ use borrow.Author.Count.{below_more}
 use borrow.Rule.Slice.PartMut.{same_len_mid}
 use borrow.Author.Tests.{eqb-true, eq-eqb}
 use lib.Dec.{eqb}
-use lib.ListN.{length, get_or, take, drop, replicate, drop_of_length-le}
-use lib.Seq.{slice, sets, sets-eq, length-slice}
+use lib.ListN.{length, get_or, take, drop, replicate}
+use lib.Seq.{slice, length-slice}
+use Rattle.std.specs.List.Sorted.{IsNonDecreasing}
 use Rattle.grammar.specs.Answer.{Answer}
 use Rattle.grammar.specs.Source.{Reads01}
 use Rattle.leaves.proofs.PartLaws.{lent}
 use Rattle.reader.specs.Five.{five}
-use Rattle.night.specs.Night.{LISTS, begins, stops, file, size_of, answer_of, Cuts, Fit, Each, Night, unfit}
+use Rattle.night.specs.Night.{LISTS, begins, stops, file, size_of, answer_of, Cuts, Fit, Night, unfit}
 use Rattle.night.proofs.Parts.{part-before, part_itself}
 
 -- ── Ends that cut a buffer ────────────────────────────────────────────────────────────────────────
@@ -64,6 +65,17 @@ compared ends size from i l e all =
       λ c. eq-eqb from size (last ∙ c.whole),
     )
 
+-- as `is_sorted` finds one that does, and that none does
+pub unsorted : (ends : List ℕ) (size : ℕ) → (k : ℕ) × (k + 1 < length ends) × ((d : ℕ) → get_or ends (k + 1) d < get_or ends k d) → Tests false (Cuts ends size)
+unsorted ends size h = backward ends size (h.0 + 1) h.1 (omega (arith, h.2 0, next-begins ends h.0))
+
+pub rising : (ends : List ℕ) (size last : ℕ) → IsNonDecreasing ends → last ≡ begins ends (length ends) → Tests (eqb last size) (Cuts ends size)
+rising ends size last s e = compared ends size last (length ends) refl e forward
+  where
+    forward : (k : ℕ) → k < length ends → begins ends k ≤ stops ends k
+    forward zero h = omega arith
+    forward (suc k) h = s k (suc k) 0 (omega arith) h
+
 -- the lists are for other numbers of files
 module _ (ends : List ℕ) (size : ℕ) (parts : List ℕ) (room count : ℕ) where
   abbrev fitting : Type 0
@@ -105,14 +117,6 @@ five_list (v ∷ w ∷ x ∷ y ∷ []) e = absurd (omega arith)
 five_list (v ∷ w ∷ x ∷ y ∷ z ∷ []) e = refl
 five_list (v ∷ w ∷ x ∷ y ∷ z ∷ u ∷ us) e = absurd (omega arith)
 
--- stored one by one over a list of five
-pub stored_five : (l a : List ℕ) → length l ≡ 5 → length a ≡ 5 → sets l 0 (get_or a 0 0 ∷ get_or a 1 0 ∷ get_or a 2 0 ∷ get_or a 3 0 ∷ get_or a 4 0 ∷ []) ≡ a
-stored_five l a e h =
-    ap (λ (vs : List ℕ). sets l 0 vs) (five_list a h)
-    ∙ sets-eq a l 0 (omega arith)
-    ∙ ap (λ (r : List ℕ). a ++ r) (drop_of_length-le l {i = 0 + length a} (omega arith))
-    ∙ append-nil a
-
 -- An answer's five numbers are in the list once.
 pub same_five : (a b : List ℕ) → length a ≡ 5 → length b ≡ 5 → five a ≡ five b → a ≡ b
 same_five a b h k e =
@@ -140,25 +144,7 @@ pub record Reached (setting : ℕ) (sources ends parts out₀ answers₀ out ans
   pub same_count : length answers ≡ length answers₀
   pub read : (k : ℕ) → k < i → Reads01 setting (file ends sources k) (size_of parts k) (answer_of answers k) (file parts out k)
 
-pub reached_first : {setting : ℕ} {sources ends parts out answers : List ℕ} → Fit ends (length sources) parts (length out) (length answers)
-    → Reached setting sources ends parts out answers out answers 0 0 0 0
-reached_first f =
-    record {
-      fit = f;
-      more = omega arith;
-      from_is = refl;
-      part_is = refl;
-      place_is = refl;
-      same_room = refl;
-      same_count = refl;
-      read = λ k h. absurd (omega (arith, h));
-    }
-
 module _ {setting : ℕ} {sources ends parts out₀ answers₀ out answers : List ℕ} {from part place i : ℕ} (r : Reached setting sources ends parts out₀ answers₀ out answers from part place i) where
-  -- the last turn leaves every file read
-  pub reached_all : length ends ≤ i → Each setting sources ends parts out answers
-  reached_all h = record { single = λ k b. r.read k (omega (arith, b, h)) }
-
   module _ (below : i < length ends) where
     pub source-forward : from ≤ stops ends i
     source-forward = omega (arith, r.from_is, r.fit.sources.forward i below)
@@ -186,9 +172,6 @@ module _ {setting : ℕ} {sources ends parts out₀ answers₀ out answers : Lis
         ap length (lent part (stops parts i) out)
         ∙ length-slice part (stops parts i) out part-within
         ∙ ap (λ (n : ℕ). stops parts i - n) r.part_is
-
-    pub its_five : length (take (place + 5 - place) (drop place answers)) ≡ 5
-    its_five = ap length (lent place (place + 5) answers) ∙ length-slice place (place + 5) answers place-within ∙ omega arith
 
     -- what came back of the output and of the answers
     module _ (o a : List ℕ) (o-long : length o ≡ length (take (stops parts i - part) (drop part out))) (a-long : length a ≡ length (take (place + 5 - place) (drop place answers))) where

@@ -5,7 +5,7 @@ ghost use Rattle.grammar.specs.Source.{Reads01};
 ghost use Rattle.reader.specs.Five.{five as five01};
 ghost use Rattle.night.specs.Night.{Cuts, Fit, Each, Night};
 
-// What the call gives: every file has its answer, or the lists do not fit.
+// What the call gives: every file has its answer, or the lists do not fit. Kept as numbers: the C interface hands them out.
 pub const READ: u64 = 0;
 
 const LISTS: u64 = 20;
@@ -17,48 +17,18 @@ const FIVE: usize = 5;
 fn cuts(ends: &[usize], size: usize) -> bool
     ensures { (result ≡ true → Cuts ends.now size) × (Cuts ends.now size → result ≡ true) }
 {
-    let mut from = 0;
-    let mut i = 0;
-    while i < ends.len() {
-        let end = ends[i];
-        if end < from {
-            return false;
-        }
-        from = end;
-        i += 1;
-    }
-    from == size
+    ends.is_sorted() && ends.last().copied().unwrap_or(0) == size
 }
 
 // Whether the lists are for as many files and end with their buffers.
 fn fit(ends: &[usize], size: usize, parts: &[usize], room: usize, count: usize) -> bool
     ensures { (result ≡ true → Fit ends.now size parts.now room count) × (Fit ends.now size parts.now room count → result ≡ true) }
 {
-    if parts.len() != ends.len() {
-        return false;
-    }
-    if count % FIVE != 0 {
-        return false;
-    }
-    if count / FIVE != ends.len() {
-        return false;
-    }
-    if cuts(ends, size) {
-        return cuts(parts, room);
-    }
-    false
-}
-
-// Five numbers into the place that a file has for them.
-fn store(five: [u64; 5], place: &mut [u64])
-    requires { (length five ≡ 5) × (length place.old ≡ 5) }
-    ensures { place.new ≡ five }
-{
-    place[0] = five[0];
-    place[1] = five[1];
-    place[2] = five[2];
-    place[3] = five[3];
-    place[4] = five[4];
+    parts.len() == ends.len()
+        && count % FIVE == 0
+        && count / FIVE == ends.len()
+        && cuts(ends, size)
+        && cuts(parts, room)
 }
 
 // A file into its part, and its answer into its place.
@@ -67,7 +37,7 @@ fn read_file(setting: u64, source: &[u8], part: &mut [u8], place: &mut [u64])
     ensures { Reads01 setting source.now (length part.old) (five01 place.new) part.new }
 {
     let reading = reader::read(setting, source, part);
-    store(reader::five(reading), place);
+    place.copy_from_slice(&reader::five(reading));
 }
 
 // Each file by itself, into its own part; whatever its answer is, the next one is read.
@@ -84,33 +54,17 @@ fn read_files(
 {
     let mut from = 0;
     let mut part = 0;
-    let mut place = 0;
-    let mut i = 0;
-    while i < ends.len() {
-        let end = ends[i];
+    for (i, end) in ends.iter().enumerate() {
         let stop = parts[i];
-        let next = place + FIVE;
+        let place = i * FIVE;
         read_file(
             setting,
-            &sources[from..end],
+            &sources[from..*end],
             &mut output[part..stop],
-            &mut answers[place..next],
+            &mut answers[place..place + FIVE],
         );
-        from = end;
+        from = *end;
         part = stop;
-        place = next;
-        i += 1;
-    }
-}
-
-// What a refusal leaves in the list of answers.
-fn clear(answers: &mut [u64])
-    ensures { answers.new ≡ replicate (length answers.old) 0 }
-{
-    let mut i = 0;
-    while i < answers.len() {
-        answers[i] = 0;
-        i += 1;
     }
 }
 
@@ -131,6 +85,6 @@ pub fn read(
         return READ;
     }
     strings::clear(output);
-    clear(answers);
+    answers.fill(0);
     LISTS
 }

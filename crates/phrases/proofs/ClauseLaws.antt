@@ -1,5 +1,6 @@
 -- Laws of clauses, members and elements: what they go on as, where the code's tests have picked a way.
 -- Assumes nothing.
+use Rattle.std.specs.Prelude.{Ok, Err}
 use mathlib.Core.Path.{◌≡◌, refl, sym, ap, subst, subst⁻¹, ◌∙◌}
 use mathlib.Core.Bool.{Bool, true, false, ◌&&◌}
 use mathlib.Core.List.{List, [], ◌∷◌}
@@ -8,7 +9,6 @@ use native.Mathlib.Omega.{arith}
 use lib.Dec.{eqb}
 use lib.ListN.{length, take, drop}
 use lib.Seq.{slice, length-slice}
-use denote.Enum.Declared.{tag_of}
 use borrow.Author.Tests.{eq-eqb, ne_eqb}
 use Rattle.grammar.specs.Trees.{byte, number, span, text, Trees, count as size}
 use Rattle.grammar.specs.Image.{entry, payload}
@@ -16,17 +16,16 @@ use Rattle.grammar.specs.Writing.{Wrote}
 use Rattle.grammar.specs.Lexemes.{Lexeme, Said, says, said, rest, kind_of, word_of}
 use Rattle.grammar.specs.Productions.{Phrase, Body, end, goto, ◌▸◌, eat, sub, deep, close, rule, expression, exp_object_iteration, for_clause, pattern, header, iteration, iteration_value, clauses, more_clauses, if_clause, members, next_member, comprehension, array_first, array_comp, elements}
 use Rattle.grammar.specs.Reading.{has, choose, view, production, Outcome, Reading, gone as read_gone}
-use Rattle.grammar.proofs.Chosen.{pick_yes, pick_no}
+use Rattle.grammar.proofs.Chosen.{pick_yes, pick_no, true_false}
 use Rattle.leaves.specs.Lexing.{Stands, Moved, Header, header as is-header, off, no_bracket, no_key, not_closed, no_colon, Colons, none_more, one_more, two_more, Past, past, same}
-use Rattle.leaves.specs.Meets.{power, State, state, Seg, Leads, Takes}
+use Rattle.leaves.specs.Meets.{power, State, state, Seg, Leads, Takes, Answer, reached}
 use Rattle.leaves.proofs.LexemeLaws.{lies, Sees, sees, sees_next, sight, seen, name_says, moved_once}
 use Rattle.leaves.proofs.PartLaws.{wrote_lent}
 use Rattle.leaves.proofs.LeafLaws.{moved_past}
-use Rattle.leaves.specs.contracts.Answer.{the_type}
 use Rattle.leaves.proofs.Steps
 use Rattle.leaves.specs.declared.Cursor.{Cursor}
-use Rattle.leaves.specs.declared.Answer.{Answer}
-use Rattle.leaves.specs.declared.Answer.TheVariants.{Done, Broken}
+use Rattle.leaves.specs.declared.Refusal.{Refusal}
+use Rattle.leaves.specs.declared.Done.{Done}
 
 -- ── Tests ─────────────────────────────────────────────────────────────────────────────────────────
 
@@ -52,8 +51,8 @@ is_not n k e f = ne_eqb n k (λ h. f (sym e ∙ h))
 abbrev four : ℕ → List Lexeme → Bool
 four g xs = eqb (kind_of xs) 23 && eqb (kind_of (rest xs)) 55 && eqb (kind_of (rest (rest xs))) 24 && eqb (kind_of (rest (rest (rest xs)))) 29 && has g exp_object_iteration
 
-not_four : {g : ℕ} {s : List ℕ} {c : Cursor} {r : ℕ} {xs : List Lexeme} → Header g s c r → ¬ (r ≡ 1) → Sees s c xs → four g xs ≡ false
-not_four {xs = xs} (is-header _ _ _ _ _ _ _ _) h y = absurd (h refl)
+not_four : {g : ℕ} {s : List ℕ} {c : Cursor} {r : Bool} {xs : List Lexeme} → Header g s c r → r ≡ false → Sees s c xs → four g xs ≡ false
+not_four {xs = xs} (is-header _ _ _ _ _ _ _ _) h y = absurd (true_false h)
 not_four {g} {xs = xs} (off e) h y =
     no_right (eqb (kind_of xs) 23 && eqb (kind_of (rest xs)) 55 && eqb (kind_of (rest (rest xs))) 24 && eqb (kind_of (rest (rest (rest xs)))) 29) (has g exp_object_iteration) e
 not_four {g} {xs = xs} (no_bracket e) h y =
@@ -84,7 +83,7 @@ plain-production : (g p n : ℕ) (xs : List Lexeme) → four g xs ≡ false → 
 unfolding production choose rule view
 plain-production g p n xs e = pick_no (four g xs) (deep header ▸ goto (iteration (said (word_of (rest xs))))) over_pattern e
 
-pub plain_clause : {g : ℕ} {s : List ℕ} {d : ℕ} {from : State} {n e v w r : ℕ} {c : Cursor} {o : List ℕ} → Stands s c → Header g s c r → ¬ (r ≡ 1)
+pub plain_clause : {g : ℕ} {s : List ℕ} {d : ℕ} {from : State} {n e v w : ℕ} {r : Bool} {c : Cursor} {o : List ℕ} → Stands s c → Header g s c r → r ≡ false
     → Seg g s d from e v (state (goto for_clause) n c w o) → Seg g s d from e v (state over_pattern n c w o)
 plain_clause {g} {n = n} {c = c} st h i p = Steps.goes over_pattern st (λ xs y. plain-production g c.at n xs (not_four h i y)) p
 
@@ -98,7 +97,7 @@ pub record Heads (g : ℕ) (c key bracket colon : Cursor) : Type 0 where
   pub third : bracket.kind ≡ 24
   pub fourth : colon.kind ≡ 29
 
-pub heads : {g : ℕ} {s : List ℕ} {c key bracket colon : Cursor} → Header g s c 1 → Moved s c key → Moved s key bracket → Moved s bracket colon → Heads g c key bracket colon
+pub heads : {g : ℕ} {s : List ℕ} {c key bracket colon : Cursor} → Header g s c true → Moved s c key → Moved s key bracket → Moved s bracket colon → Heads g c key bracket colon
 heads {g} {s} {c} {key} {bracket} {colon} (is-header {c₁ = c₁} {c₂ = c₂} {c₃ = c₃} h k m k₁ m₁ k₂ m₂ k₃) n n₁ n₂ =
     let e : c₁ ≡ key = moved_once m n in
     let e₁ : c₂ ≡ bracket = moved_once (subst (λ (x : Cursor). Moved s x c₂) e m₁) n₁ in
@@ -205,7 +204,7 @@ header_read st h m m₁ m₂ =
     (Steps.taken (omega arith) st m h.first (Steps.known (eat 23 ▸ eat 55 ▸ eat 24 ▸ end) st refl (λ xs t. refl) Steps.here)))
 
 -- all up to the pattern: it pays for the key
-pub iterates : {g : ℕ} {s : List ℕ} {d w v : ℕ} {c key bracket colon c₀ c₁ : Cursor} {o : List ℕ} → ¬ (d ≡ 0) → Stands s c → Header g s c 1 → Moved s c key → Moved s key bracket
+pub iterates : {g : ℕ} {s : List ℕ} {d w v : ℕ} {c key bracket colon c₀ c₁ : Cursor} {o : List ℕ} → ¬ (d ≡ 0) → Stands s c → Header g s c true → Moved s c key → Moved s key bracket
     → Moved s bracket colon → Moved s colon c₀ → Colons s c₀ v c₁
     → Seg g s d (state (goto for_clause) 0 c w o) (key.end - key.start + 1) 0
     (state (sub pattern ▸ eat 76 ▸ expression ▸ close 35 (byte v ∷ text (slice key.start key.end s) ∷ []) ▸ end) 0 c₁ w o)
@@ -236,8 +235,8 @@ iteration_closed {s = s} a e v h u p =
     Steps.settled 0 (omega arith) (Steps.closed (4 + (e - a)) (key_size s a e v h) (wrote_lent 35 (λ (l : List ℕ). byte v ∷ text l ∷ []) s a e u) p)
 
 -- no level is left for a header
-pub too_deep_clause : {g : ℕ} {s : List ℕ} {d n w u k : ℕ} {b : Body} {c : Cursor} {o o₁ : List ℕ} {a : Answer} → d ≡ 0 → Stands s c → Header g s c 1
-    → a ≡ Broken (record { number = 11; place = c; detail = 0 }) → Leads g s d (state (goto for_clause) n c w o) u b k a o₁
+pub too_deep_clause : {g : ℕ} {s : List ℕ} {d n w u k : ℕ} {b : Body} {c : Cursor} {o o₁ : List ℕ} {a : Answer} → d ≡ 0 → Stands s c → Header g s c true
+    → a ≡ Err (record { number = 11; place = c; detail = 0 }) → Leads g s d (state (goto for_clause) n c w o) u b k a o₁
 too_deep_clause e st (is-header h k m k₁ m₁ k₂ m₂ k₃) q =
     Steps.broke (Steps.breaks_on (Steps.too_deep e st) (header_clause st (heads (is-header h k m k₁ m₁ k₂ m₂ k₃) m m₁ m₂) m m₁ m₂ Steps.here)) q
 
@@ -285,17 +284,17 @@ clauses_begin {g} {n = n} {c = c} st k p =
 
 -- what an `if` reads, with the keyword's range
 module _ {g : ℕ} {s : List ℕ} {d : ℕ} (i j : ℕ) {w : ℕ} {c : Cursor} {o o₁ : List ℕ} {a : Answer} where
-  pub if_read : {c₁ : Cursor} {w₁ w₂ k : ℕ} {o₂ : List ℕ} → Stands s c → Takes g s expression 1 0 d c w o a o₁ → a ≡ Done c₁ w₁ k → Wrote o₁ w₁ (entry 34 (span i j ∷ [])) w₂ o₂
-      → Takes g s (sub (if_clause i j)) 1 7 d c w o (Done c₁ w₂ 1) o₂
+  pub if_read : {x : Done} {w₂ : ℕ} {o₂ : List ℕ} → Stands s c → Takes g s expression 1 0 d c w o a o₁ → a ≡ Ok x → Wrote o₁ x.1 (entry 34 (span i j ∷ [])) w₂ o₂
+      → Takes g s (sub (if_clause i j)) 1 7 d c w o (reached x.0 w₂ 1) o₂
   unfolding rule choose sight entry payload
   if_read st m e u =
       Steps.as_sub (Steps.owes (omega arith) (Steps.closed 7 (omega arith) u (Steps.took m e
       (Steps.known (expression ▸ close 34 (span i j ∷ []) ▸ end) st refl (λ xs t. refl) (Steps.at g s d (goto (if_clause i j)) 0 c w o)))))
 
-  pub if_broken : Stands s c → Takes g s expression 1 0 d c w o a o₁ → tag_of the_type a ≡ 1 → Takes g s (sub (if_clause i j)) 1 7 d c w o a o₁
+  pub if_broken : {a′ : Answer} {r : Refusal} → Stands s c → Takes g s expression 1 0 d c w o a o₁ → a ≡ Err r → a′ ≡ Err r → Takes g s (sub (if_clause i j)) 1 7 d c w o a′ o₁
   unfolding rule choose sight
-  if_broken st m e =
-      Steps.as_sub (Steps.passed (Steps.takes_broken m e)
+  if_broken st m e t =
+      Steps.as_sub (Steps.passed (Steps.takes_broken m e t)
       (Steps.known (expression ▸ close 34 (span i j ∷ []) ▸ end) st refl (λ xs t. refl) (Steps.at g s d (goto (if_clause i j)) 0 c w o)))
 
 -- ── Members ───────────────────────────────────────────────────────────────────────────────────────

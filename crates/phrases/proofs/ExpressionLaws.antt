@@ -7,18 +7,13 @@ use Prim.Native.Nat.{ℕ, zero, suc, ◌≤◌, ◌<◌}
 use native.Mathlib.Omega.{arith}
 use lib.Dec.{T, T_not, eqb, leb}
 use borrow.Author.Tests.{eqb-true, le-leb, lt-leb}
-use denote.Enum.Declared.{tag_of}
 use Rattle.grammar.specs.Trees.{byte, span}
 use Rattle.grammar.specs.Lexemes.{Lexeme, Said}
 use Rattle.grammar.specs.Productions.{Body, end, goto, ◌▸◌, eat, sub, deep, close, rule, expr, infix_tail, suffixed, View, here, expression, basic, array, binds, inside, signs, Operator, op, operators, operator_rows}
 use Rattle.grammar.specs.Reading.{has, choose}
-use Rattle.grammar.specs.Operators.{prefix_of, sign_in}
-use Rattle.grammar.specs.declared.operators.Prefix.{Prefix}
-use Rattle.grammar.specs.declared.operators.Prefix.TheVariants.{Unary, NoPrefix}
-use Rattle.grammar.specs.contracts.operators.Prefix.{the_type}
-use Rattle.grammar.specs.declared.operators.Infix.{Infix}
-use Rattle.grammar.specs.declared.operators.Infix.TheVariants.{Binary, NoInfix}
-use Rattle.grammar.specs.contracts.operators.Infix as infix-enum
+use Rattle.std.specs.Prelude.{Option, Some, None}
+use Rattle.grammar.specs.Operators.{binary, prefix_of, sign_in}
+use Rattle.grammar.specs.declared.operators.Operator as code
 use Rattle.grammar.proofs.Chosen.{and_left, and_right, pick_yes, pick_no}
 use Rattle.grammar.proofs.OperatorLaws.{signed, prefix_chosen, turn, looped}
 use Rattle.leaves.specs.Operators.{infix_in, infix_under}
@@ -29,32 +24,28 @@ use Rattle.leaves.specs.declared.Cursor.{Cursor}
 
 -- ── Prefix operators ──────────────────────────────────────────────────────────────────────────────
 
-no_unary : (p : Prefix) → tag_of the_type p ≡ 1 → p ≡ NoPrefix
-no_unary (Unary o) e = absurd (let z : ◌≡◌ {A = ℕ} 0 1 = e in omega arith)
-no_unary NoPrefix e = refl
-
-un_none : {o : ℕ} → NoPrefix ≡ Unary o → ⊥
+un_none : {o : ℕ} → ◌≡◌ {A = Option ℕ} None (Some o) → ⊥
 un_none e = let z : ◌≡◌ {A = ℕ} 0 1 = cc in omega arith
 
 -- A prefix operator's kind is no end.
-above : (k : ℕ) {o : ℕ} → prefix_of k ≡ Unary o → 1 < k
+above : (k : ℕ) {o : ℕ} → prefix_of k ≡ Some o → 1 < k
 unfolding prefix_of sign_in signs
 above zero e = absurd (un_none e)
 above (suc zero) e = absurd (un_none e)
 above (suc (suc k)) e = omega arith
 
-pub sign_kind : {k o : ℕ} {p : Prefix} → p ≡ prefix_of k → p ≡ Unary o → 1 < k
+pub sign_kind : {k o : ℕ} {p : Option ℕ} → p ≡ prefix_of k → p ≡ Some o → 1 < k
 sign_kind {k} e f = above k (sym e ∙ f)
 
-pub a_sign : (g : ℕ) (c : Cursor) (xs : List Lexeme) (n least k : ℕ) (t : Said) {o : ℕ} {p : Prefix} → p ≡ prefix_of k → p ≡ Unary o
+pub a_sign : (g : ℕ) (c : Cursor) (xs : List Lexeme) (n least k : ℕ) (t : Said) {o : ℕ} {p : Option ℕ} → p ≡ prefix_of k → p ≡ Some o
     → choose g (rule (power g) (expr least) (sight c xs n k t)) ≡ eat k ▸ deep (expr (power g)) ▸ close 12 (byte o ∷ []) ▸ goto (infix_tail least)
 unfolding sight signed
 a_sign g c xs n least k t e f = prefix_chosen (power g) g least (sight c xs n k t) ∙ ap (signed (power g) least k) (sym e ∙ f)
 
-pub no_sign : (g : ℕ) (c : Cursor) (xs : List Lexeme) (n least k : ℕ) (t : Said) {p : Prefix} → p ≡ prefix_of k → tag_of the_type p ≡ 1
+pub no_sign : (g : ℕ) (c : Cursor) (xs : List Lexeme) (n least k : ℕ) (t : Said) {p : Option ℕ} → p ≡ prefix_of k → p ≡ None
     → choose g (rule (power g) (expr least) (sight c xs n k t)) ≡ sub suffixed ▸ goto (infix_tail least)
 unfolding sight signed
-no_sign g c xs n least k t {p} e f = prefix_chosen (power g) g least (sight c xs n k t) ∙ ap (signed (power g) least k) (sym e ∙ no_unary p f)
+no_sign g c xs n least k t e f = prefix_chosen (power g) g least (sight c xs n k t) ∙ ap (signed (power g) least k) (sym e ∙ f)
 
 -- ── Binary operators ──────────────────────────────────────────────────────────────────────────────
 
@@ -86,7 +77,7 @@ module _ (g least : ℕ) (v : View) where
       found : (u x : Bool) → v.kind ≡ k → choose g (operator_rows least v xs) ≡ looped least v.kind (here v) true (infix_in g v.kind xs)
           → leb least l ≡ u
           → ◌≡◌ {A = Body} (elim (u && x) [ true ↦ turn least k (here v) o r | false ↦ choose g (operator_rows least v xs) ])
-          (looped least v.kind (here v) true (cond x (Binary o l r) (infix_in g v.kind xs)))
+          (looped least v.kind (here v) true (cond x (binary o l r) (infix_in g v.kind xs)))
       found true true e i y =
           ap (λ (j : ℕ). turn least j (here v) o r) (sym e)
           ∙ sym (pick_yes (leb least l && true) (turn least v.kind (here v) o r) end (ap (λ (z : Bool). z && true) y))
@@ -98,7 +89,7 @@ module _ (g least : ℕ) (v : View) where
 
       by : (t : Bool) → eqb v.kind k ≡ t → choose g (operator_rows least v xs) ≡ looped least v.kind (here v) true (infix_in g v.kind xs)
           → ◌≡◌ {A = Body} (elim (t && leb least l && has g w) [ true ↦ turn least k (here v) o r | false ↦ choose g (operator_rows least v xs) ])
-          (looped least v.kind (here v) true (cond (t && has g w) (Binary o l r) (infix_in g v.kind xs)))
+          (looped least v.kind (here v) true (cond (t && has g w) (binary o l r) (infix_in g v.kind xs)))
       by true e i = found (leb least l) (has g w) (eqb-true v.kind k e) i refl
       by false e i = i
 
@@ -106,40 +97,36 @@ module _ (g least : ℕ) (v : View) where
   unfolding rule infix_under operators distinct absent
   infix_chosen = operator_chosen operators tt
 
-no_binary : (b : Infix) → tag_of infix-enum.the_type b ≡ 1 → b ≡ NoInfix
-no_binary (Binary o l r) e = absurd (let z : ◌≡◌ {A = ℕ} 0 1 = e in omega arith)
-no_binary NoInfix e = refl
-
-in_none : {o l r : ℕ} → NoInfix ≡ Binary o l r → ⊥
+in_none : {p : code.Operator} → ◌≡◌ {A = Option code.Operator} None (Some p) → ⊥
 in_none e = let z : ◌≡◌ {A = ℕ} 0 1 = cc in omega arith
 
 -- A binary operator's kind is no end.
-beyond : (g k : ℕ) {o l r : ℕ} → infix_under g k ≡ Binary o l r → 1 < k
+beyond : (g k : ℕ) {p : code.Operator} → infix_under g k ≡ Some p → 1 < k
 unfolding infix_under infix_in operators
 beyond g zero e = absurd (in_none e)
 beyond g (suc zero) e = absurd (in_none e)
 beyond g (suc (suc k)) e = omega arith
 
-pub infix_kind : (g : ℕ) {k o l r : ℕ} {b : Infix} → b ≡ infix_under g k → b ≡ Binary o l r → 1 < k
+pub infix_kind : (g : ℕ) {k : ℕ} {p : code.Operator} {b : Option code.Operator} → b ≡ infix_under g k → b ≡ Some p → 1 < k
 infix_kind g {k} e f = beyond g k (sym e ∙ f)
 
-module _ (g : ℕ) (c : Cursor) (xs : List Lexeme) (n least k : ℕ) (t : Said) {b : Infix} (e : b ≡ infix_under g k) where
-  pub an_operator : {o l r : ℕ} → b ≡ Binary o l r → least ≤ l
-      → choose g (rule (power g) (infix_tail least) (sight c xs n k t)) ≡ turn least k (span c.start c.end) o r
+module _ (g : ℕ) (c : Cursor) (xs : List Lexeme) (n least k : ℕ) (t : Said) {b : Option code.Operator} (e : b ≡ infix_under g k) where
+  pub an_operator : {p : code.Operator} → b ≡ Some p → least ≤ p.left
+      → choose g (rule (power g) (infix_tail least) (sight c xs n k t)) ≡ turn least k (span c.start c.end) p.byte p.right
   unfolding sight looped
-  an_operator {o} {l} {r} f h =
+  an_operator {p} f h =
       infix_chosen g least (sight c xs n k t) ∙ ap (looped least k (span c.start c.end) true) (sym e ∙ f)
-      ∙ pick_yes (leb least l && true) (turn least k (span c.start c.end) o r) end (ap (λ (z : Bool). z && true) (le-leb least l h))
+      ∙ pick_yes (leb least p.left && true) (turn least k (span c.start c.end) p.byte p.right) end (ap (λ (z : Bool). z && true) (le-leb least p.left h))
 
-  pub weak_operator : {o l r : ℕ} → b ≡ Binary o l r → l < least → choose g (rule (power g) (infix_tail least) (sight c xs n k t)) ≡ end
+  pub weak_operator : {p : code.Operator} → b ≡ Some p → p.left < least → choose g (rule (power g) (infix_tail least) (sight c xs n k t)) ≡ end
   unfolding sight looped
-  weak_operator {o} {l} {r} f h =
+  weak_operator {p} f h =
       infix_chosen g least (sight c xs n k t) ∙ ap (looped least k (span c.start c.end) true) (sym e ∙ f)
-      ∙ pick_no (leb least l && true) (turn least k (span c.start c.end) o r) end (ap (λ (z : Bool). z && true) (lt-leb least l h))
+      ∙ pick_no (leb least p.left && true) (turn least k (span c.start c.end) p.byte p.right) end (ap (λ (z : Bool). z && true) (lt-leb least p.left h))
 
-  pub no_operator : tag_of infix-enum.the_type b ≡ 1 → choose g (rule (power g) (infix_tail least) (sight c xs n k t)) ≡ end
+  pub no_operator : b ≡ None → choose g (rule (power g) (infix_tail least) (sight c xs n k t)) ≡ end
   unfolding sight looped
-  no_operator f = infix_chosen g least (sight c xs n k t) ∙ ap (looped least k (span c.start c.end) true) (sym e ∙ no_binary b f)
+  no_operator f = infix_chosen g least (sight c xs n k t) ∙ ap (looped least k (span c.start c.end) true) (sym e ∙ f)
 
 -- ── Phrases of expr_basic that more than one lexeme makes ─────────────────────────────────────────
 

@@ -1,5 +1,6 @@
 -- Laws of fields: which production a field's value is read by, told by where its colons end.
 -- Assumes nothing.
+use Rattle.std.specs.Prelude.{Ok, Err}
 use mathlib.Core.Path.{◌≡◌, refl, sym, ap, subst, subst⁻¹, ◌∙◌}
 use mathlib.Core.Bool.{Bool, true, false, ◌&&◌}
 use mathlib.Core.List.{List, [], ◌∷◌}
@@ -7,21 +8,18 @@ use Prim.Native.Nat.{ℕ, ◌+◌, ◌-◌, ◌<◌}
 use native.Mathlib.Omega.{arith}
 use lib.Dec.{eqb}
 use borrow.Author.Tests.{eq-eqb, ne_eqb}
-use denote.Enum.Declared.{tag_of}
 use Rattle.grammar.specs.Trees.{Trees, none, byte, number, span, count as size}
 use Rattle.grammar.specs.Lexemes.{Lexeme, rest, kind_of}
 use Rattle.grammar.specs.Productions.{Phrase, Body, end, goto, ◌▸◌, eat, close, rule, row, ◌∣◌, otherwise, always, expression, field_value}
 use Rattle.grammar.specs.Reading.{Outcome, done, Reading, ended, gone as read_gone, eaten, production, view, choose, has}
 use Rattle.leaves.specs.Lexing.{Left, Stands, Moved, Colons, none_more, one_more, two_more}
-use Rattle.leaves.specs.Meets.{Ready, power, State, state, Seg, Breaks, Eats, bound}
+use Rattle.leaves.specs.Meets.{Ready, power, State, state, Seg, Breaks, Eats, bound, Answer, reached}
 use Rattle.leaves.proofs.LexemeLaws.{Sees, sees, sees_next}
 use Rattle.leaves.proofs.LeafLaws.{ate_stands}
-use Rattle.leaves.specs.contracts.Answer.{the_type}
 use Rattle.leaves.proofs.Steps
 use Rattle.leaves.specs.declared.Cursor.{Cursor}
+use Rattle.leaves.specs.declared.Done.{Done}
 use Rattle.leaves.specs.declared.Refusal.{Refusal}
-use Rattle.leaves.specs.declared.Answer.{Answer}
-use Rattle.leaves.specs.declared.Answer.TheVariants.{Done, Broken}
 
 -- ── Three productions, by how many of three tests hold ────────────────────────────────────────────
 
@@ -57,15 +55,15 @@ module _ (g : ℕ) where
 eaten_kind : {g k : ℕ} {ts us : Trees} {d p r : ℕ} {xs ys : List Lexeme} → Reading (power g) g (eat k ▸ end) ts d p xs (done us r ys) → kind_of xs ≡ k
 eaten_kind (eaten e _) = e
 
-pub ate_kind : {s : List ℕ} {k w w₁ j : ℕ} {c c₁ : Cursor} {a : Answer} {xs : List Lexeme} → Eats s k c w a → a ≡ Done c₁ w₁ j → Left s c.at xs → kind_of xs ≡ k
+pub ate_kind : {s : List ℕ} {k w : ℕ} {c : Cursor} {a : Answer} {x : Done} {xs : List Lexeme} → Eats s k c w a → a ≡ Ok x → Left s c.at xs → kind_of xs ≡ k
 unfolding size
-ate_kind {c₁ = c₁} {xs = xs} m q l =
+ate_kind {x = y} {xs = xs} m q l =
     let x = Steps.led ((m.eats 0 0 []).takes end 0) q in
     let r = x.run none xs refl l in
-    eaten_kind (r.back (done (x.trees none) c₁.at r.left) ended)
+    eaten_kind (r.back (done (x.trees none) y.0.at r.left) ended)
 
-pub ate_moved : {s : List ℕ} {k w w₁ j : ℕ} {c c₁ : Cursor} {a : Answer} → Stands s c → Eats s k c w a → a ≡ Done c₁ w₁ j → Moved s c c₁
-ate_moved {w₁ = w₁} {j} {c₁ = c₁} st m q = record { at = (m.moved c₁ w₁ j q).2; stands = ate_stands st m q }
+pub ate_moved : {s : List ℕ} {k w : ℕ} {c : Cursor} {a : Answer} {x : Done} → Stands s c → Eats s k c w a → a ≡ Ok x → Moved s c x.0
+ate_moved {x = x} st m q = record { at = (m.moved x.0 x.1 x.2 q).2; stands = ate_stands st m q }
 
 regone : {g d : ℕ} {q : Phrase} {b : Body} {ts : Trees} {n p : ℕ} {xs : List Lexeme} {o : Outcome} → production (power g) g q p xs n ≡ b → size ts ≡ n → Reading (power g) g b ts d p xs o
     → Reading (power g) g (goto q) ts d p xs o
@@ -101,13 +99,12 @@ module _ {g : ℕ} {s : List ℕ} {d : ℕ} where
       }
 
   -- a lexeme that every production begins with is not there
-  pub goes_broken : {q : Phrase} {n k w : ℕ} {c : Cursor} {o : List ℕ} {a : Answer} → ((xs : List Lexeme) → (b : Body) × (production (power g) g q c.at xs n ≡ eat k ▸ b))
-      → Eats s k c w a → tag_of the_type a ≡ 1 → (r : Refusal) × (a ≡ Broken r) × Breaks g s d (state (goto q) n c w o) r
-  goes_broken {q} {n} {k} {w} {c} {o} {a} f m t =
-      let x = Steps.no_done a t in
-      let any : (b : Body) → Breaks g s d (state (eat k ▸ b) n c w o) x.0 = λ b. Steps.refused ((m.eats g d o).takes b n) x.1 in (
-        x.0,
-        x.1,
+  pub goes_broken : {q : Phrase} {n k w : ℕ} {c : Cursor} {o : List ℕ} {a a′ : Answer} {r : Refusal} → ((xs : List Lexeme) → (b : Body) × (production (power g) g q c.at xs n ≡ eat k ▸ b))
+      → Eats s k c w a → a ≡ Err r → a′ ≡ Err r → (r : Refusal) × (a′ ≡ Err r) × Breaks g s d (state (goto q) n c w o) r
+  goes_broken {q} {n} {k} {w} {c} {o} {r = r} f m t e =
+      let any : (b : Body) → Breaks g s d (state (eat k ▸ b) n c w o) r = λ b. Steps.refused ((m.eats g d o).takes b n) t in (
+        r,
+        e,
         record {
           breaks = λ ts xs z h.
               let y = f xs in
@@ -154,10 +151,10 @@ module _ (g : ℕ) (at : ℕ) (xs : List Lexeme) (n i j k p m : ℕ) where
   unfolding production view rule
   some_colon x = pick_any g 29 _ _ _ _ _
 
-module _ {g : ℕ} {s : List ℕ} {d : ℕ} {from : State} {i j k p m n e v w w₁ x : ℕ} {c₀ c₁ : Cursor} {o : List ℕ} {a : Answer} where
+module _ {g : ℕ} {s : List ℕ} {d : ℕ} {from : State} {i j k p m n e v w : ℕ} {c₀ : Cursor} {o : List ℕ} {a : Answer} {y : Done} where
   -- no more is said of how many bytes the further colons take
-  pub colons : {b : ℕ} {c₂ : Cursor} → Stands s c₀ → Eats s 29 c₀ w a → a ≡ Done c₁ w₁ x → Colons s c₁ b c₂
-      → Seg g s d from e v (state (goto (field_value i j k p m)) (n + 1) c₀ w o) → Seg g s d from (e + 1) v (state (valued i j k p m n b) (n + 1) c₂ w₁ o)
+  pub colons : {b : ℕ} {c₂ : Cursor} → Stands s c₀ → Eats s 29 c₀ w a → a ≡ Ok y → Colons s y.0 b c₂
+      → Seg g s d from e v (state (goto (field_value i j k p m)) (n + 1) c₀ w o) → Seg g s d from (e + 1) v (state (valued i j k p m n b) (n + 1) c₂ y.1 o)
   colons st t q (none_more h) r =
       let mv = ate_moved st t q in
       Steps.ate t q (goes_left (eat 29 ▸ valued i j k p m n 0) st (λ xs l y. one_colon g c₀.at xs n i j k p m (λ z. h (sym (sees_next y mv).kind ∙ z))) r)
@@ -167,16 +164,16 @@ module _ {g : ℕ} {s : List ℕ} {d : ℕ} {from : State} {i j k p m n e v w w�
       goes_left (eat 29 ▸ eat 29 ▸ valued i j k p m n 1) st
       (λ xs l y. let y₁ = sees_next y mv in let y₂ = sees_next y₁ mv₁ in two_colons g c₀.at xs n i j k p m (ate_kind t q l) (y₁.kind ∙ f) (λ z. h (sym y₂.kind ∙ z))) r
       in
-      let z : e + 1 + 0 ≡ e + 1 = omega arith in
-      subst (λ (u : ℕ). Seg g s d from u v (state (valued i j k p m n 1) (n + 1) c₂ w₁ o)) z (Steps.taken_of 0 (omega arith) mv.stands mv₁ f (Steps.ate t q there))
+      let same : e + 1 + 0 ≡ e + 1 = omega arith in
+      subst (λ (u : ℕ). Seg g s d from u v (state (valued i j k p m n 1) (n + 1) c₂ y.1 o)) same (Steps.taken_of 0 (omega arith) mv.stands mv₁ f (Steps.ate t q there))
   colons {c₂ = c₂} st t q (two_more f mv₁ h mv₂) r =
       let mv = ate_moved st t q in
       let there =
       goes_left (eat 29 ▸ eat 29 ▸ eat 29 ▸ valued i j k p m n 2) st
       (λ xs l y. let y₁ = sees_next y mv in let y₂ = sees_next y₁ mv₁ in three_colons g c₀.at xs n i j k p m (ate_kind t q l) (y₁.kind ∙ f) (y₂.kind ∙ h)) r
       in
-      let z : e + 1 + 0 + 0 ≡ e + 1 = omega arith in
-      subst (λ (u : ℕ). Seg g s d from u v (state (valued i j k p m n 2) (n + 1) c₂ w₁ o)) z
+      let same : e + 1 + 0 + 0 ≡ e + 1 = omega arith in
+      subst (λ (u : ℕ). Seg g s d from u v (state (valued i j k p m n 2) (n + 1) c₂ y.1 o)) same
       (Steps.taken_of 0 (omega arith) mv₁.stands mv₂ h (Steps.taken_of 0 (omega arith) mv.stands mv₁ f (Steps.ate t q there)))
 
 -- ── A bind with parameters ────────────────────────────────────────────────────────────────────────

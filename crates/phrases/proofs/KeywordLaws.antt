@@ -1,5 +1,6 @@
 -- What the phrases that a keyword begins, and parameters, go on as.
 -- Assumes nothing.
+use Rattle.std.specs.Prelude.{Err}
 use mathlib.Core.Path.{◌≡◌, refl, ap, subst⁻¹}
 use mathlib.Core.List.{List, [], ◌∷◌}
 use Prim.Native.Nat.{ℕ, zero, suc, ◌+◌, ◌-◌, ◌<◌}
@@ -12,14 +13,12 @@ use Rattle.grammar.specs.Productions.{Body, end, goto, fail, ◌▸◌, eat, sub
 use Rattle.grammar.specs.Productions.{basic, params, else_part, function_body, assertion, condition, asserted, pattern, param, param_default, array_comp, array_comp_end, clauses, comprehension, comprehension_end}
 use Rattle.grammar.specs.Reading.{has, choose}
 use Rattle.leaves.specs.Lexing.{Stands, Imports, normal, string, binary}
-use Rattle.leaves.specs.Meets.{state, Leads, Counts}
+use Rattle.leaves.specs.Meets.{state, Leads, Counts, Answer}
 use Rattle.leaves.proofs.Steps
-use Rattle.leaves.specs.contracts.Answer.{the_type}
-use Rattle.leaves.specs.declared.Answer.{Answer}
-use denote.Enum.Declared.{tag_of}
 use Rattle.leaves.proofs.LexemeLaws.{sight}
 use Rattle.leaves.proofs.LeafRules.{is}
 use Rattle.leaves.specs.declared.Cursor.{Cursor}
+use Rattle.leaves.specs.declared.Refusal.{Refusal}
 
 pub import_some : {k b : ℕ} → Imports k b → 1 < k
 import_some normal = lit< tt
@@ -118,10 +117,10 @@ module _ (g : ℕ) (c : Cursor) (xs : List Lexeme) where
   clauses_end n m k t = let e : n + m - n ≡ m = omega arith in ap (λ (j : ℕ). close 10 (number n ∷ number j ∷ []) ▸ end) e
 
 -- a comprehension whose clauses are refused, whatever its members
-pub clauses_break : {g : ℕ} {s : List ℕ} {d n w u m : ℕ} {b : Body} {c : Cursor} {o o₁ : List ℕ} {a : Answer} (f : ℕ) → Stands s c → Counts g s clauses 0 d c w o a o₁ → tag_of the_type a ≡ 1
-    → Leads g s d (state (goto (comprehension f)) n c w o) u b m a o₁
-clauses_break {g} {s} {d} {n} {w} {c = c} {o} zero st h q =
-    Steps.passed (Steps.counts_broken h q) (Steps.known (sub clauses ▸ goto (comprehension_end n)) st refl (λ xs t. good_clauses g c xs n 0 c.kind t refl) (Steps.at g s d (goto (comprehension 0)) n c w o))
-clauses_break {g} {s} {d} {n} {w} {c = c} {o} (suc f) st h q =
-    Steps.passed (Steps.counts_broken h q)
+pub clauses_break : {g : ℕ} {s : List ℕ} {d n w u m : ℕ} {b : Body} {c : Cursor} {o o₁ : List ℕ} {a a′ : Answer} {r : Refusal} (f : ℕ) → Stands s c → Counts g s clauses 0 d c w o a o₁ → a ≡ Err r
+    → a′ ≡ Err r → Leads g s d (state (goto (comprehension f)) n c w o) u b m a′ o₁
+clauses_break {g} {s} {d} {n} {w} {c = c} {o} zero st h q t =
+    Steps.passed (Steps.counts_broken h q t) (Steps.known (sub clauses ▸ goto (comprehension_end n)) st refl (λ xs t. good_clauses g c xs n 0 c.kind t refl) (Steps.at g s d (goto (comprehension 0)) n c w o))
+clauses_break {g} {s} {d} {n} {w} {c = c} {o} (suc f) st h q t =
+    Steps.passed (Steps.counts_broken h q t)
     (Steps.known (sub clauses ▸ fail 8 (suc f)) st refl (λ xs t. bad_clauses g c xs n (suc f) c.kind t (λ z. omega (arith, z))) (Steps.at g s d (goto (comprehension (suc f))) n c w o))

@@ -1,5 +1,6 @@
 -- Laws of patterns: what their phrases go on as, and the stretch over a field's name.
 -- Assumes nothing.
+use Rattle.std.specs.Prelude.{Ok, Err}
 use mathlib.Core.Path.{◌≡◌, refl, sym, ap, subst⁻¹, ◌∙◌}
 use mathlib.Core.Bool.{true}
 use mathlib.Core.Logic.{◌⊎◌, inl, inr}
@@ -9,22 +10,19 @@ use native.Mathlib.Omega.{arith}
 use lib.Dec.{lit<, lit≤}
 use lib.Seq.{slice}
 use borrow.Author.Tests.{ne_eqb}
-use denote.Enum.Declared.{tag_of}
 use Rattle.grammar.specs.Trees.{byte, span, text, Trees, count as size}
 use Rattle.grammar.specs.Lexemes.{Lexeme, Said, says, said, kind_of, word_of}
 use Rattle.grammar.specs.Productions.{Phrase, Body, end, goto, ◌▸◌, eat, sub, deep, close, rule, expression, exp_destruct}
 use Rattle.grammar.specs.Productions.{pattern, array_pattern, object_pattern, pattern_starts, pattern_starts_end, array_rest, array_rest_end, pattern_ends, pattern_ends_end, array_pattern_close, pattern_field, pattern_into, pattern_default, default_value, default_end, pattern_fields, pattern_fields_end, object_pattern_close, object_rest}
 use Rattle.grammar.specs.Reading.{has, choose, production, view, done, broken, Reading, ended, gone, eaten}
 use Rattle.leaves.specs.Lexing.{Stands, Moved}
-use Rattle.leaves.specs.Meets.{power, state, Seg, Eats, Breaks, Leads, Takes}
-use Rattle.leaves.specs.contracts.Answer.{the_type}
+use Rattle.leaves.specs.Meets.{power, state, Seg, Eats, Breaks, Leads, Takes, Answer, reached}
 use Rattle.leaves.proofs.LexemeLaws.{sight, lies, sees, name_says}
 use Rattle.leaves.proofs.LeafRules.{is}
 use Rattle.leaves.proofs.Steps
 use Rattle.leaves.specs.declared.Cursor.{Cursor}
+use Rattle.leaves.specs.declared.Done.{Done}
 use Rattle.leaves.specs.declared.Refusal.{Refusal}
-use Rattle.leaves.specs.declared.Answer.{Answer}
-use Rattle.leaves.specs.declared.Answer.TheVariants.{Done, Broken}
 
 module _ (g : ℕ) (c : Cursor) (xs : List Lexeme) (n : ℕ) where
   -- ── The rest of an array ────────────────────────────────────────────────────────────────────────
@@ -190,14 +188,14 @@ kind_eaten : {g : ℕ} {k d p p₁ : ℕ} {b : Body} {ts ts₁ : Trees} {xs xs�
 kind_eaten (eaten e r) = e
 
 module _ {g : ℕ} {s : List ℕ} {d : ℕ} {n w : ℕ} {c : Cursor} {o : List ℕ} {a : Answer} where
-  pub field_named : {c₁ : Cursor} {w₁ j : ℕ} → Stands s c → Eats s 55 c w a → a ≡ Done c₁ w₁ j
-      → Seg g s d (state (goto pattern_field) n c w o) (c.end - c.at) 0 (state (goto (pattern_into (slice c.start c.end s))) n c₁ w₁ o)
+  pub field_named : {y : Done} → Stands s c → Eats s 55 c w a → a ≡ Ok y
+      → Seg g s d (state (goto pattern_field) n c w o) (c.end - c.at) 0 (state (goto (pattern_into (slice c.start c.end s))) n y.0 y.1 o)
   unfolding said
-  field_named {c₁} {w₁} {j} st m q =
+  field_named {y = there} st m q =
       let name = slice c.start c.end s in
       let p = Steps.ate m q (Steps.at g s d (eat 55 ▸ goto (pattern_into name)) n c w o) in
       let p₂ = Steps.ate m q (Steps.at g s d (eat 55 ▸ end) n c w o) in
-      let x = m.moved c₁ w₁ j q in
+      let x = m.moved there.0 there.1 there.2 q in
       let l = lies st in
       record {
         bytes = p.bytes;
@@ -208,7 +206,7 @@ module _ {g : ℕ} {s : List ℕ} {d : ℕ} {n w : ℕ} {c : Cursor} {o : List �
             let r = p.run ts xs z h in
             let r₂ = p₂.run ts xs z h in
             let y = sees st refl h in
-            let k : c.kind ≡ 55 = sym y.kind ∙ kind_eaten (r₂.back (done (p₂.trees ts) c₁.at r₂.left) ended) in
+            let k : c.kind ≡ 55 = sym y.kind ∙ kind_eaten (r₂.back (done (p₂.trees ts) there.0.at r₂.left) ended) in
             let e : said (word_of xs) ≡ name = ap said (name_says k (y.says (λ i. omega (arith, k, i)))) in
             let f : production (power g) g pattern_field c.at xs (size ts) ≡ eat 55 ▸ goto (pattern_into name) =
             field_is g c.at xs (size ts) ∙ ap (λ (v : List ℕ). eat 55 ▸ goto (pattern_into v)) e in
@@ -224,20 +222,19 @@ module _ {g : ℕ} {s : List ℕ} {d : ℕ} {n w : ℕ} {c : Cursor} {o : List �
         credit = omega (arith, x.0, x.1, x.2, l.from, l.on);
       }
 
-  pub field_broken : Eats s 55 c w a → tag_of the_type a ≡ 1 → (r : Refusal) × (a ≡ Broken r) × Breaks g s d (state (goto pattern_field) n c w o) r
-  field_broken m q =
-      let x = Steps.no_done a q in (
-        x.0,
-        x.1,
-        record {
-          breaks = λ ts xs z l.
-              let h = Steps.refused ((m.eats g d o).takes (goto (pattern_into (said (word_of xs)))) n) x.1 in
-              let t = h.breaks ts xs z l in
-              record {
-                left = t.left;
-                kept = t.kept;
-                reading = gone (subst⁻¹ (λ (b : Body). Reading (power g) g b ts d c.at xs (broken x.0.number x.0.place.at t.left x.0.detail)) (field_is g c.at xs (size ts)) t.reading);
-              };
-          stands = (Steps.refused ((m.eats g d o).takes end n) x.1).stands;
-        },
-      )
+  pub field_broken : {a′ : Answer} {r : Refusal} → Eats s 55 c w a → a ≡ Err r → a′ ≡ Err r → (r : Refusal) × (a′ ≡ Err r) × Breaks g s d (state (goto pattern_field) n c w o) r
+  field_broken {r = r} m q e = (
+    r,
+    e,
+    record {
+      breaks = λ ts xs z l.
+          let h = Steps.refused ((m.eats g d o).takes (goto (pattern_into (said (word_of xs)))) n) q in
+          let t = h.breaks ts xs z l in
+          record {
+            left = t.left;
+            kept = t.kept;
+            reading = gone (subst⁻¹ (λ (b : Body). Reading (power g) g b ts d c.at xs (broken r.number r.place.at t.left r.detail)) (field_is g c.at xs (size ts)) t.reading);
+          };
+      stands = (Steps.refused ((m.eats g d o).takes end n) q).stands;
+    },
+  )

@@ -1,13 +1,14 @@
 -- Laws that suffixes and arguments rest on.
 -- Assumes nothing.
-use mathlib.Core.Path.{◌≡◌, refl, sym, ap, ap₂, ◌∙◌}
-use mathlib.Core.Bool.{Bool, true, false, ◌&&◌}
+use Rattle.std.specs.Prelude.{Err}
+use mathlib.Core.Path.{◌≡◌, refl, sym, ap, ap₂, subst, ◌∙◌}
+use mathlib.Core.Bool.{Bool, true, false, ◌&&◌, not}
 use mathlib.Core.List.{List, [], ◌∷◌}
 use Prim.Native.Nat.{ℕ, ◌+◌, ◌-◌, ◌*◌, ◌≤◌}
 use native.Mathlib.Omega.{arith}
 use lib.Dec.{eqb, lit<, lit≤}
 use lib.Seq.{slice, length-slice}
-use borrow.Author.Tests.{eq-eqb, ne_eqb}
+use borrow.Author.Tests.{eq-eqb, ne_eqb, not-true, not-false}
 use Rattle.grammar.specs.Trees.{text}
 use Rattle.grammar.specs.Image.{entry, payload}
 use Rattle.grammar.specs.Lexemes.{Lexeme, Said, said, rest, kind_of, word_of}
@@ -16,14 +17,12 @@ use Rattle.grammar.specs.Reading.{choose, has}
 use Rattle.grammar.specs.Productions.{Body, end, goto, fail, ◌▸◌, eat, sub, close, rule, expression, arguments, argument, argument_end, call_close, named_argument, suffix, member_name, bracket as bracket-phrase, inside, exp_null_coaelse}
 use Rattle.grammar.proofs.Chosen.{pick_yes, pick_no}
 use Rattle.leaves.specs.Lexing.{Stands, Moved, Named, named, no_name, no_value, Suffixed, mark, dot, bracket, paren, brace, no_mark, none as no_suffix}
-use Rattle.leaves.specs.Meets.{power, State, state, Seg, Takes, Tells, TellsSome, Breaks, Argues, safely}
+use Rattle.leaves.specs.Meets.{power, State, state, Seg, Takes, Tells, TellsSome, Breaks, Argues, safely, Answer, reached}
 use Rattle.leaves.proofs.LexemeLaws.{lies, Sees, sees_next, sight, seen, moved_once}
 use Rattle.leaves.proofs.LeafLaws.{done_once, not_both}
 use Rattle.leaves.proofs.Steps
 use Rattle.leaves.specs.declared.Cursor.{Cursor}
 use Rattle.leaves.specs.declared.Refusal.{Refusal}
-use Rattle.leaves.specs.declared.Answer.{Answer}
-use Rattle.leaves.specs.declared.Answer.TheVariants.{Done, Broken}
 
 -- ── Arguments ─────────────────────────────────────────────────────────────────────────────────────
 
@@ -68,7 +67,7 @@ module _ {g : ℕ} {s : List ℕ} {d : ℕ} {c : Cursor} {w : ℕ} {o : List ℕ
       }
 
   -- where one before it has
-  pub argues_fault : {m k : ℕ} {r : Answer} {o₁ : List ℕ} → Stands s c → Named s c k → k ≡ 0 → ¬ (m ≡ 0) → r ≡ Broken (record { number = 8; place = c; detail = 1 }) → Argues g s d m k c w o r o₁
+  pub argues_fault : {m k : ℕ} {r : Answer} {o₁ : List ℕ} → Stands s c → Named s c k → k ≡ 0 → ¬ (m ≡ 0) → r ≡ Err (record { number = 8; place = c; detail = 1 }) → Argues g s d m k c w o r o₁
   argues_fault {m} {k} st h e z r =
       record {
         argues = λ a u n.
@@ -101,7 +100,7 @@ module _ {g : ℕ} {s : List ℕ} {d : ℕ} {c : Cursor} {w : ℕ} {o : List ℕ
   pub name_closed : {w₁ w₂ j e : ℕ} {c₂ : Cursor} {o₁ o₂ : List ℕ} → Stands s c → c.end - c.at + 1 ≤ e
       → Seg g s d (state (goto named_argument) 0 c w o) e 0 (state (close 19 (text (slice c.start c.end s) ∷ []) ▸ end) 1 c₂ w₁ o₁)
       → Wrote o₁ w₁ (entry 19 (text (slice c.start c.end s) ∷ [])) w₂ o₂
-      → Takes g s (sub named_argument) 1 0 d c w o (Done c₂ w₂ j) o₂
+      → Takes g s (sub named_argument) 1 0 d c w o (reached c₂ w₂ j) o₂
   unfolding entry payload
   name_closed st h p u =
       let l = lies st in
@@ -137,14 +136,14 @@ module _ {g : ℕ} {s : List ℕ} {d : ℕ} {from : State} {e v a u m n w : ℕ}
 -- ── Suffixes ──────────────────────────────────────────────────────────────────────────────────────
 
 -- what is known of a kind that a suffix begins with
-pub at_question : {g k : ℕ} → Suffixed g k 1 → k ≡ 36 → has g exp_null_coaelse ≡ true
+pub at_question : {g k : ℕ} → Suffixed g k true → k ≡ 36 → has g exp_null_coaelse ≡ true
 at_question (mark a h) e = h
 at_question (dot a) e = absurd (omega (arith, a, e))
 at_question (bracket a) e = absurd (omega (arith, a, e))
 at_question (paren a) e = absurd (omega (arith, a, e))
 at_question (brace a) e = absurd (omega (arith, a, e))
 
-pub at_brace : {g k : ℕ} → Suffixed g k 1 → ¬ (k ≡ 36) → ¬ (k ≡ 31) → ¬ (k ≡ 23) → ¬ (k ≡ 25) → k ≡ 27
+pub at_brace : {g k : ℕ} → Suffixed g k true → ¬ (k ≡ 36) → ¬ (k ≡ 31) → ¬ (k ≡ 23) → ¬ (k ≡ 25) → k ≡ 27
 at_brace (mark a h) p q r s = absurd (p a)
 at_brace (dot a) p q r s = absurd (q a)
 at_brace (bracket a) p q r s = absurd (r a)
@@ -192,19 +191,16 @@ module _ {g : ℕ} {s : List ℕ} {d : ℕ} {from : State} {e v f n w : ℕ} {c 
   past_brace st mv k p = Steps.taken (lit< tt) st mv k (Steps.known (eat 27 ▸ sub inside ▸ eat 28 ▸ close 11 [] ▸ goto (suffix 1)) st k (λ xs t. refl) p)
 
   -- none
-  pub no_more : Stands s c → Suffixed g c.kind 0 → Seg g s d from e v (state (goto (suffix f)) n c w o) → Seg g s d from e v (state end n c w o)
+  pub no_more : Stands s c → Suffixed g c.kind false → Seg g s d from e v (state (goto (suffix f)) n c w o) → Seg g s d from e v (state end n c w o)
   no_more st (no_mark k h) p = Steps.known end st k (λ xs t. mark_off g c xs n f t h) p
   no_more st (no_suffix h₁ h₂ h₃ h₄ h₅) p = Steps.known end st refl (λ xs t. nothing_more g c xs n f t c.kind h₁ h₂ h₃ h₄ h₅) p
 
--- the test is 1 or 0
-pub suffix_there : {g k r : ℕ} → Suffixed g k r → ¬ (r ≡ 0) → Suffixed g k 1
-suffix_there (mark a h) n = mark a h
-suffix_there (dot a) n = dot a
-suffix_there (bracket a) n = bracket a
-suffix_there (paren a) n = paren a
-suffix_there (brace a) n = brace a
-suffix_there (no_mark a h) n = absurd (n refl)
-suffix_there (no_suffix h₁ h₂ h₃ h₄ h₅) n = absurd (n refl)
+-- what the code's test `!suffix_at(..)` tells
+pub suffix_there : {g k : ℕ} {r : Bool} → Suffixed g k r → not r ≡ false → Suffixed g k true
+suffix_there {g} {k} {r} h n = subst (Suffixed g k) (not-false r n) h
+
+pub suffix_absent : {g k : ℕ} {r : Bool} → Suffixed g k r → not r ≡ true → Suffixed g k false
+suffix_absent {g} {k} {r} h n = subst (Suffixed g k) (not-true r n) h
 
 -- ── Answers that are further on ───────────────────────────────────────────────────────────────────
 
@@ -214,9 +210,9 @@ module _ {g : ℕ} {s : List ℕ} {d : ℕ} {from : State} {next : ℕ → Body}
   pub tail_on : {mid : State} {a : Answer} → 1 ≤ e → v ≤ 32 * e → Tells g s d mid next n a o → Seg g s d from e v mid → TellsSome g s d from next n a o
   tail_on i h m p = record { tells = Steps.tail_telling h m p; some = λ c w k q. let r = Steps.follows m q p in omega (arith, i, r.onward) }
 
-  pub passed_on : {mid : State} {a : Answer} → ((r : Refusal) × (a ≡ Broken r) × Breaks g s d mid r) → Seg g s d from e v mid → TellsSome g s d from next n a o
+  pub passed_on : {mid : State} {a : Answer} → ((r : Refusal) × (a ≡ Err r) × Breaks g s d mid r) → Seg g s d from e v mid → TellsSome g s d from next n a o
   passed_on x p = record { tells = Steps.passed_telling x p; some = λ c w k q. absurd (not_both x.1 q) }
 
-  pub told_on : {c : Cursor} {w k : ℕ} → 1 ≤ e → v ≤ 32 * e → k ≤ 4 → Seg g s d from e v (state (next k) n c w o) → TellsSome g s d from next n (Done c w k) o
+  pub told_on : {c : Cursor} {w k : ℕ} → 1 ≤ e → v ≤ 32 * e → k ≤ 4 → Seg g s d from e v (state (next k) n c w o) → TellsSome g s d from next n (reached c w k) o
   told_on {c} i h l p =
       record { tells = Steps.says_on l h p; some = λ x y z q. let r : c.at ≡ x.at = ap (λ (b : Cursor). b.at) (done_once q).0 in omega (arith, i, r, p.onward) }

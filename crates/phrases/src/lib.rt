@@ -1,23 +1,23 @@
 #![tactic(auto)]
 // The phrase functions of ir-parser's lib.rs, in its order. They call each other in a cycle; at each call the depth that is left falls,
 // or it stays and the callee comes before its caller in the order of ranks. Lists and tails are loops: calls nest by depth alone.
-ghost use Rattle.std.specs.Prelude.{◌≡◌, [], ◌∷◌, ◌+◌, ◌-◌, ◌≤◌, ◌<◌, length};
+ghost use Rattle.std.specs.Prelude.{◌≡◌, [], ◌∷◌, ◌+◌, ◌-◌, ◌≤◌, ◌<◌, length, true};
 ghost use Rattle.std.proofs.Math.Seq.{slice as part};
 ghost use Rattle.lexemes.specs.Kinds.{IF_KW, FUNCTION_KW, FOR_KW, ASSERT_KW};
 ghost use Rattle.grammar.specs.Trees.{span};
-ghost use Rattle.grammar.specs.Productions.{goto, end, sub, deep, expr as exprPhrase, infix_tail, suffixed, suffix as suffixPhrase, bracket, slice_end, slice_step, arguments, basic as basicPhrase, array as arrayPhrase, inside as insidePhrase, comprehension, clauses, for_clause, assertion};
-ghost use Rattle.grammar.specs.Productions.{member as memberPhrase, field as fieldPhrase, field_value, params as paramsPhrase, param as paramPhrase, binds, local_body, bind as bindPhrase, pattern, array_rest, array_rest_end, pattern_fields, pattern_field, pattern_default};
+ghost use Rattle.grammar.specs.Productions.{goto, end, sub, deep, expr as expr_phrase, infix_tail, suffixed, suffix as suffix_phrase, bracket, slice_end, slice_step, arguments, basic as basic_phrase, array as array_phrase, inside as inside_phrase, comprehension, clauses, for_clause, assertion};
+ghost use Rattle.grammar.specs.Productions.{member as member_phrase, field as field_phrase, field_value, params as params_phrase, param as param_phrase, binds, local_body, bind as bind_phrase, pattern, array_rest, array_rest_end, pattern_fields, pattern_field, pattern_default};
 ghost use Rattle.leaves.specs.Lexing.{Named, Header as HeaderAt, Imports, Suffixed};
 ghost use Rattle.leaves.specs.Meets.{Ready, state, Leads, LeadsAny, Takes, TakesSome, Counts, Tells, TellsSome, TellsAny, Argues, suffixes, titled, bound as bound_by, safely};
 
 use grammar::numbers::Number;
-use grammar::operators::{Infix, Prefix, prefix_power, unary_op};
+use grammar::operators::{prefix_power, unary_op};
 use grammar::tags::Tag;
 use grammar::{settings, writers};
 use leaves::parser::{NAME, eat, eat_any, error, header_at, named_at, suffix_at};
 use leaves::records::{Header, Span};
 use leaves::{
-    Answer, Cursor, WithComputed, WithCount, WithFirst, array_close, array_pattern_close,
+    Answer, Cursor, Done, WithComputed, WithCount, WithFirst, array_close, array_pattern_close,
     call_close, member_name, members_close, object_pattern_close, object_rest, operators,
     past_comma, records, slice_close, visibility, with_member,
 };
@@ -29,56 +29,35 @@ fn assert(src: &[u8], out: &mut [u8], c: Cursor, w: usize, left: usize, set: u64
     requires { Ready src.now c w }
     ensures { Takes set src.now (sub assertion) 1 0 left c w out.old result out.new }
 {
-    let a = eat(src, c, w, Kind::ASSERT_KW);
-    let Answer::Done(c1, w1, _) = a else {
-        return a;
-    };
+    let Done(c1, w1, _) = eat(src, c, w, Kind::ASSERT_KW)?;
     let from = c1.start;
-    let b = expr(src, out, c1, w1, left, set, 0);
-    let Answer::Done(c2, w2, _) = b else {
-        return b;
-    };
+    let Done(c2, w2, _) = expr(src, out, c1, w1, left, set, 0)?;
     let to = c2.at;
     if c2.kind != Kind::COLON {
         let w3 = writers::put_marked(out, w2, Tag::ASSERT, from, to, 0);
-        return Answer::Done(c2, w3, 1);
+        return Ok(Done(c2, w3, 1));
     }
-    let d = expr(src, out, eat_any(src, c2), w2, left, set, 0);
-    let Answer::Done(c3, w3, _) = d else {
-        return d;
-    };
+    let Done(c3, w3, _) = expr(src, out, eat_any(src, c2), w2, left, set, 0)?;
     let w4 = writers::put_marked(out, w3, Tag::ASSERT, from, to, 1);
-    Answer::Done(c3, w4, 1)
+    Ok(Done(c3, w4, 1))
 }
 
 // if_else, with if_spec_data's `if`: basic at `if`, else-part.
 #[cycle(phrase)]
 fn cond(src: &[u8], out: &mut [u8], c: Cursor, w: usize, left: usize, set: u64) -> Answer
     requires { Ready src.now c w × (c.kind ≡ IF_KW) }
-    ensures { Leads set src.now left (state (goto basicPhrase) 0 c w out.old) 0 end 1 result out.new }
+    ensures { Leads set src.now left (state (goto basic_phrase) 0 c w out.old) 0 end 1 result out.new }
 {
-    let a = expr(src, out, eat_any(src, c), w, left, set, 0);
-    let Answer::Done(c1, w1, _) = a else {
-        return a;
-    };
-    let b = eat(src, c1, w1, Kind::THEN_KW);
-    let Answer::Done(c2, w2, _) = b else {
-        return b;
-    };
-    let d = expr(src, out, c2, w2, left, set, 0);
-    let Answer::Done(c3, w3, _) = d else {
-        return d;
-    };
+    let Done(c1, w1, _) = expr(src, out, eat_any(src, c), w, left, set, 0)?;
+    let Done(c2, w2, _) = eat(src, c1, w1, Kind::THEN_KW)?;
+    let Done(c3, w3, _) = expr(src, out, c2, w2, left, set, 0)?;
     if c3.kind != Kind::ELSE_KW {
         let w4 = writers::put_marked(out, w3, Tag::IF, c.start, c.end, 0);
-        return Answer::Done(c3, w4, 1);
+        return Ok(Done(c3, w4, 1));
     }
-    let e = expr(src, out, eat_any(src, c3), w3, left, set, 0);
-    let Answer::Done(c4, w4, _) = e else {
-        return e;
-    };
+    let Done(c4, w4, _) = expr(src, out, eat_any(src, c3), w3, left, set, 0)?;
     let w5 = writers::put_marked(out, w4, Tag::IF, c.start, c.end, 1);
-    Answer::Done(c4, w5, 1)
+    Ok(Done(c4, w5, 1))
 }
 
 // slice_desc, after its first `:`, with the start's span: slice-end, slice-ended.
@@ -103,10 +82,7 @@ fn slice(
     if c.kind == Kind::R_BRACK {
         return slice_close(src, out, c, w, parts, x, none, none);
     }
-    let a = expr(src, out, c, w, left, set, 0);
-    let Answer::Done(c1, w1, _) = a else {
-        return a;
-    };
+    let Done(c1, w1, _) = expr(src, out, c, w, left, set, 0)?;
     let y = Span {
         start: c.start,
         end: c1.at,
@@ -136,10 +112,7 @@ fn step(
     if c.kind == Kind::R_BRACK {
         return slice_close(src, out, c, w, parts, x, y, Span { start: 0, end: 0 });
     }
-    let a = expr(src, out, c, w, left, set, 0);
-    let Answer::Done(c1, w1, _) = a else {
-        return a;
-    };
+    let Done(c1, w1, _) = expr(src, out, c, w, left, set, 0)?;
     let z = Span {
         start: c.start,
         end: c1.at,
@@ -178,10 +151,7 @@ fn pat(src: &[u8], out: &mut [u8], c: Cursor, w: usize, left: usize, set: u64) -
         if cur.kind == Kind::DOTDOTDOT {
             return rest(src, out, eat_any(src, cur), at, left - 1, set, n);
         }
-        let a = pat(src, out, cur, at, left - 1, set);
-        let Answer::Done(c1, w1, _) = a else {
-            return a;
-        };
+        let Done(c1, w1, _) = pat(src, out, cur, at, left - 1, set)?;
         n += 1;
         at = w1;
         if c1.kind != Kind::COMMA {
@@ -234,10 +204,7 @@ fn ends(
         if next.kind == Kind::R_BRACK {
             return array_pattern_close(src, out, next, at, n, keep, m, name);
         }
-        let a = pat(src, out, next, at, left, set);
-        let Answer::Done(c1, w1, _) = a else {
-            return a;
-        };
+        let Done(c1, w1, _) = pat(src, out, next, at, left, set)?;
         m += 1;
         cur = c1;
         at = w1;
@@ -260,10 +227,7 @@ fn obj(src: &[u8], out: &mut [u8], c: Cursor, w: usize, left: usize, set: u64) -
         if cur.kind == Kind::DOTDOTDOT {
             return object_rest(src, out, eat_any(src, cur), at, n);
         }
-        let a = item(src, out, cur, at, left, set);
-        let Answer::Done(c1, w1, _) = a else {
-            return a;
-        };
+        let Done(c1, w1, _) = item(src, out, cur, at, left, set)?;
         n += 1;
         at = w1;
         if c1.kind != Kind::COMMA {
@@ -279,10 +243,7 @@ fn item(src: &[u8], out: &mut [u8], c: Cursor, w: usize, left: usize, set: u64) 
     requires { Ready src.now c w }
     ensures { Takes set src.now (sub pattern_field) 1 0 left c w out.old result out.new }
 {
-    let a = eat(src, c, w, Kind::IDENT);
-    let Answer::Done(c1, w1, _) = a else {
-        return a;
-    };
+    let Done(c1, w1, _) = eat(src, c, w, Kind::IDENT)?;
     let name = Span {
         start: c.start,
         end: c.end,
@@ -290,10 +251,7 @@ fn item(src: &[u8], out: &mut [u8], c: Cursor, w: usize, left: usize, set: u64) 
     if c1.kind != Kind::COLON {
         return init(src, out, c1, w1, left, set, 0, name);
     }
-    let b = pat(src, out, eat_any(src, c1), w1, left, set);
-    let Answer::Done(c2, w2, _) = b else {
-        return b;
-    };
+    let Done(c2, w2, _) = pat(src, out, eat_any(src, c1), w1, left, set)?;
     init(src, out, c2, w2, left, set, 1, name)
 }
 
@@ -324,13 +282,10 @@ fn init(
             0,
             &src[from as usize..to as usize],
         );
-        return Answer::Done(c, w1, 1);
+        return Ok(Done(c, w1, 1));
     }
     let c1 = eat_any(src, c);
-    let a = expr(src, out, c1, w, left, set, 0);
-    let Answer::Done(c2, w2, _) = a else {
-        return a;
-    };
+    let Done(c2, w2, _) = expr(src, out, c1, w, left, set, 0)?;
     let w3 = writers::put_pattern_field(
         out,
         w2,
@@ -340,30 +295,27 @@ fn init(
         c2.at,
         &src[from as usize..to as usize],
     );
-    Answer::Done(c2, w3, 1)
+    Ok(Done(c2, w3, 1))
 }
 
 // params: params, params-end.
 #[cycle(phrase)]
 fn params(src: &[u8], out: &mut [u8], c: Cursor, w: usize, left: usize, set: u64) -> WithCount
     requires { Ready src.now c w }
-    ensures { Counts set src.now paramsPhrase 4 left c w out.old result out.new }
+    ensures { Counts set src.now params_phrase 4 left c w out.old result out.new }
 {
     let mut cur = c;
     let mut at = w;
     let mut n: usize = 0;
     loop {
         if cur.kind == Kind::R_PAREN {
-            return WithCount::Done(cur, at, n);
+            return Ok(Done(cur, at, n));
         }
-        let a = param(src, out, cur, at, left, set);
-        let Answer::Done(c1, w1, _) = a else {
-            return a;
-        };
+        let Done(c1, w1, _) = param(src, out, cur, at, left, set)?;
         n += 1;
         at = w1;
         if c1.kind != Kind::COMMA {
-            return WithCount::Done(c1, at, n);
+            return Ok(Done(c1, at, n));
         }
         cur = eat_any(src, c1);
     }
@@ -373,22 +325,16 @@ fn params(src: &[u8], out: &mut [u8], c: Cursor, w: usize, left: usize, set: u64
 #[cycle(phrase)]
 fn param(src: &[u8], out: &mut [u8], c: Cursor, w: usize, left: usize, set: u64) -> Answer
     requires { Ready src.now c w }
-    ensures { TakesSome set src.now (sub paramPhrase) 1 4 left c w out.old result out.new }
+    ensures { TakesSome set src.now (sub param_phrase) 1 4 left c w out.old result out.new }
 {
-    let a = pat(src, out, c, w, left, set);
-    let Answer::Done(c1, w1, _) = a else {
-        return a;
-    };
+    let Done(c1, w1, _) = pat(src, out, c, w, left, set)?;
     if c1.kind != Kind::ASSIGN {
         let w2 = writers::put_flag(out, w1, Tag::PARAMETER, 0);
-        return Answer::Done(c1, w2, 1);
+        return Ok(Done(c1, w2, 1));
     }
-    let b = expr(src, out, eat_any(src, c1), w1, left, set, 0);
-    let Answer::Done(c2, w2, _) = b else {
-        return b;
-    };
+    let Done(c2, w2, _) = expr(src, out, eat_any(src, c1), w1, left, set, 0)?;
     let w3 = writers::put_flag(out, w2, Tag::PARAMETER, 1);
-    Answer::Done(c2, w3, 1)
+    Ok(Done(c2, w3, 1))
 }
 
 // args, after expr_suffix's `(`, which stood at `from`: arguments, argument-end.
@@ -414,10 +360,7 @@ fn args(
             return call_close(src, out, cur, at, from, unnamed, named);
         }
         let k = named_at(src, cur);
-        let a = arg(src, out, cur, at, left, set, named, k);
-        let Answer::Done(c1, w1, _) = a else {
-            return a;
-        };
+        let Done(c1, w1, _) = arg(src, out, cur, at, left, set, named, k)?;
         unnamed += 1 - k;
         named += k;
         at = w1;
@@ -450,10 +393,7 @@ fn arg(
         return expr(src, out, c, w, left, set, 0);
     }
     let c1 = eat_any(src, c);
-    let a = expr(src, out, eat_any(src, c1), w, left, set, 0);
-    let Answer::Done(c2, w2, _) = a else {
-        return a;
-    };
+    let Done(c2, w2, _) = expr(src, out, eat_any(src, c1), w, left, set, 0)?;
     let from = c.start;
     let to = c.end;
     let w3 = writers::put_word(
@@ -462,20 +402,17 @@ fn arg(
         Tag::NAMED_ARGUMENT,
         &src[from as usize..to as usize],
     );
-    Answer::Done(c2, w3, 1)
+    Ok(Done(c2, w3, 1))
 }
 
 // bind: bind, bind-named.
 #[cycle(phrase)]
 fn bind(src: &[u8], out: &mut [u8], c: Cursor, w: usize, left: usize, set: u64) -> Answer
     requires { Ready src.now c w }
-    ensures { Takes set src.now (sub bindPhrase) 1 0 left c w out.old result out.new }
+    ensures { Takes set src.now (sub bind_phrase) 1 0 left c w out.old result out.new }
 {
     if c.kind != Kind::IDENT {
-        let a = pat(src, out, c, w, left, set);
-        let Answer::Done(c1, w1, _) = a else {
-            return a;
-        };
+        let Done(c1, w1, _) = pat(src, out, c, w, left, set)?;
         return rhs(src, out, c1, w1, left, set, 0, 0);
     }
     let from = c.start;
@@ -492,14 +429,8 @@ fn bind(src: &[u8], out: &mut [u8], c: Cursor, w: usize, left: usize, set: u64) 
     if c1.kind != Kind::L_PAREN {
         return rhs(src, out, c1, w1, left, set, 0, 0);
     }
-    let b = params(src, out, eat_any(src, c1), w1, left, set);
-    let WithCount::Done(c2, w2, n) = b else {
-        return b;
-    };
-    let d = eat(src, c2, w2, Kind::R_PAREN);
-    let Answer::Done(c3, w3, _) = d else {
-        return d;
-    };
+    let Done(c2, w2, n) = params(src, out, eat_any(src, c1), w1, left, set)?;
+    let Done(c3, w3, _) = eat(src, c2, w2, Kind::R_PAREN)?;
     rhs(src, out, c3, w3, left, set, 1, n)
 }
 
@@ -518,59 +449,38 @@ fn rhs(
     requires { Ready src.now c w × (n ≤ c.at) }
     ensures { LeadsAny set src.now left (bound_by function n) c w out.old 0 end 1 result out.new }
 {
-    let a = eat(src, c, w, Kind::ASSIGN);
-    let Answer::Done(c1, w1, _) = a else {
-        return a;
-    };
-    let b = expr(src, out, c1, w1, left, set, 0);
-    let Answer::Done(c2, w2, _) = b else {
-        return b;
-    };
+    let Done(c1, w1, _) = eat(src, c, w, Kind::ASSIGN)?;
+    let Done(c2, w2, _) = expr(src, out, c1, w1, left, set, 0)?;
     let w3 = writers::put_bind(out, w2, function, n);
-    Answer::Done(c2, w3, 1)
+    Ok(Done(c2, w3, 1))
 }
 
 // field_name: field up to its name.
 #[cycle(phrase)]
 fn name(src: &[u8], out: &mut [u8], c: Cursor, w: usize, left: usize, set: u64) -> WithComputed
     requires { Ready src.now c w }
-    ensures { Tells set src.now left (state (goto fieldPhrase) 0 c w out.old) (titled c.start) 1 result out.new }
+    ensures { Tells set src.now left (state (goto field_phrase) 0 c w out.old) (titled c.start) 1 result out.new }
 {
     if c.kind != Kind::L_BRACK {
         return leaves::fixed_name(src, out, c, w);
     }
-    let a = expr(src, out, eat_any(src, c), w, left, set, 0);
-    let Answer::Done(c1, w1, _) = a else {
-        return a;
-    };
-    let b = eat(src, c1, w1, Kind::R_BRACK);
-    let Answer::Done(c2, w2, _) = b else {
-        return b;
-    };
-    WithComputed::Done(c2, w2, 1)
+    let Done(c1, w1, _) = expr(src, out, eat_any(src, c), w, left, set, 0)?;
+    let Done(c2, w2, _) = eat(src, c1, w1, Kind::R_BRACK)?;
+    Ok(Done(c2, w2, 1))
 }
 
 // field: field, field-named.
 #[cycle(phrase)]
 fn field(src: &[u8], out: &mut [u8], c: Cursor, w: usize, left: usize, set: u64) -> Answer
     requires { Ready src.now c w }
-    ensures { Takes set src.now (sub fieldPhrase) 1 0 left c w out.old result out.new }
+    ensures { Takes set src.now (sub field_phrase) 1 0 left c w out.old result out.new }
 {
-    let a = name(src, out, c, w, left, set);
-    let WithComputed::Done(c1, w1, computed) = a else {
-        return a;
-    };
+    let Done(c1, w1, computed) = name(src, out, c, w, left, set)?;
     let start = c.start;
     let end = c1.at;
     if c1.kind == Kind::L_PAREN {
-        let b = params(src, out, eat_any(src, c1), w1, left, set);
-        let WithCount::Done(c2, w2, n) = b else {
-            return b;
-        };
-        let d = eat(src, c2, w2, Kind::R_PAREN);
-        let Answer::Done(c3, w3, _) = d else {
-            return d;
-        };
+        let Done(c2, w2, n) = params(src, out, eat_any(src, c1), w1, left, set)?;
+        let Done(c3, w3, _) = eat(src, c2, w2, Kind::R_PAREN)?;
         let h = Header {
             start,
             end,
@@ -617,25 +527,19 @@ fn value(
     requires { Ready src.now c w × (h.start < 65536) × (h.end < 65536) × (h.computed ≤ 4) × (h.params ≤ c.at) }
     ensures { Leads set src.now left (state (goto (field_value h.start h.end h.computed h.plus h.method)) (h.params + 1) c w out.old) 0 end 1 result out.new }
 {
-    let a = eat(src, c, w, Kind::COLON);
-    let Answer::Done(c1, w1, _) = a else {
-        return a;
-    };
+    let Done(c1, w1, _) = eat(src, c, w, Kind::COLON)?;
     let v = visibility(src, c1);
     let c2 = v.cursor;
-    let b = expr(src, out, c2, w1, left, set, 0);
-    let Answer::Done(c3, w3, _) = b else {
-        return b;
-    };
+    let Done(c3, w3, _) = expr(src, out, c2, w1, left, set, 0)?;
     let w4 = records::put_field(out, w3, h, v.byte);
-    Answer::Done(c3, w4, 1)
+    Ok(Done(c3, w4, 1))
 }
 
 // member: member.
 #[cycle(phrase)]
 pub fn member(src: &[u8], out: &mut [u8], c: Cursor, w: usize, left: usize, set: u64) -> Answer
     requires { Ready src.now c w }
-    ensures { Takes set src.now (sub memberPhrase) 1 0 left c w out.old result out.new }
+    ensures { Takes set src.now (sub member_phrase) 1 0 left c w out.old result out.new }
 {
     if c.kind == Kind::LOCAL_KW {
         return bind(src, out, eat_any(src, c), w, left, set);
@@ -652,29 +556,20 @@ fn spec(src: &[u8], out: &mut [u8], c: Cursor, w: usize, left: usize, set: u64) 
     requires { Ready src.now c w }
     ensures { Takes set src.now (sub for_clause) 1 0 left c w out.old result out.new }
 {
-    if header_at(src, c, set) == 1 {
+    if header_at(src, c, set) {
         return each(src, out, c, w, left, set);
     }
-    let a = pat(src, out, c, w, left, set);
-    let Answer::Done(c1, w1, _) = a else {
-        return a;
-    };
-    let b = eat(src, c1, w1, Kind::IN_KW);
-    let Answer::Done(c2, w2, _) = b else {
-        return b;
-    };
-    let d = expr(src, out, c2, w2, left, set, 0);
-    let Answer::Done(c3, w3, _) = d else {
-        return d;
-    };
+    let Done(c1, w1, _) = pat(src, out, c, w, left, set)?;
+    let Done(c2, w2, _) = eat(src, c1, w1, Kind::IN_KW)?;
+    let Done(c3, w3, _) = expr(src, out, c2, w2, left, set, 0)?;
     let w4 = writers::put_none(out, w3, Tag::FOR);
-    Answer::Done(c3, w4, 1)
+    Ok(Done(c3, w4, 1))
 }
 
 // for_spec, object iteration, at its header: header, iteration, iteration-value.
 #[cycle(phrase)]
 fn each(src: &[u8], out: &mut [u8], c: Cursor, w: usize, left: usize, set: u64) -> Answer
-    requires { Ready src.now c w × HeaderAt set src.now c 1 }
+    requires { Ready src.now c w × HeaderAt set src.now c true }
     ensures { Leads set src.now left (state (goto for_clause) 0 c w out.old) 0 end 1 result out.new }
 {
     if left == 0 {
@@ -685,22 +580,13 @@ fn each(src: &[u8], out: &mut [u8], c: Cursor, w: usize, left: usize, set: u64) 
     let colon = eat_any(src, bracket);
     let v = visibility(src, eat_any(src, colon));
     let c1 = v.cursor;
-    let a = pat(src, out, c1, w, left, set);
-    let Answer::Done(c2, w2, _) = a else {
-        return a;
-    };
-    let b = eat(src, c2, w2, Kind::IN_KW);
-    let Answer::Done(c3, w3, _) = b else {
-        return b;
-    };
-    let d = expr(src, out, c3, w3, left, set, 0);
-    let Answer::Done(c4, w4, _) = d else {
-        return d;
-    };
+    let Done(c2, w2, _) = pat(src, out, c1, w, left, set)?;
+    let Done(c3, w3, _) = eat(src, c2, w2, Kind::IN_KW)?;
+    let Done(c4, w4, _) = expr(src, out, c3, w3, left, set, 0)?;
     let from = key.start;
     let to = key.end;
     let w5 = writers::put_iteration(out, w4, v.byte, &src[from as usize..to as usize]);
-    Answer::Done(c4, w5, 1)
+    Ok(Done(c4, w5, 1))
 }
 
 // compspecs, if_spec_data, at `for`: clauses, more-clauses, if-clause.
@@ -714,22 +600,16 @@ fn specs(src: &[u8], out: &mut [u8], c: Cursor, w: usize, left: usize, set: u64)
     let mut n: usize = 0;
     loop {
         if cur.kind == Kind::FOR_KW {
-            let a = spec(src, out, eat_any(src, cur), at, left, set);
-            let Answer::Done(c1, w1, _) = a else {
-                return a;
-            };
+            let Done(c1, w1, _) = spec(src, out, eat_any(src, cur), at, left, set)?;
             n += 1;
             cur = c1;
             at = w1;
             continue;
         }
         if cur.kind != Kind::IF_KW {
-            return WithCount::Done(cur, at, n);
+            return Ok(Done(cur, at, n));
         }
-        let b = expr(src, out, eat_any(src, cur), at, left, set, 0);
-        let Answer::Done(c2, w2, _) = b else {
-            return b;
-        };
+        let Done(c2, w2, _) = expr(src, out, eat_any(src, cur), at, left, set, 0)?;
         at = writers::put_mark(out, w2, Tag::IF_CLAUSE, cur.start, cur.end);
         n += 1;
         cur = c2;
@@ -740,7 +620,7 @@ fn specs(src: &[u8], out: &mut [u8], c: Cursor, w: usize, left: usize, set: u64)
 #[cycle(phrase)]
 fn inside(src: &[u8], out: &mut [u8], c: Cursor, w: usize, left: usize, set: u64) -> Answer
     requires { Ready src.now c w }
-    ensures { Takes set src.now (sub insidePhrase) 1 7 left c w out.old result out.new }
+    ensures { Takes set src.now (sub inside_phrase) 1 7 left c w out.old result out.new }
 {
     if c.kind == Kind::R_BRACE {
         return members_close(out, c, w, 0);
@@ -750,10 +630,7 @@ fn inside(src: &[u8], out: &mut [u8], c: Cursor, w: usize, left: usize, set: u64
     let mut n: usize = 0;
     let mut fault: usize = 4;
     loop {
-        let a = member(src, out, cur, at, left, set);
-        let Answer::Done(c1, w1, _) = a else {
-            return a;
-        };
+        let Done(c1, w1, _) = member(src, out, cur, at, left, set)?;
         n += 1;
         at = w1;
         fault = with_member(fault, cur.kind);
@@ -785,51 +662,39 @@ fn comp(
     requires { Ready src.now c w × (c.kind ≡ FOR_KW) × (n ≤ c.at) × (fault ≤ 4) }
     ensures { Leads set src.now left (state (goto (comprehension fault)) n c w out.old) 7 end 1 result out.new }
 {
-    let a = specs(src, out, c, w, left, set);
-    let WithCount::Done(c1, w1, m) = a else {
-        return a;
-    };
+    let Done(c1, w1, m) = specs(src, out, c, w, left, set)?;
     if fault != 0 {
         return error(c1, Number::MISPLACED, fault);
     }
     let w2 = writers::put_counts(out, w1, n, m);
-    Answer::Done(c1, w2, 1)
+    Ok(Done(c1, w2, 1))
 }
 
 // expr_basic: basic.
 #[cycle(phrase)]
 fn basic(src: &[u8], out: &mut [u8], c: Cursor, w: usize, left: usize, set: u64) -> Answer
     requires { Ready src.now c w }
-    ensures { Takes set src.now (sub basicPhrase) 1 0 left c w out.old result out.new }
+    ensures { Takes set src.now (sub basic_phrase) 1 0 left c w out.old result out.new }
 {
     let kind = c.kind;
     match kind {
         Kind::L_PAREN => {
-            let a = expr(src, out, eat_any(src, c), w, left, set, 0);
-            let Answer::Done(c1, w1, _) = a else {
-                return a;
-            };
+            let Done(c1, w1, _) = expr(src, out, eat_any(src, c), w, left, set, 0)?;
             eat(src, c1, w1, Kind::R_PAREN)
         }
         Kind::L_BRACK => array(src, out, eat_any(src, c), w, left, set),
         Kind::L_BRACE => {
-            let a = inside(src, out, eat_any(src, c), w, left, set);
-            let Answer::Done(c1, w1, _) = a else {
-                return a;
-            };
-            eat(src, c1, w1, Kind::R_BRACE)
+            let Done(c2, w2, _) = inside(src, out, eat_any(src, c), w, left, set)?;
+            eat(src, c2, w2, Kind::R_BRACE)
         }
         Kind::LOCAL_KW => local(src, out, eat_any(src, c), w, left, set),
         Kind::IF_KW => cond(src, out, c, w, left, set),
         Kind::FUNCTION_KW => func(src, out, c, w, left, set),
         Kind::ASSERT_KW => claim(src, out, c, w, left, set),
         Kind::ERROR_KW => {
-            let a = expr(src, out, eat_any(src, c), w, left, set, 0);
-            let Answer::Done(c1, w1, _) = a else {
-                return a;
-            };
-            let w2 = writers::put_mark(out, w1, Tag::ERROR, c.start, c.end);
-            Answer::Done(c1, w2, 1)
+            let Done(c3, w3, _) = expr(src, out, eat_any(src, c), w, left, set, 0)?;
+            let w2 = writers::put_mark(out, w3, Tag::ERROR, c.start, c.end);
+            Ok(Done(c3, w2, 1))
         }
         Kind::IMPORTSTR_KW => load(src, out, c, w, left, set, 1),
         Kind::IMPORTBIN_KW => load(src, out, c, w, left, set, 2),
@@ -842,21 +707,15 @@ fn basic(src: &[u8], out: &mut [u8], c: Cursor, w: usize, left: usize, set: u64)
 #[cycle(phrase)]
 fn array(src: &[u8], out: &mut [u8], c: Cursor, w: usize, left: usize, set: u64) -> Answer
     requires { Ready src.now c w }
-    ensures { Leads set src.now left (state (goto arrayPhrase) 0 c w out.old) 0 end 1 result out.new }
+    ensures { Leads set src.now left (state (goto array_phrase) 0 c w out.old) 0 end 1 result out.new }
 {
     if c.kind == Kind::R_BRACK {
         return array_close(src, out, c, w, Tag::ARRAY, 0);
     }
-    let a = expr(src, out, c, w, left, set, 0);
-    let Answer::Done(c1, w1, _) = a else {
-        return a;
-    };
+    let Done(c1, w1, _) = expr(src, out, c, w, left, set, 0)?;
     let mut next = past_comma(src, c1);
     if next.kind == Kind::FOR_KW {
-        let d = specs(src, out, next, w1, left, set);
-        let WithCount::Done(c2, w2, m) = d else {
-            return d;
-        };
+        let Done(c2, w2, m) = specs(src, out, next, w1, left, set)?;
         return array_close(src, out, c2, w2, Tag::ARRAY_COMP, m);
     }
     let mut cur = c1;
@@ -869,14 +728,11 @@ fn array(src: &[u8], out: &mut [u8], c: Cursor, w: usize, left: usize, set: u64)
         if next.kind == Kind::R_BRACK {
             return array_close(src, out, next, at, Tag::ARRAY, n);
         }
-        let b = expr(src, out, next, at, left, set, 0);
-        let Answer::Done(c2, w2, _) = b else {
-            return b;
-        };
+        let Done(c3, w3, _) = expr(src, out, next, at, left, set, 0)?;
         n += 1;
-        cur = c2;
-        at = w2;
-        next = past_comma(src, c2);
+        cur = c3;
+        at = w3;
+        next = past_comma(src, c3);
     }
 }
 
@@ -893,10 +749,7 @@ fn local(src: &[u8], out: &mut [u8], c: Cursor, w: usize, left: usize, set: u64)
         if cur.kind == Kind::SEMI {
             return body(src, out, cur, at, left, set, n);
         }
-        let a = bind(src, out, cur, at, left, set);
-        let Answer::Done(c1, w1, _) = a else {
-            return a;
-        };
+        let Done(c1, w1, _) = bind(src, out, cur, at, left, set)?;
         n += 1;
         at = w1;
         if c1.kind != Kind::COMMA {
@@ -912,78 +765,48 @@ fn body(src: &[u8], out: &mut [u8], c: Cursor, w: usize, left: usize, set: u64, 
     requires { Ready src.now c w × (n ≤ c.at) }
     ensures { Leads set src.now left (state (goto local_body) n c w out.old) 0 end 1 result out.new }
 {
-    let a = eat(src, c, w, Kind::SEMI);
-    let Answer::Done(c1, w1, _) = a else {
-        return a;
-    };
-    let b = expr(src, out, c1, w1, left, set, 0);
-    let Answer::Done(c2, w2, _) = b else {
-        return b;
-    };
+    let Done(c1, w1, _) = eat(src, c, w, Kind::SEMI)?;
+    let Done(c2, w2, _) = expr(src, out, c1, w1, left, set, 0)?;
     let w3 = writers::put_count(out, w2, Tag::LOCAL, n);
-    Answer::Done(c2, w3, 1)
+    Ok(Done(c2, w3, 1))
 }
 
 // expr_basic's function: basic at `function`, function-body.
 #[cycle(phrase)]
 fn func(src: &[u8], out: &mut [u8], c: Cursor, w: usize, left: usize, set: u64) -> Answer
     requires { Ready src.now c w × (c.kind ≡ FUNCTION_KW) }
-    ensures { Leads set src.now left (state (goto basicPhrase) 0 c w out.old) 0 end 1 result out.new }
+    ensures { Leads set src.now left (state (goto basic_phrase) 0 c w out.old) 0 end 1 result out.new }
 {
-    let a = eat(src, eat_any(src, c), w, Kind::L_PAREN);
-    let Answer::Done(c1, w1, _) = a else {
-        return a;
-    };
-    let b = params(src, out, c1, w1, left, set);
-    let WithCount::Done(c2, w2, n) = b else {
-        return b;
-    };
-    let d = eat(src, c2, w2, Kind::R_PAREN);
-    let Answer::Done(c3, w3, _) = d else {
-        return d;
-    };
-    let e = expr(src, out, c3, w3, left, set, 0);
-    let Answer::Done(c4, w4, _) = e else {
-        return e;
-    };
+    let Done(c1, w1, _) = eat(src, eat_any(src, c), w, Kind::L_PAREN)?;
+    let Done(c2, w2, n) = params(src, out, c1, w1, left, set)?;
+    let Done(c3, w3, _) = eat(src, c2, w2, Kind::R_PAREN)?;
+    let Done(c4, w4, _) = expr(src, out, c3, w3, left, set, 0)?;
     let w5 = writers::put_function(out, w4, c.start, c.end, n);
-    Answer::Done(c4, w5, 1)
+    Ok(Done(c4, w5, 1))
 }
 
 // expr_basic's assert: basic at `assert`.
 #[cycle(phrase)]
 fn claim(src: &[u8], out: &mut [u8], c: Cursor, w: usize, left: usize, set: u64) -> Answer
     requires { Ready src.now c w × (c.kind ≡ ASSERT_KW) }
-    ensures { Leads set src.now left (state (goto basicPhrase) 0 c w out.old) 0 end 1 result out.new }
+    ensures { Leads set src.now left (state (goto basic_phrase) 0 c w out.old) 0 end 1 result out.new }
 {
-    let a = assert(src, out, c, w, left, set);
-    let Answer::Done(c1, w1, _) = a else {
-        return a;
-    };
-    let b = eat(src, c1, w1, Kind::SEMI);
-    let Answer::Done(c2, w2, _) = b else {
-        return b;
-    };
-    let d = expr(src, out, c2, w2, left, set, 0);
-    let Answer::Done(c3, w3, _) = d else {
-        return d;
-    };
+    let Done(c1, w1, _) = assert(src, out, c, w, left, set)?;
+    let Done(c2, w2, _) = eat(src, c1, w1, Kind::SEMI)?;
+    let Done(c3, w3, _) = expr(src, out, c2, w2, left, set, 0)?;
     let w4 = writers::put_none(out, w3, Tag::ASSERT_EXPR);
-    Answer::Done(c3, w4, 1)
+    Ok(Done(c3, w4, 1))
 }
 
 // expr_basic's imports, whose kind is which: basic at `import`, `importstr`, `importbin`.
 #[cycle(phrase)]
 fn load(src: &[u8], out: &mut [u8], c: Cursor, w: usize, left: usize, set: u64, which: u8) -> Answer
     requires { Ready src.now c w × Imports c.kind which }
-    ensures { Leads set src.now left (state (goto basicPhrase) 0 c w out.old) 0 end 1 result out.new }
+    ensures { Leads set src.now left (state (goto basic_phrase) 0 c w out.old) 0 end 1 result out.new }
 {
-    let a = expr(src, out, eat_any(src, c), w, left, set, 0);
-    let Answer::Done(c1, w1, _) = a else {
-        return a;
-    };
+    let Done(c1, w1, _) = expr(src, out, eat_any(src, c), w, left, set, 0)?;
     let w2 = writers::put_kind(out, w1, Tag::IMPORT, which, c.start, c.end);
-    Answer::Done(c1, w2, 1)
+    Ok(Done(c1, w2, 1))
 }
 
 // expr_suffix: suffixed, and the loop over its suffixes.
@@ -992,21 +815,15 @@ fn chain(src: &[u8], out: &mut [u8], c: Cursor, w: usize, left: usize, set: u64)
     requires { Ready src.now c w }
     ensures { Takes set src.now (sub suffixed) 1 0 left c w out.old result out.new }
 {
-    let a = basic(src, out, c, w, left, set);
-    let Answer::Done(c1, w1, _) = a else {
-        return a;
-    };
+    let Done(c1, w1, _) = basic(src, out, c, w, left, set)?;
     let mut cur = c1;
     let mut at = w1;
     let mut first: usize = 1;
     loop {
-        if suffix_at(cur.kind, set) == 0 {
-            return Answer::Done(cur, at, 1);
+        if !suffix_at(cur.kind, set) {
+            return Ok(Done(cur, at, 1));
         }
-        let b = link(src, out, cur, at, left, set, first);
-        let WithFirst::Done(c2, w2, f) = b else {
-            return b;
-        };
+        let Done(c2, w2, f) = link(src, out, cur, at, left, set, first)?;
         cur = c2;
         at = w2;
         first = f;
@@ -1024,8 +841,8 @@ fn link(
     set: u64,
     first: usize,
 ) -> WithFirst
-    requires { Ready src.now c w × Suffixed set c.kind 1 × (first ≤ 4) }
-    ensures { TellsSome set src.now left (state (goto (suffixPhrase first)) 1 c w out.old) suffixes 1 result out.new }
+    requires { Ready src.now c w × Suffixed set c.kind true × (first ≤ 4) }
+    ensures { TellsSome set src.now left (state (goto (suffix_phrase first)) 1 c w out.old) suffixes 1 result out.new }
 {
     let kind = c.kind;
     let c1 = eat_any(src, c);
@@ -1035,16 +852,10 @@ fn link(
         Kind::L_BRACK => index(src, out, c1, w, left, set, first),
         Kind::L_PAREN => args(src, out, c1, w, left, set, c.start),
         _ => {
-            let a = inside(src, out, c1, w, left, set);
-            let Answer::Done(c2, w2, _) = a else {
-                return a;
-            };
-            let b = eat(src, c2, w2, Kind::R_BRACE);
-            let Answer::Done(c3, w3, _) = b else {
-                return b;
-            };
+            let Done(c2, w2, _) = inside(src, out, c1, w, left, set)?;
+            let Done(c3, w3, _) = eat(src, c2, w2, Kind::R_BRACE)?;
             let w4 = writers::put_none(out, w3, Tag::EXTENSION);
-            WithFirst::Done(c3, w4, 1)
+            Ok(Done(c3, w4, 1))
         }
     }
 }
@@ -1063,24 +874,15 @@ fn safe(
     requires { Ready src.now c w × (first ≤ 4) }
     ensures { Tells set src.now left (state (safely first) 1 c w out.old) suffixes 1 result out.new }
 {
-    let a = eat(src, c, w, Kind::DOT);
-    let Answer::Done(c1, w1, _) = a else {
-        return a;
-    };
+    let Done(c1, w1, _) = eat(src, c, w, Kind::DOT)?;
     if c1.kind != Kind::L_BRACK {
         return member_name(src, out, c1, w1, first, 1);
     }
     let c2 = eat_any(src, c1);
-    let b = expr(src, out, c2, w1, left, set, 0);
-    let Answer::Done(c3, w3, _) = b else {
-        return b;
-    };
-    let d = eat(src, c3, w3, Kind::R_BRACK);
-    let Answer::Done(c4, w4, _) = d else {
-        return d;
-    };
+    let Done(c3, w3, _) = expr(src, out, c2, w1, left, set, 0)?;
+    let Done(c4, w4, _) = eat(src, c3, w3, Kind::R_BRACK)?;
     let w5 = records::put_index(out, w4, c2.start, c3.at, first, 1);
-    WithFirst::Done(c4, w5, 0)
+    Ok(Done(c4, w5, 0))
 }
 
 // expr_suffix, after `[`: bracket, index-or-slice.
@@ -1109,10 +911,7 @@ fn index(
             Span { start: 0, end: 0 },
         );
     }
-    let a = expr(src, out, c, w, left, set, 0);
-    let Answer::Done(c1, w1, _) = a else {
-        return a;
-    };
+    let Done(c1, w1, _) = expr(src, out, c, w, left, set, 0)?;
     if c1.kind == Kind::COLON {
         let x = Span {
             start: c.start,
@@ -1120,30 +919,23 @@ fn index(
         };
         return slice(src, out, eat_any(src, c1), w1, left, set, 1, x);
     }
-    let b = eat(src, c1, w1, Kind::R_BRACK);
-    let Answer::Done(c2, w2, _) = b else {
-        return b;
-    };
+    let Done(c2, w2, _) = eat(src, c1, w1, Kind::R_BRACK)?;
     let w3 = records::put_index(out, w2, c.start, c1.at, first, 0);
-    WithFirst::Done(c2, w3, 0)
+    Ok(Done(c2, w3, 0))
 }
 
 // expr_bp up to its loop: expr.
 #[cycle(phrase)]
 fn sign(src: &[u8], out: &mut [u8], c: Cursor, w: usize, left: usize, set: u64, least: u8) -> Answer
     requires { Ready src.now c w }
-    ensures { Leads set src.now left (state (goto (exprPhrase least)) 0 c w out.old) 0 (goto (infix_tail least)) 1 result out.new }
+    ensures { Leads set src.now left (state (goto (expr_phrase least)) 0 c w out.old) 0 (goto (infix_tail least)) 1 result out.new }
 {
-    let p = unary_op(c.kind);
-    let Prefix::Unary(o) = p else {
+    let Some(o) = unary_op(c.kind) else {
         return chain(src, out, c, w, left, set);
     };
-    let a = expr(src, out, eat_any(src, c), w, left, set, prefix_power(set));
-    let Answer::Done(c1, w1, _) = a else {
-        return a;
-    };
+    let Done(c1, w1, _) = expr(src, out, eat_any(src, c), w, left, set, prefix_power(set))?;
     let w2 = writers::put_flag(out, w1, Tag::PREFIX, o);
-    Answer::Done(c1, w2, 1)
+    Ok(Done(c1, w2, 1))
 }
 
 // expr_bp: expr, one level deeper, infix-tail.
@@ -1158,30 +950,23 @@ pub fn expr(
     least: u8,
 ) -> Answer
     requires { Ready src.now c w }
-    ensures { Takes set src.now (deep (exprPhrase least)) 1 0 left c w out.old result out.new }
+    ensures { Takes set src.now (deep (expr_phrase least)) 1 0 left c w out.old result out.new }
 {
     if left == 0 {
         return error(c, Number::DEPTH, 0);
     }
-    let a = sign(src, out, c, w, left - 1, set, least);
-    let Answer::Done(c1, w1, _) = a else {
-        return a;
-    };
+    let Done(c1, w1, _) = sign(src, out, c, w, left - 1, set, least)?;
     let mut cur = c1;
     let mut at = w1;
     loop {
-        let b = operators::infix(set, cur.kind);
-        let Infix::Binary(o, lbp, rbp) = b else {
-            return Answer::Done(cur, at, 1);
+        let Some(op) = operators::infix(set, cur.kind) else {
+            return Ok(Done(cur, at, 1));
         };
-        if lbp < least {
-            return Answer::Done(cur, at, 1);
+        if op.left < least {
+            return Ok(Done(cur, at, 1));
         }
-        let d = expr(src, out, eat_any(src, cur), at, left - 1, set, rbp);
-        let Answer::Done(c2, w2, _) = d else {
-            return d;
-        };
-        at = writers::put_kind(out, w2, Tag::INFIX, o, cur.start, cur.end);
+        let Done(c2, w2, _) = expr(src, out, eat_any(src, cur), at, left - 1, set, op.right)?;
+        at = writers::put_kind(out, w2, Tag::INFIX, op.byte, cur.start, cur.end);
         cur = c2;
     }
 }

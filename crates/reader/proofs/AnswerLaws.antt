@@ -15,9 +15,9 @@ use Rattle.grammar.specs.Answer.{Answer, Verdict, refused, tree, Judged, answer,
 use Rattle.grammar.specs.Source.{Bad, Kept, Reads01}
 use Rattle.grammar.proofs.Whole.{Accepted, Parsed, parsed, judged_tree}
 use Rattle.grammar.proofs.Source.{lexing}
-use Rattle.reader.specs.Reader.{numbers}
-use Rattle.reader.specs.declared.Reading.{Reading}
-use Rattle.reader.specs.declared.Reading.TheVariants.{Tree, Setting, Long, Encoding, Lexeme, Wanted, Absent, Expression, Misplaced, Escape, Depth, Room, Large}
+use Rattle.reader.specs.Reader.{Reading, numbers}
+use Rattle.std.specs.Prelude.{Ok, Err}
+use Rattle.reader.specs.declared.Unread.TheVariants.{Setting, Long, Encoding, Lexeme, Wanted, Absent, Expression, Misplaced, Escape, Depth, Room, Large}
 
 -- ── The case that has these numbers ───────────────────────────────────────────────────────────────
 
@@ -26,35 +26,35 @@ case_of a = by (eqb a.number)
   where
     by : (ℕ → Bool) → Reading
     by is =
-        cond (is TREE) (Tree a.size)
-        (cond (is SETTING) Setting
-        (cond (is LONG) Long
-        (cond (is ENCODING) (Encoding a.start)
-        (cond (is LEXEME) (Lexeme a.start a.stop a.detail)
-        (cond (is WANTED) (Wanted a.start a.stop a.detail)
-        (cond (is ABSENT) (Absent a.start a.stop a.detail)
-        (cond (is EXPRESSION) (Expression a.start a.stop)
-        (cond (is MISPLACED) (Misplaced a.start a.stop a.detail)
-        (cond (is ESCAPE) (Escape a.start a.stop a.detail)
-        (cond (is DEPTH) (Depth a.start a.stop)
-        (cond (is ROOM) (Room a.size)
-        (Large a.start a.stop))))))))))))
+        cond (is TREE) (Ok a.size)
+        (cond (is SETTING) (Err Setting)
+        (cond (is LONG) (Err Long)
+        (cond (is ENCODING) (Err (Encoding a.start))
+        (cond (is LEXEME) (Err (Lexeme a.start a.stop a.detail))
+        (cond (is WANTED) (Err (Wanted a.start a.stop a.detail))
+        (cond (is ABSENT) (Err (Absent a.start a.stop a.detail))
+        (cond (is EXPRESSION) (Err (Expression a.start a.stop))
+        (cond (is MISPLACED) (Err (Misplaced a.start a.stop a.detail))
+        (cond (is ESCAPE) (Err (Escape a.start a.stop a.detail))
+        (cond (is DEPTH) (Err (Depth a.start a.stop))
+        (cond (is ROOM) (Err (Room a.size))
+        (Err (Large a.start a.stop)))))))))))))
 
 case_back : (r : Reading) → case_of (numbers r) ≡ r
 unfolding numbers case_of
-case_back (Tree n) = refl
-case_back Setting = refl
-case_back Long = refl
-case_back (Encoding n) = refl
-case_back (Lexeme a e k) = refl
-case_back (Wanted a e k) = refl
-case_back (Absent a e x) = refl
-case_back (Expression a e) = refl
-case_back (Misplaced a e x) = refl
-case_back (Escape a e x) = refl
-case_back (Depth a e) = refl
-case_back (Room n) = refl
-case_back (Large a e) = refl
+case_back (Ok n) = refl
+case_back (Err Setting) = refl
+case_back (Err Long) = refl
+case_back (Err (Encoding n)) = refl
+case_back (Err (Lexeme a e k)) = refl
+case_back (Err (Wanted a e k)) = refl
+case_back (Err (Absent a e x)) = refl
+case_back (Err (Expression a e)) = refl
+case_back (Err (Misplaced a e x)) = refl
+case_back (Err (Escape a e x)) = refl
+case_back (Err (Depth a e)) = refl
+case_back (Err (Room n)) = refl
+case_back (Err (Large a e)) = refl
 
 -- No two cases have the same numbers.
 pub same_case : (r r' : Reading) → numbers r ≡ numbers r' → r ≡ r'
@@ -93,7 +93,7 @@ module _ (room : ℕ) (ts : Trees) where
   out_by_room : Bool → List ℕ
   out_by_room b = cond b (image ts ++ replicate (room - length (image ts)) 0) (replicate room 0)
 
-  pub fits-answer : length (image ts) ≤ room → answer room (tree ts) ≡ numbers (Tree (length (image ts)))
+  pub fits-answer : length (image ts) ≤ room → answer room (tree ts) ≡ numbers (Ok (length (image ts)))
   unfolding answer numbers by_room
   fits-answer h = ap by_room (le-leb (length (image ts)) room h)
 
@@ -101,7 +101,7 @@ module _ (room : ℕ) (ts : Trees) where
   unfolding output out_by_room
   fits-output h = ap out_by_room (le-leb (length (image ts)) room h)
 
-  pub lacks_answer : room < length (image ts) → answer room (tree ts) ≡ numbers (Room (length (image ts)))
+  pub lacks_answer : room < length (image ts) → answer room (tree ts) ≡ numbers (Err (Room (length (image ts))))
   unfolding answer numbers by_room
   lacks_answer h = ap by_room (lt-leb (length (image ts)) room h)
 
@@ -110,11 +110,11 @@ module _ (room : ℕ) (ts : Trees) where
   lacks_output h = ap out_by_room (lt-leb (length (image ts)) room h)
 
   -- and back
-  pub tree-answer : (n : ℕ) → numbers (Tree n) ≡ answer room (tree ts) → (n ≡ length (image ts)) × (length (image ts) ≤ room)
+  pub tree-answer : (n : ℕ) → numbers (Ok n) ≡ answer room (tree ts) → (n ≡ length (image ts)) × (length (image ts) ≤ room)
   unfolding numbers answer
   tree-answer n e = (ap (λ (a : Answer). a.size) e, leb-true (length (image ts)) room (has_room (leb (length (image ts)) room) (ap (λ (a : Answer). a.number) e)))
 
-  pub room_answer : (n : ℕ) → numbers (Room n) ≡ answer room (tree ts) → (n ≡ length (image ts)) × (room < length (image ts))
+  pub room_answer : (n : ℕ) → numbers (Err (Room n)) ≡ answer room (tree ts) → (n ≡ length (image ts)) × (room < length (image ts))
   unfolding numbers answer
   room_answer n e = (ap (λ (a : Answer). a.size) e, leb-false (length (image ts)) room (no_room (leb (length (image ts)) room) (ap (λ (a : Answer). a.number) e)))
 

@@ -24,8 +24,7 @@ use Rattle.grammar.specs.SameAnswers.{SameDetail, SameVerdict, equal, as_far, tr
 use Rattle.grammar.proofs.ImageLaws.{alike_length}
 use Rattle.grammar.proofs.Source.{reads_fit}
 use Rattle.grammar.proofs.SameSources.{same_judged}
-use Rattle.reader.specs.Reader.{numbers, Reads}
-use Rattle.reader.specs.declared.Reading.{Reading}
+use Rattle.reader.specs.Reader.{Reading, numbers, Reads}
 use Rattle.reader.proofs.AnswerLaws.{has_room}
 
 -- What two answers, and the two outputs of so many bytes that are left, have in common.

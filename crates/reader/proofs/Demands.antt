@@ -23,9 +23,9 @@ use Rattle.grammar.proofs.SpelledSources.{read_is_spelled, spelled_is_read, one_
 use Rattle.grammar.proofs.Whole.{Accepted, Fifth, one_tree}
 use Rattle.grammar.proofs.Source.{lexing, reads_once, larger_setting, smaller_setting}
 use Rattle.grammar.proofs.Signs.{no_sign_without_8, no_sign_with_8}
-use Rattle.reader.specs.Reader.{refusal, numbers, Reads}
-use Rattle.reader.specs.declared.Reading.{Reading}
-use Rattle.reader.specs.declared.Reading.TheVariants.{Tree, Room}
+use Rattle.reader.specs.Reader.{Reading, refusal, numbers, Reads}
+use Rattle.std.specs.Prelude.{Ok, Err}
+use Rattle.reader.specs.declared.Unread.TheVariants.{Room}
 use Rattle.reader.proofs.AnswerLaws.{same_case, HasTree, derived_judged, accepted_derived, tree-answer, room_answer, fits-answer, fits-output, lacks_answer, refusal-output}
 use contract.Lifetimes.{Lfts}
 use borrow.Fn.Kinds.{Dens}
@@ -77,7 +77,7 @@ module _ (setting : ℕ) (source out : List ℕ) (reading : Reading) (out' : Lis
   -- ── Demand 2: a tree exactly for what the rules derive, the only one, and the refusal otherwise ───
 
   -- A tree that is answered is derived, and the output has its image, with zeros after it.
-  pub tree_is_derived : (n : ℕ) → reading ≡ Tree n → (ts : Trees) × HasTree setting source ts × (n ≡ length (image ts)) × (out' ≡ image ts ++ replicate (length out - length (image ts)) 0)
+  pub tree_is_derived : (n : ℕ) → reading ≡ Ok n → (ts : Trees) × HasTree setting source ts × (n ≡ length (image ts)) × (out' ≡ image ts ++ replicate (length out - length (image ts)) 0)
   unfolding numbers
   tree_is_derived n q =
       let p = accepted_derived x (inl (ap (λ (r : Reading). (numbers r).number) q)) in
@@ -85,7 +85,7 @@ module _ (setting : ℕ) (source out : List ℕ) (reading : Reading) (out' : Lis
       (p.0, p.1, e.0, p.3 ∙ fits-output (length out) p.0 e.1)
 
   -- A tree that is refused for room is derived, and there is no room for it.
-  pub room_is_derived : (n : ℕ) → reading ≡ Room n → (ts : Trees) × HasTree setting source ts × (n ≡ length (image ts)) × (length out < length (image ts))
+  pub room_is_derived : (n : ℕ) → reading ≡ Err (Room n) → (ts : Trees) × HasTree setting source ts × (n ≡ length (image ts)) × (length out < length (image ts))
   unfolding numbers
   room_is_derived n q =
       let p = accepted_derived x (inr (ap (λ (r : Reading). (numbers r).number) q)) in
@@ -93,10 +93,10 @@ module _ (setting : ℕ) (source out : List ℕ) (reading : Reading) (out' : Lis
       (p.0, p.1, e.0, e.1)
 
   -- A tree that is derived is answered, and is refused only for room.
-  pub derived_is_tree : (ts : Trees) → HasTree setting source ts → length (image ts) ≤ length out → reading ≡ Tree (length (image ts))
+  pub derived_is_tree : (ts : Trees) → HasTree setting source ts → length (image ts) ≤ length out → reading ≡ Ok (length (image ts))
   derived_is_tree ts d h = same_case _ _ ((answers_found (derived_judged d)).0 ∙ fits-answer (length out) ts h)
 
-  pub derived_is_room : (ts : Trees) → HasTree setting source ts → length out < length (image ts) → reading ≡ Room (length (image ts))
+  pub derived_is_room : (ts : Trees) → HasTree setting source ts → length out < length (image ts) → reading ≡ Err (Room (length (image ts)))
   derived_is_room ts d h = same_case _ _ ((answers_found (derived_judged d)).0 ∙ lacks_answer (length out) ts h)
 
   -- What the rules refuse is refused as they say.
@@ -105,16 +105,16 @@ module _ (setting : ℕ) (source out : List ℕ) (reading : Reading) (out' : Lis
   refused_is_refused n a e d j = answers_found j
 
   -- The same, told without a parser: a tree that is answered is spelled, greedily and within the limits; so is one that is refused for room.
-  pub tree_is_spelled : (n : ℕ) → reading ≡ Tree n
+  pub tree_is_spelled : (n : ℕ) → reading ≡ Ok n
       → (ts : Trees) × Spelled document_01 setting source ts × (n ≡ length (image ts)) × (out' ≡ image ts ++ replicate (length out - length (image ts)) 0)
   tree_is_spelled n q = let z = tree_is_derived n q in (z.0, derived_is_spelled z.1, z.2, z.3)
 
-  pub room_is_spelled : (n : ℕ) → reading ≡ Room n → (ts : Trees) × Spelled document_01 setting source ts × (n ≡ length (image ts)) × (length out < length (image ts))
+  pub room_is_spelled : (n : ℕ) → reading ≡ Err (Room n) → (ts : Trees) × Spelled document_01 setting source ts × (n ≡ length (image ts)) × (length out < length (image ts))
   room_is_spelled n q = let z = room_is_derived n q in (z.0, derived_is_spelled z.1, z.2, z.3)
 
   -- And a tree that is spelled so is answered, that one but for spans, and is refused only for room.
   pub spelled_is_tree : (t : Trees) → Spelled document_01 setting source t
-      → (ts : Trees) × Alike t ts × (length (image ts) ≤ length out → reading ≡ Tree (length (image ts))) × (length out < length (image ts) → reading ≡ Room (length (image ts)))
+      → (ts : Trees) × Alike t ts × (length (image ts) ≤ length out → reading ≡ Ok (length (image ts))) × (length out < length (image ts) → reading ≡ Err (Room (length (image ts))))
   spelled_is_tree t y = let z = spelled_is_derived y in (z.0, z.2, derived_is_tree z.0 z.1, derived_is_room z.0 z.1)
 
   -- A source that is spelled greedily, within whatever levels, is refused with number 11 exactly when it isn't within 200.

@@ -9,16 +9,15 @@ use Rattle.grammar.specs.Image.{image}
 use Rattle.grammar.specs.Answer.{tree, Judged, document_01}
 use Rattle.grammar.specs.Source.{Bad, Kept}
 use Rattle.grammar.proofs.Marked.{Claim, reads, refuses, Holds, Each, Every, each_so, every_so, marked, further, marked_readings, further_readings}
-use Rattle.reader.specs.Reader.{refusal, numbers, Reads}
-use Rattle.reader.specs.declared.Reading.{Reading}
-use Rattle.reader.specs.declared.Reading.TheVariants.{Tree}
+use Rattle.reader.specs.Reader.{Reading, refusal, numbers, Reads}
+use Rattle.std.specs.Prelude.{Ok}
 use Rattle.reader.proofs.AnswerLaws.{same_case, fits-answer, fits-output}
 use Rattle.reader.proofs.Demands.{answers_found, refused_is_refused}
 
 -- Where there is room for the image, it is answered and stands in the output, with zeros after it; a refusal is answered whatever the room, and leaves zeros.
 abbrev pub Answered : Claim → Type 0
 Answered (reads s bytes img) =
-    (out : List ℕ) (r : Reading) (out' : List ℕ) → length img ≤ length out → Reads s bytes out r out' → (r ≡ Tree (length img)) × (out' ≡ img ++ replicate (length out - length img) 0)
+    (out : List ℕ) (r : Reading) (out' : List ℕ) → length img ≤ length out → Reads s bytes out r out' → (r ≡ Ok (length img)) × (out' ≡ img ++ replicate (length out - length img) 0)
 Answered (refuses s bytes n a e x) = (out : List ℕ) (r : Reading) (out' : List ℕ) → Reads s bytes out r out' → (numbers r ≡ refusal n a e x) × (out' ≡ replicate (length out) 0)
 
 tree-answered : (s : ℕ) (bytes : List ℕ) (ts : Trees) → Judged Bad Kept document_01 s bytes (tree ts) → Answered (reads s bytes (image ts))

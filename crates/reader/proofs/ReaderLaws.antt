@@ -6,8 +6,6 @@ use mathlib.Core.List.{List, [], ◌∷◌, ◌++◌, append-nil}
 use mathlib.Core.Logic.{◌⊎◌, inl, inr}
 use Prim.Native.Nat.{ℕ, ◌+◌, ◌-◌, ◌≤◌, ◌<◌}
 use native.Mathlib.Omega.{arith}
-use denote.Enum.Declared.{tag_of}
-use types.Run.{OneOf, miss}
 use borrow.Author.Tests.{ne_eqb, eqb-true, not-true, not-false}
 use lib.Dec.{eqb}
 use lib.ListN.{length, take, drop, replicate, length-drop, drop_of_length-le}
@@ -36,14 +34,13 @@ use Rattle.grammar.proofs.Source.{told_always, lexing}
 use Rattle.grammar.proofs.Taken.{tree_kept}
 use Rattle.leaves.specs.Lexing.{Left, over, more, Stands}
 use Rattle.leaves.specs.Meets.{power, state, Seg, Breaks, Takes}
-use Rattle.reader.specs.Reader.{refusal, numbers, written, Admitted, Met, Parsed, Parses, Finds, Reads}
+use Rattle.reader.specs.Reader.{Reading, refusal, numbers, written, Admitted, Met, Parsed, Parses, Finds, Reads}
 use Rattle.leaves.specs.declared.Cursor.{Cursor}
 use Rattle.leaves.specs.declared.Refusal.{Refusal}
-use Rattle.leaves.specs.declared.Answer.{Answer}
-use Rattle.leaves.specs.declared.Answer.TheVariants.{Done, Broken}
-use Rattle.reader.specs.declared.Reading.{Reading}
-use Rattle.reader.specs.declared.Reading.TheVariants.{Tree, Setting, Long, Encoding, Lexeme, Wanted, Absent, Expression, Misplaced, Escape, Depth, Room, Large}
-use Rattle.reader.specs.contracts.Reading.{the_type}
+use Rattle.leaves.specs.Meets.{Answer}
+use Rattle.leaves.specs.declared.Done.{Done}
+use Rattle.std.specs.Prelude.{Ok, Err}
+use Rattle.reader.specs.declared.Unread.TheVariants.{Setting, Long, Encoding, Lexeme, Wanted, Absent, Expression, Misplaced, Escape, Depth, Room, Large}
 use Rattle.leaves.proofs.LexemeLaws.{sees}
 use Rattle.reader.proofs.AnswerLaws.{fits-answer, fits-output, lacks_answer, lacks_output}
 use Rattle.leaves.proofs.Steps
@@ -116,7 +113,7 @@ module _ {g : ℕ} {s out : List ℕ} {c : Cursor} {a : Answer} {out' : List ℕ
   to_start {xs} {o} r = subst (λ (p : ℕ). Derivation (power g) g source none 200 p xs o) at.0 r
 
   -- broken off
-  module _ {r : Refusal} (q : a ≡ Broken r) where
+  module _ {r : Refusal} (q : a ≡ Err r) where
     broke : Breaks g s 200 (state source 0 c 0 out) r
     broke = Steps.refused (t.takes (eat EOF ▸ end) 0) q
 
@@ -139,17 +136,17 @@ module _ {g : ℕ} {s out : List ℕ} {c : Cursor} {a : Answer} {out' : List ℕ
         let b = broke.breaks none some.0 refl (from_start some.1) in
         holds (met_with r.number r.detail) (met-in-reading (power g) g (to_start b.reading))
 
-    pub parses_broken : Parses g s out a out'
+    pub parses_broken : {b : Answer} → b ≡ Err r → Parses g s out b out'
     unfolding Parsed
-    parses_broken = record { parsed = subst⁻¹ (λ (y : Answer). Parsed g s out y out') q (refusal_made, refusal_met) }
+    parses_broken e = record { parsed = subst⁻¹ (λ (y : Answer). Parsed g s out y out') e (refusal_made, refusal_met) }
 
   -- done, up to a cursor
-  module _ {c₁ : Cursor} {w k : ℕ} (q : a ≡ Done c₁ w k) where
-    whole : Seg g s 200 (state source 0 c 0 out) 0 0 (state (eat EOF ▸ end) 1 c₁ w out')
+  module _ {x : Done} (q : a ≡ Ok x) where
+    whole : Seg g s 200 (state source 0 c 0 out) 0 0 (state (eat EOF ▸ end) 1 x.0 x.1 out')
     whole = Steps.led (t.takes (eat EOF ▸ end) 0) q
 
     -- with a lexeme there
-    more_made : ¬ (c₁.kind ≡ EOF) → Met g s (refused WANTED c₁.start c₁.end EOF)
+    more_made : ¬ (x.0.kind ≡ EOF) → Met g s (refused WANTED x.0.start x.0.end EOF)
     unfolding size verdict
     more_made n =
         met_by (λ xs l.
@@ -157,11 +154,11 @@ module _ {g : ℕ} {s out : List ℕ} {c : Cursor} {a : Answer} {out' : List ℕ
         let y = sees (whole.stands at.1) refl b.kept in (
           _,
           to_start (b.back _ (uneaten (λ e. n (sym y.kind ∙ e)))),
-          ap (λ (n : ℕ). refused WANTED n (stop_of c₁.at b.left) EOF) y.start ∙ ap (λ (n : ℕ). refused WANTED c₁.start n EOF) y.stop,
+          ap (λ (n : ℕ). refused WANTED n (stop_of x.0.at b.left) EOF) y.start ∙ ap (λ (n : ℕ). refused WANTED x.0.start n EOF) y.stop,
         ))
 
     -- with none
-    tree_made : c₁.kind ≡ EOF → Met g s (tree (whole.trees none))
+    tree_made : x.0.kind ≡ EOF → Met g s (tree (whole.trees none))
     unfolding size verdict
     tree_made e =
         met_by (λ xs l.
@@ -173,17 +170,17 @@ module _ {g : ℕ} {s out : List ℕ} {c : Cursor} {a : Answer} {out' : List ℕ
     unfolding image
     image_is = whole.imaged none
 
-    tree_long : w ≡ length (image (whole.trees none))
-    tree_long = let z : w ≡ 0 + length whole.bytes = whole.wrote in omega (arith, z, ap length image_is)
+    tree_long : x.1 ≡ length (image (whole.trees none))
+    tree_long = let z : x.1 ≡ 0 + length whole.bytes = whole.wrote in omega (arith, z, ap length image_is)
 
     tree_stored : out' ≡ sets out 0 (image (whole.trees none))
     tree_stored = whole.stored ∙ ap (λ (l : List ℕ). sets out 0 l) (sym image_is)
 
-    pub parses_more : {b : Answer} → ¬ (c₁.kind ≡ EOF) → b ≡ Broken (record { number = WANTED; place = c₁; detail = EOF }) → Parses g s out b out'
+    pub parses_more : {b : Answer} → ¬ (x.0.kind ≡ EOF) → b ≡ Err (record { number = WANTED; place = x.0; detail = EOF }) → Parses g s out b out'
     unfolding Parsed met_with
     parses_more n e = record { parsed = subst⁻¹ (λ (y : Answer). Parsed g s out y out') e (more_made n, refl) }
 
-    pub parses_tree : c₁.kind ≡ EOF → Parses g s out (Done c₁ w k) out'
+    pub parses_tree : x.0.kind ≡ EOF → Parses g s out (Ok x) out'
     unfolding Parsed
     parses_tree e = record { parsed = (whole.trees none, tree_made e, tree_long, tree_stored) }
 
@@ -230,22 +227,22 @@ module _ {g : ℕ} {s out out' : List ℕ} where
 
   -- what the phrases refuse, and what they have a tree of
   module _ {a : Answer} (ok : Admitted g s) (p : Parses g s out a out') where
-    refused_by : {r : Refusal} → a ≡ Broken r → Parsed g s out (Broken r) out'
+    refused_by : {r : Refusal} → a ≡ Err r → Parsed g s out (Err r) out'
     refused_by q = subst (λ (y : Answer). Parsed g s out y out') q p.parsed
 
-    pub broken_met : {r : Refusal} → a ≡ Broken r → met_with r.number r.detail ≡ true
+    pub broken_met : {r : Refusal} → a ≡ Err r → met_with r.number r.detail ≡ true
     unfolding Parsed
     broken_met q = (refused_by q).1
 
-    pub finds_broken : {r : Refusal} {y : Reading} {l : Range} → a ≡ Broken r → FirstBad s l → l.kind ≡ EOF → numbers y ≡ refusal r.number r.place.start r.place.end r.detail → Finds g s out y out'
+    pub finds_broken : {r : Refusal} {y : Reading} {l : Range} → a ≡ Err r → FirstBad s l → l.kind ≡ EOF → numbers y ≡ refusal r.number r.place.start r.place.end r.detail → Finds g s out y out'
     unfolding Parsed
     finds_broken q b z e = finds_refusal (judged_good ok b z (refused_by q).0) e
 
-    done_by : {c : Cursor} {w k : ℕ} → a ≡ Done c w k → Parsed g s out (Done c w k) out'
+    done_by : {x : Done} → a ≡ Ok x → Parsed g s out (Ok x) out'
     done_by q = subst (λ (y : Answer). Parsed g s out y out') q p.parsed
 
     -- without room
-    pub finds_long : {c : Cursor} {w k : ℕ} → a ≡ Done c w k → length out' < w → Finds g s out (Room w) out'
+    pub finds_long : {d : Done} → a ≡ Ok d → length out' < d.1 → Finds g s out (Err (Room d.1)) out'
     unfolding numbers written Parsed
     finds_long d h =
         let x = done_by d in
@@ -256,15 +253,15 @@ module _ {g : ℕ} {s out out' : List ℕ} where
         record {
           found = _;
           judged = judged_tree ok x.1;
-          told = ap (λ (n : ℕ). numbers (Room n)) q ∙ sym (lacks_answer (length out) ts z);
+          told = ap (λ (n : ℕ). numbers (Err (Room n))) q ∙ sym (lacks_answer (length out) ts z);
           room = omega arith;
           left = lacks_output (length out) ts z ∙ ap (λ (n : ℕ). replicate n 0) (sym (minus_none (length out)));
         }
 
     -- with room
-    pub finds_tree : {c : Cursor} {w k : ℕ} → a ≡ Done c w k → w ≤ length out' → Finds g s out (Tree w) out'
+    pub finds_tree : {d : Done} → a ≡ Ok d → d.1 ≤ length out' → Finds g s out (Ok d.1) out'
     unfolding numbers written Parsed
-    finds_tree {w = w} d h =
+    finds_tree {d = y} d h =
         let x = done_by d in
         let ts = x.0 in
         let q = x.2 in
@@ -274,12 +271,12 @@ module _ {g : ℕ} {s out out' : List ℕ} where
         record {
           found = _;
           judged = judged_tree ok x.1;
-          told = ap (λ (n : ℕ). numbers (Tree n)) q ∙ sym (fits-answer (length out) ts z);
+          told = ap (λ (n : ℕ). numbers (Ok n)) q ∙ sym (fits-answer (length out) ts z);
           room = omega (arith, q, z);
           left =
               fits-output (length out) ts z
               ∙ ap (λ (n : ℕ). image ts ++ replicate (length out - n) 0) (sym q)
-              ∙ ap (λ (l : List ℕ). l ++ replicate (length out - w) 0) (sym (ap (take w) p ∙ take_at (image ts) (drop (0 + length (image ts)) out) w (sym q)));
+              ∙ ap (λ (l : List ℕ). l ++ replicate (length out - y.1) 0) (sym (ap (take y.1) p ∙ take_at (image ts) (drop (0 + length (image ts)) out) y.1 (sym q)));
         }
 
   -- and what is beyond it cleared
@@ -299,23 +296,6 @@ module _ {g : ℕ} {s out out' : List ℕ} where
     where
       long : length (take (length out' - n) (drop n out')) ≡ length out - n
       long = ap length (take_all (length out' - n) (drop n out') (omega (arith, length-drop n out'))) ∙ length-drop n out' ∙ ap (λ (m : ℕ). m - n) k
-
--- Only a tree has an image.
-pub no_image : (r : Reading) → OneOf (1 ∷ 2 ∷ 3 ∷ 4 ∷ 5 ∷ 6 ∷ 7 ∷ 8 ∷ 9 ∷ 10 ∷ 11 ∷ 12 ∷ []) (tag_of the_type r) → 0 ≡ written r
-unfolding written numbers
-no_image (Tree n) m = absurd (miss (1 ∷ 2 ∷ 3 ∷ 4 ∷ 5 ∷ 6 ∷ 7 ∷ 8 ∷ 9 ∷ 10 ∷ 11 ∷ 12 ∷ []) 0 tt m)
-no_image Setting m = refl
-no_image Long m = refl
-no_image (Encoding n) m = refl
-no_image (Lexeme a e k) m = refl
-no_image (Wanted a e k) m = refl
-no_image (Absent a e x) m = refl
-no_image (Expression a e) m = refl
-no_image (Misplaced a e x) m = refl
-no_image (Escape a e x) m = refl
-no_image (Depth a e) m = refl
-no_image (Room n) m = refl
-no_image (Large a e) m = refl
 
 -- ── Refusals by their numbers ─────────────────────────────────────────────────────────────────────
 

@@ -1,6 +1,6 @@
 -- What the reader promises: its answers as document 01 numbers them.
 -- Assumes nothing.
-use Rattle.std.specs.Prelude.{◌≡◌, true, cond, List, ◌++◌, ℕ, ◌-◌, ◌≤◌, eqb, length, take, replicate}
+use Rattle.std.specs.Prelude.{◌≡◌, true, cond, List, ◌++◌, ℕ, ◌-◌, ◌≤◌, eqb, length, take, replicate, Result, Ok, Err}
 use Rattle.std.proofs.lemmas.List.Edits.{sets}
 use Rattle.strings.specs.Utf8.{Utf8}
 use Rattle.lexemes.specs.declared.Lexeme.{Lexeme as Range}
@@ -13,11 +13,10 @@ use Rattle.grammar.specs.Says.{Told}
 use Rattle.grammar.specs.Reading.{Outcome, Reads as Derived}
 use Rattle.grammar.specs.Answer.{Answer, Verdict, refused, tree, verdict, Judged, answer, output, valid_setting, prefix_power, document_01}
 use Rattle.grammar.specs.Source.{Bad, Kept, Reads01}
-use Rattle.leaves.specs.declared.Answer.{Answer as Phrased}
-use Rattle.leaves.specs.declared.Answer.TheVariants.{Done, Broken}
+use Rattle.leaves.specs.Meets.{Answer as Phrased}
 use Rattle.reader.specs.declared.Fields.{Fields}
-use Rattle.reader.specs.declared.Reading.{Reading}
-use Rattle.reader.specs.declared.Reading.TheVariants.{Tree, Setting, Long, Encoding, Lexeme, Wanted, Absent, Expression, Misplaced, Escape, Depth, Room, Large}
+use Rattle.reader.specs.declared.Unread.{Unread}
+use Rattle.reader.specs.declared.Unread.TheVariants.{Setting, Long, Encoding, Lexeme, Wanted, Absent, Expression, Misplaced, Escape, Depth, Room, Large}
 
 -- ── Document 01's numbers for each case of the answer ─────────────────────────────────────────────
 
@@ -29,21 +28,25 @@ refusal n a e x = record { number = n; start = a; stop = e; detail = x; size = 0
 abbrev pub tree_of : ℕ → ℕ → Answer
 tree_of n size = record { number = n; start = 0; stop = 0; detail = 0; size = size }
 
+-- What becomes of a source: the image's length, or why there is none.
+abbrev pub Reading : Type 0
+Reading = Result ℕ Unread
+
 -- R2, R32 to R39, R45. 01's number, start, end, detail and length.
 unfoldable pub numbers : Reading → Answer
-numbers (Tree n) = tree_of TREE n
-numbers Setting = refusal SETTING 0 0 0
-numbers Long = refusal LONG 0 0 0
-numbers (Encoding n) = refusal ENCODING n n 0
-numbers (Lexeme a e k) = refusal LEXEME a e k
-numbers (Wanted a e k) = refusal WANTED a e k
-numbers (Absent a e x) = refusal ABSENT a e x
-numbers (Expression a e) = refusal EXPRESSION a e 0
-numbers (Misplaced a e x) = refusal MISPLACED a e x
-numbers (Escape a e x) = refusal ESCAPE a e x
-numbers (Depth a e) = refusal DEPTH a e 0
-numbers (Room n) = tree_of ROOM n
-numbers (Large a e) = refusal LARGE a e 0
+numbers (Ok n) = tree_of TREE n
+numbers (Err Setting) = refusal SETTING 0 0 0
+numbers (Err Long) = refusal LONG 0 0 0
+numbers (Err (Encoding n)) = refusal ENCODING n n 0
+numbers (Err (Lexeme a e k)) = refusal LEXEME a e k
+numbers (Err (Wanted a e k)) = refusal WANTED a e k
+numbers (Err (Absent a e x)) = refusal ABSENT a e x
+numbers (Err (Expression a e)) = refusal EXPRESSION a e 0
+numbers (Err (Misplaced a e x)) = refusal MISPLACED a e x
+numbers (Err (Escape a e x)) = refusal ESCAPE a e x
+numbers (Err (Depth a e)) = refusal DEPTH a e 0
+numbers (Err (Room n)) = tree_of ROOM n
+numbers (Err (Large a e)) = refusal LARGE a e 0
 
 -- The same five, as the code hands them back.
 abbrev pub answered : Fields → Answer
@@ -79,8 +82,8 @@ pub record Met (setting : ℕ) (source : List ℕ) (found : Verdict) : Type 0 wh
 
 -- Their answer: of a tree its image's length, with the image stored as far as there is room; or the refusal.
 unfoldable pub Parsed : ℕ → List ℕ → List ℕ → Phrased → List ℕ → Type 0
-Parsed setting source out (Done c w k) out' = (ts : Trees) × Met setting source (tree ts) × (w ≡ length (image ts)) × (out' ≡ sets out 0 (image ts))
-Parsed setting source out (Broken r) out' =
+Parsed setting source out (Ok x) out' = (ts : Trees) × Met setting source (tree ts) × (x.1 ≡ length (image ts)) × (out' ≡ sets out 0 (image ts))
+Parsed setting source out (Err r) out' =
     Met setting source (refused r.number r.place.start r.place.end r.detail) × (met_with r.number r.detail ≡ true)
 
 pub record Parses (setting : ℕ) (source out : List ℕ) (a : Phrased) (out' : List ℕ) : Type 0 where

@@ -1,6 +1,6 @@
 #![tactic(auto)]
 // The reader: a setting, a source, a lent output, and the whole answer of document 01.
-ghost use Rattle.std.specs.Prelude.{◌≡◌, true, length};
+ghost use Rattle.std.specs.Prelude.{◌≡◌, true, length, Err};
 ghost use Rattle.grammar.specs.Numbers.{met_with};
 ghost use Rattle.reader.specs.Five.{five as five01};
 ghost use Rattle.reader.specs.Reader.{numbers as numbers01, refusal as refusal01, tree_of as tree01, written as written01, answered, Admitted, Parses, Finds, Reads};
@@ -12,11 +12,10 @@ use leaves::{Answer, Refusal};
 use lexemes::kept;
 use lexemes::kinds::Kind;
 
-// What becomes of a source: the cases are named as their numbers (grammar::numbers), each with its place and its detail. A detail may be
-// an offset of the source, so it is as wide as a place.
+// Why a source has no tree to hand out: the cases are named as their numbers (grammar::numbers), each with its place and its detail. A detail
+// may be an offset of the source, so it is as wide as a place.
 #[derive(Clone, Copy)]
-pub enum Reading {
-    Tree(usize), // the image's length
+pub enum Unread {
     Setting,
     Long,
     Encoding(usize), // the bytes valid so far
@@ -31,15 +30,18 @@ pub enum Reading {
     Large(usize, usize), // a number
 }
 
+// What becomes of a source: the image's length, or why there is none.
+pub type Reading = Result<usize, Unread>;
+
 // 01's limits: the longest source, and how deep phrases may nest.
 const LONGEST: usize = 65_000;
 
 const DEPTH: usize = 200;
 
 // A phrase's refusal, by its number.
-fn refused(r: Refusal) -> Reading
+fn refused(r: Refusal) -> Unread
     requires { met_with r.number r.detail ≡ true }
-    ensures { numbers01 result ≡ refusal01 r.number r.place.start r.place.end r.detail }
+    ensures { numbers01 (Err result) ≡ refusal01 r.number r.place.start r.place.end r.detail }
 {
     let place = r.place;
     let start = place.start as usize;
@@ -47,13 +49,13 @@ fn refused(r: Refusal) -> Reading
     let number = r.number;
     let detail = r.detail;
     match number {
-        Number::WANTED => Reading::Wanted(start, end, detail),
-        Number::ABSENT => Reading::Absent(start, end, detail),
-        Number::EXPRESSION => Reading::Expression(start, end),
-        Number::MISPLACED => Reading::Misplaced(start, end, detail),
-        Number::ESCAPE => Reading::Escape(start, end, detail),
-        Number::LARGE => Reading::Large(start, end),
-        _ => Reading::Depth(start, end),
+        Number::WANTED => Unread::Wanted(start, end, detail),
+        Number::ABSENT => Unread::Absent(start, end, detail),
+        Number::EXPRESSION => Unread::Expression(start, end),
+        Number::MISPLACED => Unread::Misplaced(start, end, detail),
+        Number::ESCAPE => Unread::Escape(start, end, detail),
+        Number::LARGE => Unread::Large(start, end),
+        _ => Unread::Depth(start, end),
     }
 }
 
@@ -62,14 +64,11 @@ fn parse(setting: u64, source: &[u8], output: &mut [u8]) -> Answer
     requires { Admitted setting source.now }
     ensures { Parses setting source.now output.old result output.new }
 {
-    let a = phrases::expr(source, output, cursor_at(source, 0), 0, DEPTH, setting, 0);
-    let Answer::Done(c, _, _) = a else {
-        return a;
-    };
-    if c.kind != Kind::EOF {
-        return error(c, Number::WANTED, END);
+    let done = phrases::expr(source, output, cursor_at(source, 0), 0, DEPTH, setting, 0)?;
+    if done.0.kind != Kind::EOF {
+        return error(done.0, Number::WANTED, END);
     }
-    a
+    Ok(done)
 }
 
 // The answer, in 01's order. A bad lexeme is looked for only where the phrases refuse: no phrase takes one, so a source that has a tree
@@ -79,40 +78,41 @@ fn find(setting: u64, source: &[u8], output: &mut [u8]) -> Reading
 {
     let known = settings::valid(setting);
     if !known {
-        return Reading::Setting;
+        return Err(Unread::Setting);
     }
     if LONGEST < source.len() {
-        return Reading::Long;
+        return Err(Unread::Long);
     }
     let valid = strings::utf8::valid_to(source);
     if valid < source.len() {
-        return Reading::Encoding(valid);
+        return Err(Unread::Encoding(valid));
     }
-    let a = parse(setting, source, output);
-    match a {
-        Answer::Broken(r) => {
+    match parse(setting, source, output) {
+        Err(r) => {
             let bad = kept::first_bad(source);
             if bad.kind != Kind::EOF {
-                return Reading::Lexeme(bad.start, bad.end, bad.kind);
+                return Err(Unread::Lexeme(bad.start, bad.end, bad.kind));
             }
-            refused(r)
+            Err(refused(r))
         }
-        Answer::Done(_, w, _) => {
+        Ok(done) => {
+            let w = done.1;
             if output.len() < w {
-                return Reading::Room(w);
+                return Err(Unread::Room(w));
             }
-            Reading::Tree(w)
+            Ok(w)
         }
     }
 }
 
 // How many bytes of the output are the image's.
+#[tactic(auto, unfolding(crate::specs::Reader::written, crate::specs::Reader::numbers))]
 fn written(r: Reading) -> usize
     ensures { result ≡ written01 r }
 {
     match r {
-        Reading::Tree(n) => n,
-        _ => 0,
+        Ok(n) => n,
+        Err(_) => 0,
     }
 }
 
@@ -162,23 +162,24 @@ fn tree(number: u8, length: usize) -> Fields
 }
 
 // An answer as 01 numbers it.
+#[tactic(auto, unfolding(crate::specs::Reader::numbers))]
 pub fn numbers(r: Reading) -> Fields
     ensures { answered result ≡ numbers01 r }
 {
     match r {
-        Reading::Tree(n) => tree(Number::TREE, n),
-        Reading::Setting => refusal(Number::SETTING, 0, 0, 0),
-        Reading::Long => refusal(Number::LONG, 0, 0, 0),
-        Reading::Encoding(n) => refusal(Number::ENCODING, n, n, 0),
-        Reading::Lexeme(a, e, k) => refusal(Number::LEXEME, a, e, k as usize),
-        Reading::Wanted(a, e, k) => refusal(Number::WANTED, a, e, k),
-        Reading::Absent(a, e, d) => refusal(Number::ABSENT, a, e, d),
-        Reading::Expression(a, e) => refusal(Number::EXPRESSION, a, e, 0),
-        Reading::Misplaced(a, e, d) => refusal(Number::MISPLACED, a, e, d),
-        Reading::Escape(a, e, d) => refusal(Number::ESCAPE, a, e, d),
-        Reading::Depth(a, e) => refusal(Number::DEPTH, a, e, 0),
-        Reading::Room(n) => tree(Number::ROOM, n),
-        Reading::Large(a, e) => refusal(Number::LARGE, a, e, 0),
+        Ok(n) => tree(Number::TREE, n),
+        Err(Unread::Setting) => refusal(Number::SETTING, 0, 0, 0),
+        Err(Unread::Long) => refusal(Number::LONG, 0, 0, 0),
+        Err(Unread::Encoding(n)) => refusal(Number::ENCODING, n, n, 0),
+        Err(Unread::Lexeme(a, e, k)) => refusal(Number::LEXEME, a, e, k as usize),
+        Err(Unread::Wanted(a, e, k)) => refusal(Number::WANTED, a, e, k),
+        Err(Unread::Absent(a, e, d)) => refusal(Number::ABSENT, a, e, d),
+        Err(Unread::Expression(a, e)) => refusal(Number::EXPRESSION, a, e, 0),
+        Err(Unread::Misplaced(a, e, d)) => refusal(Number::MISPLACED, a, e, d),
+        Err(Unread::Escape(a, e, d)) => refusal(Number::ESCAPE, a, e, d),
+        Err(Unread::Depth(a, e)) => refusal(Number::DEPTH, a, e, 0),
+        Err(Unread::Room(n)) => tree(Number::ROOM, n),
+        Err(Unread::Large(a, e)) => refusal(Number::LARGE, a, e, 0),
     }
 }
 

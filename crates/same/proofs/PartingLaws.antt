@@ -1,6 +1,6 @@
--- Where two sources part: there is one answer, it is `Same` exactly for sources whose kept lexemes are the same, and how the code finds it.
+-- Where two sources part: there is one answer, it is `None` exactly for sources whose kept lexemes are the same, and how the code finds it.
 -- Assumes nothing.
-use Rattle.std.proofs.Common.{◌≡◌, refl, sym, ap, subst, ◌∙◌, Bool, true, false, List, [], ◌∷◌, ℕ, ◌-◌, ◌≤◌, arith, length, take, drop}
+use Rattle.std.proofs.Common.{◌≡◌, refl, sym, ap, subst, ◌∙◌, Bool, true, false, None, Some, List, [], ◌∷◌, ℕ, ◌-◌, ◌≤◌, arith, length, take, drop}
 use Rattle.lexemes.specs.declared.Lexeme.{Lexeme}
 use Rattle.lexemes.specs.Kinds.{EOF}
 use Rattle.lexemes.specs.Lexeme.{lexeme}
@@ -9,9 +9,7 @@ use Rattle.lexemes.specs.Texts.{text_of}
 use Rattle.lexemes.specs.Scan.{Says}
 use Rattle.lexemes.specs.Same.{SameLexeme, SameList, none, more, SameLexemes}
 use Rattle.lexemes.proofs.KeptLaws.{Rest, kept_step, kept_once, next_eof, next-some, next_bounds}
-use Rattle.same.specs.Parting.{Parts, both_over, on, here, FirstDifference}
-use Rattle.same.specs.declared.Parting.{Parting}
-use Rattle.same.specs.declared.Parting.TheVariants.{Same, Apart}
+use Rattle.same.specs.Parting.{Parting, Parts, both_over, on, here, FirstDifference}
 
 -- The next kept lexeme lies in its source.
 pub lies : {u : List ℕ} {p : ℕ} {l : Lexeme} → p ≤ length u → NextKept u p l → (p ≤ l.start) × (l.start ≤ l.end) × (l.end ≤ length u)
@@ -20,9 +18,6 @@ lies {u} {p} {l} h n = by n.left (kept_step n.is_left) n.is_first
     by : (ks : List Lexeme) → Rest u p ks → l ≡ first p ks → (p ≤ l.start) × (l.start ≤ l.end) × (l.end ≤ length u)
     by [] r e = subst (λ (m : Lexeme). (p ≤ m.start) × (m.start ≤ m.end) × (m.end ≤ length u)) (sym e) (omega arith, omega arith, h)
     by (k ∷ ks) (Rest.next f g i d z y) e = subst (λ (m : Lexeme). (p ≤ m.start) × (m.start ≤ m.end) × (m.end ≤ length u)) (sym e) (f, omega arith, i)
-
-apart_same : {l m : Lexeme} → Apart l m ≡ Same → ⊥
-apart_same e = let z : ◌≡◌ {A = ℕ} 0 1 = cc in omega arith
 
 -- On the way of the code: all lexemes up to p and q are the same.
 pub record Along (s t : List ℕ) (p q : ℕ) : Type 0 where
@@ -55,22 +50,22 @@ module _ {s t : List ℕ} where
       parts_once x.parts (subst (λ (ls : List Lexeme). Parts s t 0 0 ls x.right r') (kept_once y.kept_left x.kept_left)
       (subst (λ (ms : List Lexeme). Parts s t 0 0 y.left ms r') (kept_once y.kept_right x.kept_right) y.parts))
 
-  -- ── `Same` ──────────────────────────────────────────────────────────────────────────────────────
+  -- ── `None` ──────────────────────────────────────────────────────────────────────────────────────
 
-  parts_same : {p q : ℕ} {ls ms : List Lexeme} {r : Parting} → Parts s t p q ls ms r → r ≡ Same → SameList s t ls ms
+  parts_same : {p q : ℕ} {ls ms : List Lexeme} {r : Parting} → Parts s t p q ls ms r → r ≡ None → SameList s t ls ms
   parts_same both_over e = none
   parts_same (on x y) e = more x (parts_same y e)
-  parts_same (here h) e = absurd (apart_same e)
+  parts_same (here h) e = cc
 
-  same_parts : {p q : ℕ} {ls ms : List Lexeme} → SameList s t ls ms → Parts s t p q ls ms Same
+  same_parts : {p q : ℕ} {ls ms : List Lexeme} → SameList s t ls ms → Parts s t p q ls ms None
   same_parts none = both_over
   same_parts (more x y) = on x (same_parts y)
 
-  -- `Same` IS SAID OF TWO SOURCES EXACTLY WHERE THEIR KEPT LEXEMES ARE THE SAME.
-  pub said_same : FirstDifference s t Same → SameLexemes s t
+  -- `None` IS SAID OF TWO SOURCES EXACTLY WHERE THEIR KEPT LEXEMES ARE THE SAME.
+  pub said_same : FirstDifference s t None → SameLexemes s t
   said_same x = record { left = x.left; right = x.right; kept_left = x.kept_left; kept_right = x.kept_right; same = parts_same x.parts refl }
 
-  pub same_said : {r : Parting} → SameLexemes s t → FirstDifference s t r → r ≡ Same
+  pub same_said : {r : Parting} → SameLexemes s t → FirstDifference s t r → r ≡ None
   same_said x y = difference_once y (record { left = x.left; right = x.right; kept_left = x.kept_left; kept_right = x.kept_right; parts = same_parts x.same })
 
   -- ── As the code finds it ────────────────────────────────────────────────────────────────────────
@@ -80,13 +75,13 @@ module _ {s t : List ℕ} where
 
   module _ {p q : ℕ} {l m : Lexeme} (a : Along s t p q) (n : NextKept s p l) (o : NextKept t q m) where
     -- They part here.
-    pub parted : (SameLexeme s t l m → ⊥) → FirstDifference s t (Apart l m)
+    pub parted : (SameLexeme s t l m → ⊥) → FirstDifference s t (Some (l, m))
     parted h =
-        subst (λ (x : Lexeme). FirstDifference s t (Apart x m)) (sym n.is_first) (subst (λ (x : Lexeme). FirstDifference s t (Apart (first p n.left) x)) (sym o.is_first)
+        subst (λ (x : Lexeme). FirstDifference s t (Some (x, m))) (sym n.is_first) (subst (λ (x : Lexeme). FirstDifference s t (Some (first p n.left, x))) (sym o.is_first)
         (a.back n.is_left o.is_left (here (λ e. h (subst (λ (x : Lexeme). SameLexeme s t x m) (sym n.is_first) (subst (λ (x : Lexeme). SameLexeme s t (first p n.left) x) (sym o.is_first) e))))))
 
     -- Both are over.
-    pub over : SameLexeme s t l m → l.kind ≡ EOF → FirstDifference s t Same
+    pub over : SameLexeme s t l m → l.kind ≡ EOF → FirstDifference s t None
     over e k = a.back (next_eof n k).0 (next_eof o (sym e.kind ∙ k)).0 both_over
 
     -- On behind these two.

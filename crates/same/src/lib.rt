@@ -8,30 +8,16 @@ ghost use Rattle.same.specs.Parting.{FirstDifference};
 use lexemes::kinds::Kind;
 use lexemes::{Lexeme, kept};
 
-// Two sources compared: all kept lexemes are the same; or the first two that are not, EOF standing for none.
-#[derive(Drop)]
-pub enum Parting {
-    Same,
-    Apart(Lexeme, Lexeme),
-}
-
 // Whether two lexemes agree in kind and text.
 fn same_lexeme(left: &[u8], l: &Lexeme, right: &[u8], m: &Lexeme) -> bool
     requires { (l.now.start ≤ l.now.end) × (l.now.end ≤ length left.now) × (m.now.start ≤ m.now.end) × (m.now.end ≤ length right.now) }
     ensures { Says result (SameLexeme left.now right.now l.now m.now) }
 {
-    if l.kind != m.kind {
-        return false;
-    }
-    let a = l.start;
-    let e = l.end;
-    let b = m.start;
-    let f = m.end;
-    check::same(&left[a..e], &right[b..f])
+    l.kind == m.kind && left[l.start..l.end] == right[m.start..m.end]
 }
 
-// The first two kept lexemes that differ. Each source is gone through once.
-pub fn first_difference(left: &[u8], right: &[u8]) -> Parting
+// The first two kept lexemes that differ, EOF standing for none; nothing where all are the same. Each source is gone through once.
+pub fn first_difference(left: &[u8], right: &[u8]) -> Option<(Lexeme, Lexeme)>
     ensures { FirstDifference left.now right.now result }
 {
     let mut i = 0;
@@ -40,10 +26,10 @@ pub fn first_difference(left: &[u8], right: &[u8]) -> Parting
         let l = kept::next_kept(left, i);
         let m = kept::next_kept(right, j);
         if !same_lexeme(left, &l, right, &m) {
-            return Parting::Apart(l, m);
+            return Some((l, m));
         }
         if l.kind == Kind::EOF {
-            return Parting::Same;
+            return None;
         }
         i = l.end;
         j = m.end;

@@ -45,25 +45,25 @@ add_error c =
     let pre' = c.requires in
     omega (arith, within pre'.0)
 
-add_error_2 : tie.Need-overflow_add-c-in-Refused
+add_error_2 : tie.Need-overflow_add-c-in-Err
 add_error_2 c =
     let decode' = c.decode-d in
     let pre' = c.requires in
     let st = pre'.0.stands in
-    let inside = spoils_within (lies st).within (fault_found decode'.ensures c.in-Refused.is) in
+    let inside = spoils_within (lies st).within (fault_found decode'.ensures c.in-Err.is) in
     omega (arith, inside, within pre'.0)
 
 error_requires : tie.Need-error-requires
 error_requires c κs = search rules
 
-enum_known_d_2 : tie.Need-enum_known-d-in-Text-1
+enum_known_d_2 : tie.Need-enum_known-d-in-Ok-1
 enum_known_d_2 c = search rules
 
 put_head_requires : tie.Need-put_head-w1-requires
 put_head_requires c κs =
     let decode' = c.decode-d in
     let pre' = c.requires in
-    let text' = found decode'.ensures c.in-Text.is in
+    let text' = found decode'.ensures c.in-Ok.is in
     let st = pre'.0.stands in
     let short = means_short st refl text'.1 in
     (omega (arith, fits pre'.0), omega (arith, text'.2, short, (lies st).within, pre'.0.stands.short))
@@ -76,25 +76,25 @@ add_t22 c =
     let decode' = c.decode-d in
     let pre' = c.requires in
     let put-head' = c.put_head-w1 in
-    let text' = found decode'.ensures c.in-Text.is in
+    let text' = found decode'.ensures c.in-Ok.is in
     let st = pre'.0.stands in
     let short = means_short st refl text'.1 in
     omega (arith, text'.2, short, (lies st).within, pre'.0.stands.short, fits pre'.0, put-head'.ensures.to)
 
-same_length : tie.Need-shape_of-out-in-Refused
+same_length : tie.Need-shape_of-out-in-Err
 same_length c = search rules
 
-returns : tie.Need-returns-in-Refused
+returns : tie.Need-returns-in-Err
 returns c =
     let pre' = c.requires in
     let decode' = c.decode-d in
-    let fault = fault_found decode'.ensures c.in-Refused.is in
+    let fault = fault_found decode'.ensures c.in-Err.is in
     record { ends = λ g d. bad-answer pre'.0.stands fault c.error.ensures }
 
-same_length_2 : tie.Need-shape_of-out-in-Text
+same_length_2 : tie.Need-shape_of-out-in-Ok
 same_length_2 c = search rules
 
-returns_2 : tie.Need-returns-in-Text
+returns_2 : tie.Need-returns-in-Ok
 returns_2 c =
     let decode' = c.decode-d in
     let pre' = c.requires in
@@ -102,7 +102,7 @@ returns_2 c =
     let least' = c.least-from in
     let put-head' = c.put_head-w1 in
     let eat-any' = c.eat_any in
-    let text' = found decode'.ensures c.in-Text.is in
+    let text' = found decode'.ensures c.in-Ok.is in
     let st = pre'.0.stands in
     let some = a_lexeme pre'.1 in
     let short = means_short st refl text'.1 in
