@@ -3,14 +3,13 @@ use desk::Language;
 use system::Source;
 
 fn read_file(rt: &HostRuntime, i: usize) {
-    let mut path = system::buffer();
-    let n = system::arg(rt, i, &mut path);
-    match Source::open(rt, &path[..n]) {
-        Ok(file) => {
-            let mut file = file;
-            desk::tree::readtree(rt, &mut file, &path[..n], Language::Jsonnet(0));
+    let mut word = system::buffer();
+    let name = system::arg(rt, i, &mut word);
+    match Source::open(rt, name) {
+        Ok(mut file) => {
+            desk::tree::readtree(rt, &mut file, name, Language::Jsonnet(0));
         }
-        Err(error) => system::fail(rt, &path[..n], error),
+        Err(error) => system::fail(rt, name, error),
     }
 }
 

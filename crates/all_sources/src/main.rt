@@ -3,13 +3,18 @@
 // and a checksum of all their answers, as the judge prints them (vectors/exhaustive.txt). They are counted through, the last lexeme fastest.
 mod files;
 
-ghost use Rattle.io.specs.Counts.{IsPrefixLen};
-
-use desk::text::put;
+use desk::text::Text;
 use desk::{Language, questions};
+use sums::Sum;
 use system::Output;
 
-// How many lexemes the sources are made of.
+// The lexemes that the sources are made of.
+const LEXEMES: [&str; SIZE] = [
+    "a", "1", "\"a\"", "null", "+", "==", "-", "??", "(", ")", "[", "]", "{", "}", ":", ";", ".",
+    "...", ",", "=", "?", "if", "then", "else", "for", "in", "local", "assert", "function",
+    "error",
+];
+
 const SIZE: usize = 30;
 
 // More than the longest source, than its image, and than the line of its answer.
@@ -19,73 +24,37 @@ const OUTPUT: usize = 256;
 
 const TEXT: usize = 1024;
 
-fn put_lexeme(source: &mut [u8], at: usize, n: usize) -> usize
-    ensures { IsPrefixLen result source.new }
-{
-    let lexemes =
-        b"a 1 \"a\" null + == - ?? ( ) [ ] { } : ; . ... , = ? if then else for in local assert function error";
-    put(source, at, lists::field(lexemes, n))
-}
-
-// The n-th source of one, two and three lexemes, a space between them.
-fn put_one(source: &mut [u8], n: usize) -> usize
-    ensures { IsPrefixLen result source.new }
-{
-    put_lexeme(source, 0, n % SIZE)
-}
-
-fn put_two(source: &mut [u8], n: usize) -> usize
-    ensures { IsPrefixLen result source.new }
-{
-    let mut end = put_one(source, n / SIZE);
-    end = put(source, end, b" ");
-    put_lexeme(source, end, n % SIZE)
-}
-
-fn put_three(source: &mut [u8], n: usize) -> usize
-    ensures { IsPrefixLen result source.new }
-{
-    let mut end = put_two(source, n / SIZE);
-    end = put(source, end, b" ");
-    put_lexeme(source, end, n % SIZE)
-}
-
-fn put_source(source: &mut [u8], length: usize, n: usize) -> usize
-    ensures { IsPrefixLen result source.new }
-{
-    match length {
-        0 => put(source, 0, b""),
-        1 => put_one(source, n),
-        2 => put_two(source, n),
-        _ => put_three(source, n),
+// The n-th source of so many lexemes, a space between them.
+fn put_source(source: &mut Text, length: usize, n: usize) {
+    let lexemes = [n / SIZE / SIZE, n / SIZE, n];
+    for i in lexemes.iter().skip(3usize.saturating_sub(length)) {
+        if !source.as_slice().is_empty() {
+            source.put(" ");
+        }
+        source.put(LEXEMES[*i % SIZE]);
     }
 }
 
-// The line of a source's answer.
-fn fed_answer(h: u64, setting: u64, source: &[u8]) -> u64 {
+// The line of the answer to a source.
+fn feed_answer(sum: &mut Sum, setting: u64, source: &[u8]) {
     let mut output = [0u8; OUTPUT];
-    let mut text = [0u8; TEXT];
-    let n = questions::answer_into(Language::Jsonnet(setting), source, &mut output, &mut text);
-    sums::fed_all(h, &text[..n])
-}
-
-fn fed_source(h: u64, setting: u64, length: usize, n: usize) -> u64 {
-    let mut source = [0u8; SOURCE];
-    let end = put_source(&mut source, length, n);
-    fed_answer(h, setting, &source[..end])
+    let mut buffer = [0u8; TEXT];
+    let mut text = Text::new(&mut buffer);
+    questions::answer_into(Language::Jsonnet(setting), source, &mut output, &mut text);
+    sum.feed(text.as_slice());
 }
 
 // How many sources there are of a length, and their sum.
 fn print_sum(out: &mut Output, setting: u64, length: usize, count: usize) {
-    let mut sum = sums::START;
-    let mut n = 0;
-    while n < count {
-        sum = fed_source(sum, setting, length, n);
-        n += 1;
+    let mut sum = Sum::new();
+    for n in 0..count {
+        let mut buffer = [0u8; SOURCE];
+        let mut source = Text::new(&mut buffer);
+        put_source(&mut source, length, n);
+        feed_answer(&mut sum, setting, source.as_slice());
     }
-    out.write(b"sources ");
-    out.write_decimal(setting);
-    sums::report(out, length, count, sum);
+    out.print(format_args!("sources {setting}"));
+    sum.report(out, length, count);
 }
 
 fn print_sums(out: &mut Output, setting: u64) {

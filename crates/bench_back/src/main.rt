@@ -9,12 +9,7 @@ const LINKS: usize = 349_524;
 fn tell(rt: &HostRuntime, image: &[u8], links: &mut [usize]) {
     let mut out = Output::new(rt);
     let f = images::numbers(images::back(image, links));
-    out.write_decimal(f.number);
-    out.write(b" ");
-    out.write_decimal(f.offset);
-    out.write(b" ");
-    out.write_decimal(f.count);
-    out.write(b"\n");
+    out.print(format_args!("{} {} {}\n", f.number, f.offset, f.count));
 }
 
 fn read(rt: &HostRuntime, image: &mut [u8], links: &mut [usize]) {

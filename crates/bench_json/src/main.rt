@@ -9,14 +9,7 @@ const OUTPUT: usize = 524_288;
 fn tell(rt: &HostRuntime, text: &[u8], output: &mut [u8]) {
     let mut out = Output::new(rt);
     let f = json_import::numbers(json_import::read_json(text, output));
-    out.write_decimal(f.number);
-    out.write(b" ");
-    out.write_decimal(f.start);
-    out.write(b" ");
-    out.write_decimal(f.end);
-    out.write(b" ");
-    out.write_decimal(f.length);
-    out.write(b"\n");
+    out.print(format_args!("{} {} {} {}\n", f.number, f.start, f.end, f.length));
 }
 
 fn read(rt: &HostRuntime, text: &mut [u8], output: &mut [u8]) {

@@ -13,12 +13,7 @@ const LIST: usize = 99_864;
 fn tell(rt: &HostRuntime, image: &[u8], links: &mut [usize], list: &mut [usize]) {
     let mut out = Output::new(rt);
     let f = mass::numbers(mass::list(image, links, list));
-    out.write_decimal(f.number);
-    out.write(b" ");
-    out.write_decimal(f.offset);
-    out.write(b" ");
-    out.write_decimal(f.count);
-    out.write(b"\n");
+    out.print(format_args!("{} {} {}\n", f.number, f.offset, f.count));
 }
 
 fn read(rt: &HostRuntime, image: &mut [u8], links: &mut [usize], list: &mut [usize]) {

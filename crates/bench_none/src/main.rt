@@ -12,8 +12,5 @@ fn main(rt: HostRuntime) {
     strings::clear(&mut output);
     let m = input.read_full(&mut output);
     let mut out = Output::new(&rt);
-    out.write_decimal(m as u64);
-    out.write(b" ");
-    out.write_decimal(n as u64);
-    out.write(b"\n");
+    out.print(format_args!("{m} {n}\n"));
 }

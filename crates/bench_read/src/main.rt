@@ -12,8 +12,5 @@ fn main(rt: HostRuntime) {
     let f = reader::numbers(reader::read(0, &source[..n], &mut output));
     input.read_full(&mut output);
     let mut out = Output::new(&rt);
-    out.write_decimal(f.number);
-    out.write(b" ");
-    out.write_decimal(f.length);
-    out.write(b"\n");
+    out.print(format_args!("{} {}\n", f.number, f.length));
 }

@@ -23,7 +23,5 @@ fn count(src: &[u8]) -> usize
 fn main(rt: HostRuntime) {
     let mut source = [0u8; 65_536];
     let n = Source::standard_input(&rt).read_full(&mut source);
-    let mut out = Output::new(&rt);
-    out.write_decimal(count(&source[..n]) as u64);
-    out.write(b"\n");
+    Output::new(&rt).print(format_args!("{}\n", count(&source[..n])));
 }

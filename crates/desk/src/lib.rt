@@ -1,7 +1,8 @@
 #![tactic(auto)]
 // What the desk's programs share.
 mod backs; // an image read back, as the judge asks for it
-pub mod input; // a file taken whole
+pub mod files; // the files that a program is started with
+pub mod list; // a list in a lent buffer
 mod masses; // the planner's list, as the judge asks for it
 mod nights; // a night's files, as the judge asks for them
 pub mod options; // the words that a program is started with
@@ -46,18 +47,13 @@ pub fn answer_in(language: Language, source: &[u8], output: &mut [u8]) -> Fields
     }
 }
 
-// The first bytes of an output, as many as it has.
-fn front(output: &[u8], n: usize) -> &[u8] {
-    if output.len() < n {
-        return output;
-    }
-    &output[..n]
-}
-
 // The image that an answer has left in the output: nothing after a refusal.
 pub fn image(f: Fields, output: &[u8]) -> &[u8] {
-    if f.number != 0 {
-        return front(output, 0);
-    }
-    front(output, f.length as usize)
+    let length = if f.number == 0 { f.length as usize } else { 0 };
+    &output[..length.min(output.len())]
+}
+
+// Whether all from a place on is zero.
+fn is_clear<T: Copy + Default + PartialEq>(list: &[T], from: usize) -> bool {
+    list.iter().skip(from).all(|x| *x == T::default())
 }

@@ -2,348 +2,279 @@
 // `--depth N` and `--at LINE:COLUMN` tell how much of a tree is shown, and `--colour` that it has colours; `--json` that files are JSON, which a
 // setting behind it takes back. Behind `--` every word is a file, and `-` is standard input. Words are taken one by one, so that an option holds for the
 // files after it.
-ghost use Rattle.std.specs.Prelude.{◌≤◌, length};
-
 use crate::Language;
+use std::fmt;
+use std::fmt::Formatter;
+use std::io::Eprint;
+
+// An option that takes a value.
+#[derive(Clone, Copy, Debug, PartialEq, Eq)]
+pub enum Valued {
+    Setting, // `-s`
+    Output, // `-o`
+    Image, // `--image`
+    Depth, // `--depth`
+    At, // `--at`
+}
 
 // What can be wrong with a word.
-pub const NOTHING: u8 = 0;
+#[derive(Clone, Copy, Debug, PartialEq, Eq)]
+pub enum Fault {
+    Lacks(Valued), // no value that the option takes stands behind it
+    Unknown, // the option does not exist
+}
 
-const SETTING: u8 = 1; // no setting stands behind `-s`
+impl fmt::Display for Fault {
+    fn fmt<W: fmt::Write>(&self, f: &mut Formatter<W>) -> fmt::Result {
+        f.write_str(match self {
+            Fault::Lacks(Valued::Setting) => "-s takes a setting, 0 to 15",
+            Fault::Lacks(Valued::Output) => "-o takes the name of a file",
+            Fault::Lacks(Valued::Image) => "--image takes the name of a file",
+            Fault::Lacks(Valued::Depth) => "--depth takes a number",
+            Fault::Lacks(Valued::At) => "--at takes a place, LINE:COLUMN",
+            Fault::Unknown => "there is no such option; -h tells which there are",
+        })
+    }
+}
 
-const OUTPUT: u8 = 2; // no name stands behind `-o`
+impl Fault {
+    // Says what is wrong.
+    pub fn complain(self, rt: &HostRuntime, program: &str) {
+        let _ = rt.eprintln(format_args!("{program}: {self}"));
+    }
+}
 
-const UNKNOWN: u8 = 3; // the option does not exist
+// The name of a file to write: which word has it, and where in that word it begins.
+#[derive(Clone, Copy)]
+pub struct Output {
+    pub word: usize,
+    pub from: usize,
+}
 
-const IMAGE: u8 = 4; // no name stands behind `--image`
-
-const DEPTH: u8 = 5; // no number stands behind `--depth`
-
-const AT: u8 = 6; // no place stands behind `--at`
-
-const NO_SETTING: u64 = u64::MAX;
-
-// Stands for a number where there is none.
-const NO_NUMBER: usize = usize::MAX;
+// A place in a source, both counted from 1.
+#[derive(Clone, Copy)]
+pub struct Place {
+    pub line: usize,
+    pub column: usize,
+}
 
 #[derive(Clone, Copy)]
 pub struct Options {
     pub setting: u64,
-    pub file: usize, // which word names the last file so far, 0 where none does
+    pub file: Option<usize>, // which word names the last file so far
     pub more: bool, // whether another file was named before it
     pub image: bool, // whether that file is an image
-    pub output: usize, // which word names the file to write, 0 where none does
-    pub output_from: usize, // where in that word its name begins
+    pub output: Option<Output>, // the file to write
     pub depth: usize, // how deep lines are shown
-    pub line: usize, // of the place around which is shown, 0 where all is
-    pub column: usize,
+    pub place: Option<Place>, // around which is shown, and not all
     pub colours: bool,
     pub json: bool, // whether files are JSON
     pub several: bool, // whether more than one file is named
-    pub fault: u8, // what is wrong
     writes: bool, // whether the program takes `-o`
     sets: bool, // whether it takes `-s`
     shows: bool, // whether it takes the options of trees
-    awaited: u8, // the letter of the option that the next word belongs to, or 0
+    awaited: Option<Valued>, // the option that the next word belongs to
     plain: bool, // whether `--` has stood
 }
 
-fn digit(b: u8) -> u64 {
+fn digit(b: u8) -> Option<u64> {
     match b {
-        b'0'..=b'9' => (b - 0x30) as u64,
-        _ => NO_SETTING,
+        b'0'..=b'9' => Some(u64::from(b - b'0')),
+        _ => None,
     }
 }
 
-// A setting in decimal.
-fn setting_of(word: &[u8]) -> u64 {
-    if word.len() == 1 {
-        return digit(word[0]);
+// A number of up to so many digits in decimal.
+fn number_of(word: &[u8], digits: usize) -> Option<u64> {
+    if word.is_empty() || digits < word.len() {
+        return None;
     }
-    if word.len() != 2 {
-        return NO_SETTING;
-    }
-    let tens = digit(word[0]);
-    let ones = digit(word[1]);
-    if tens > 9 {
-        return NO_SETTING;
-    }
-    if ones > 9 {
-        return NO_SETTING;
-    }
-    tens * 10 + ones
+    word.iter()
+        .try_fold(0u64, |n, b| n.checked_mul(10)?.checked_add(digit(*b)?))
 }
 
-// A number of up to nine digits in decimal.
-fn number_of(word: &[u8]) -> usize {
-    if word.len() == 0 {
-        return NO_NUMBER;
-    }
-    if word.len() > 9 {
-        return NO_NUMBER;
-    }
-    let mut n: u64 = 0;
-    let mut i = 0;
-    while i < word.len() {
-        let d = digit(word[i]);
-        if d > 9 {
-            return NO_NUMBER;
-        }
-        n = n % 100_000_000 * 10 + d;
-        i += 1;
-    }
-    n as usize
+// A number of up to nine digits.
+fn size_of(word: &[u8]) -> Option<usize> {
+    number_of(word, 9).map(|n| n as usize)
 }
 
-// Where a word's first colon stands, or its end.
-fn colon(word: &[u8]) -> usize
-    ensures { result ≤ length word.now }
-{
-    let mut i = 0;
-    while i < word.len() {
-        if word[i] == b':' {
-            return i;
-        }
-        i += 1;
-    }
-    i
+// `LINE:COLUMN`. No line is 0.
+fn place_of(text: &[u8]) -> Option<Place> {
+    let colon = text.iter().position(|b| *b == b':')?;
+    let line = size_of(&text[..colon])?;
+    let column = size_of(&text[colon + 1..])?;
+    (line != 0).then_some(Place { line, column })
 }
 
 impl Options {
     pub fn new(writes: bool) -> Self {
         Self {
             setting: 0,
-            file: 0,
+            file: None,
             more: false,
             image: false,
-            output: 0,
-            output_from: 0,
-            depth: NO_NUMBER,
-            line: 0,
-            column: 0,
+            output: None,
+            depth: usize::MAX,
+            place: None,
             colours: false,
             json: false,
             several: false,
-            fault: NOTHING,
-            writes: writes,
+            writes,
             sets: true,
             shows: false,
-            awaited: 0,
+            awaited: None,
             plain: false,
         }
     }
 
     // Those of a program that shows trees and writes no file.
     pub fn for_trees(several: bool) -> Self {
-        let mut options = Self::new(false);
-        options.shows = true;
-        options.several = several;
-        options
+        Self {
+            shows: true,
+            several,
+            ..Self::new(false)
+        }
     }
 
     // Those of a program that reads JSON alone and may write an image.
     pub fn for_json() -> Self {
-        let mut options = Self::new(true);
-        options.json = true;
-        options.sets = false;
-        options
+        Self {
+            json: true,
+            sets: false,
+            ..Self::new(true)
+        }
     }
 
     // What files are written in.
     pub fn language(self) -> Language {
         if self.json {
-            return Language::Json;
+            Language::Json
+        } else {
+            Language::Jsonnet(self.setting)
         }
-        Language::Jsonnet(self.setting)
     }
 
-    fn with_fault(mut self, fault: u8) -> Self {
-        self.fault = fault;
-        self
+    fn with_setting(self, text: &[u8]) -> Option<Self> {
+        let setting = number_of(text, 2)?;
+        grammar::settings::valid(setting).then_some(Self {
+            setting,
+            json: false,
+            ..self
+        })
     }
 
-    fn with_setting(mut self, text: &[u8]) -> Self {
-        let setting = setting_of(text);
-        if !grammar::settings::valid(setting) {
-            return self.with_fault(SETTING);
+    fn with_file(self, i: usize) -> Self {
+        Self {
+            more: self.file.is_some(),
+            file: Some(i),
+            image: false,
+            ..self
         }
-        self.setting = setting;
-        self.json = false;
-        self
     }
 
-    fn with_file(mut self, i: usize) -> Self {
-        self.more = self.file != 0;
-        self.file = i;
-        self.image = false;
-        self
+    fn with_output(self, word: usize, from: usize) -> Self {
+        Self {
+            output: Some(Output { word, from }),
+            ..self
+        }
     }
 
-    fn with_image(self, i: usize) -> Self {
-        let mut options = self.with_file(i);
-        options.image = true;
-        options
-    }
-
-    fn with_depth(mut self, text: &[u8]) -> Self {
-        let depth = number_of(text);
-        if depth == NO_NUMBER {
-            return self.with_fault(DEPTH);
+    fn awaiting(self, option: Valued) -> Self {
+        Self {
+            awaited: Some(option),
+            ..self
         }
-        self.depth = depth;
-        self
-    }
-
-    // `LINE:COLUMN`, both from 1.
-    fn with_place(mut self, text: &[u8]) -> Self {
-        let end = colon(text);
-        if end == text.len() {
-            return self.with_fault(AT);
-        }
-        let line = number_of(crate::front(text, end));
-        let column = number_of(&text[end + 1..]);
-        if line == NO_NUMBER {
-            return self.with_fault(AT);
-        }
-        if column == NO_NUMBER {
-            return self.with_fault(AT);
-        }
-        if line == 0 {
-            return self.with_fault(AT);
-        }
-        self.line = line;
-        self.column = column;
-        self
-    }
-
-    fn with_output(mut self, i: usize, from: usize) -> Self {
-        self.output = i;
-        self.output_from = from;
-        self
     }
 
     // An option's letter, and the rest of its word where there is one.
-    fn with_letter(mut self, i: usize, letter: u8, rest: &[u8]) -> Self {
-        if (letter != b's' || !self.sets) && (letter != b'o' || !self.writes) {
-            return self.with_fault(UNKNOWN);
+    fn with_letter(self, i: usize, letter: u8, rest: &[u8]) -> Result<Self, Fault> {
+        let option = match letter {
+            b's' if self.sets => Valued::Setting,
+            b'o' if self.writes => Valued::Output,
+            _ => return Err(Fault::Unknown),
+        };
+        if rest.is_empty() {
+            return Ok(self.awaiting(option));
         }
-        if rest.len() == 0 {
-            self.awaited = letter;
-            return self;
+        match option {
+            Valued::Setting => self.with_setting(rest).ok_or(Fault::Lacks(option)),
+            _ => Ok(self.with_output(i, 2)),
         }
-        if letter == b's' {
-            return self.with_setting(rest);
-        }
-        self.with_output(i, 2)
     }
 
     // The word that an option waits for.
-    fn with_value(mut self, i: usize, word: &[u8]) -> Self {
-        let letter = self.awaited;
-        self.awaited = 0;
-        if letter == b's' {
-            return self.with_setting(word);
-        }
-        if letter == b'i' {
-            return self.with_image(i);
-        }
-        if letter == b'd' {
-            return self.with_depth(word);
-        }
-        if letter == b'a' {
-            return self.with_place(word);
-        }
-        self.with_output(i, 0)
+    fn with_value(self, i: usize, option: Valued, word: &[u8]) -> Result<Self, Fault> {
+        let taken = match option {
+            Valued::Setting => self.with_setting(word),
+            Valued::Output => Some(self.with_output(i, 0)),
+            Valued::Image => Some(Self {
+                image: true,
+                ..self.with_file(i)
+            }),
+            Valued::Depth => size_of(word).map(|depth| Self { depth, ..self }),
+            Valued::At => place_of(word).map(|place| Self {
+                place: Some(place),
+                ..self
+            }),
+        };
+        taken.ok_or(Fault::Lacks(option))
     }
 
     // An option of trees, by its word.
-    fn with_long(mut self, word: &[u8]) -> Self {
+    fn with_long(self, word: &[u8]) -> Result<Self, Fault> {
         if !self.shows {
-            return self.with_fault(UNKNOWN);
+            return Err(Fault::Unknown);
         }
-        if check::same(word, b"--image") {
-            self.awaited = b'i';
-            return self;
+        match word {
+            b"--image" => Ok(self.awaiting(Valued::Image)),
+            b"--depth" => Ok(self.awaiting(Valued::Depth)),
+            b"--at" => Ok(self.awaiting(Valued::At)),
+            b"--json" => Ok(Self { json: true, ..self }),
+            b"--colour" => Ok(Self {
+                colours: true,
+                ..self
+            }),
+            _ => Err(Fault::Unknown),
         }
-        if check::same(word, b"--depth") {
-            self.awaited = b'd';
-            return self;
-        }
-        if check::same(word, b"--at") {
-            self.awaited = b'a';
-            return self;
-        }
-        if check::same(word, b"--json") {
-            self.json = true;
-            return self;
-        }
-        if check::same(word, b"--colour") {
-            self.colours = true;
-            return self;
-        }
-        self.with_fault(UNKNOWN)
     }
 
     // The next word, the i-th.
-    pub fn with(mut self, i: usize, word: &[u8]) -> Self {
-        if self.awaited != 0 {
-            return self.with_value(i, word);
+    pub fn with(mut self, i: usize, word: &[u8]) -> Result<Self, Fault> {
+        if let Some(option) = self.awaited.take() {
+            return self.with_value(i, option, word);
         }
         if self.plain {
-            return self.with_file(i);
+            return Ok(self.with_file(i));
         }
-        if word.len() < 2 {
-            return self.with_file(i);
+        match word {
+            b"--" => Ok(Self {
+                plain: true,
+                ..self
+            }),
+            [b'-', b'-', ..] => self.with_long(word),
+            [b'-', letter, rest @ ..] => self.with_letter(i, *letter, rest),
+            _ => Ok(self.with_file(i)),
         }
-        if word[0] != b'-' {
-            return self.with_file(i);
+    }
+
+    // Behind a word that is wrong, for a program that goes on: nothing waits for its value any more.
+    pub fn behind_fault(self) -> Self {
+        Self {
+            awaited: None,
+            ..self
         }
-        if check::same(word, b"--") {
-            self.plain = true;
-            return self;
-        }
-        if word[1] == b'-' {
-            return self.with_long(word);
-        }
-        self.with_letter(i, word[1], &word[2..])
     }
 
     // Behind the last word.
-    pub fn ended(self) -> Self {
-        if self.awaited == b's' {
-            return self.with_fault(SETTING);
-        }
-        if self.awaited == b'o' {
-            return self.with_fault(OUTPUT);
-        }
-        if self.awaited == b'i' {
-            return self.with_fault(IMAGE);
-        }
-        if self.awaited == b'd' {
-            return self.with_fault(DEPTH);
-        }
-        if self.awaited == b'a' {
-            return self.with_fault(AT);
-        }
-        self
-    }
-
-    // Says what is wrong.
-    pub fn complain(self, rt: &HostRuntime, program: &[u8]) {
-        let fault = self.fault;
-        system::complain(rt, program);
-        match fault {
-            SETTING => system::complain(rt, b": -s takes a setting, 0 to 15\n"),
-            OUTPUT => system::complain(rt, b": -o takes the name of a file\n"),
-            IMAGE => system::complain(rt, b": --image takes the name of a file\n"),
-            DEPTH => system::complain(rt, b": --depth takes a number\n"),
-            AT => system::complain(rt, b": --at takes a place, LINE:COLUMN\n"),
-            _ => system::complain(rt, b": there is no such option; -h tells which there are\n"),
+    pub fn ended(self) -> Result<Self, Fault> {
+        match self.awaited {
+            Some(option) => Err(Fault::Lacks(option)),
+            None => Ok(self),
         }
     }
 }
 
 // Whether a word stands for standard input.
 pub fn is_standard_input(word: &[u8]) -> bool {
-    check::same(word, b"-")
+    word == b"-".as_slice()
 }

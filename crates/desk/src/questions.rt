@@ -5,10 +5,11 @@
 //     mass LISTLEN HEXIMAGE
 //     json OUTLEN HEXTEXT
 ghost use Rattle.std.specs.Prelude.{◌≤◌};
-ghost use Rattle.io.specs.Counts.{IsPrefixLen};
 
-use crate::text::{put, put_field, put_hex_line, put_number};
-use crate::{Fields, Language, backs, masses, nights};
+use crate::list::List;
+use crate::nights::Night;
+use crate::text::Text;
+use crate::{Fields, Language, backs, is_clear, masses};
 
 // The longest output that a question may ask for.
 pub const OUTPUT: usize = 1_048_576;
@@ -17,10 +18,11 @@ pub const OUTPUT: usize = 1_048_576;
 // image are not cut.
 pub const SOURCE: usize = 1_048_576;
 
-// How many numbers a list of a question may have, and room for a question's two.
-const LIST: usize = 4_096;
+// How many numbers a list of a question may have.
+pub const LIST: usize = 4_096;
 
-pub const LISTS: usize = 8_192;
+// The most numbers that a question may ask for as listings.
+pub const LISTINGS: usize = 8_192;
 
 // The most numbers that a question may ask for as a list of answers: five for each of a list.
 pub const ANSWERS: usize = 20_480;
@@ -31,536 +33,471 @@ pub const LINKS: usize = 266_666;
 // Room for the longest answer: two digits for each byte of the output, twenty and a comma for each number, and five numbers before them.
 pub const TEXT: usize = 2_527_360;
 
-// The forms, by the letters of their word as a number; a source has none.
-const SOURCE_FORM: u64 = 0;
+// No word of a form is longer.
+const WORD: usize = 8;
 
-const NIGHT_FORM: u64 = 0x6E_6967_6874;
+// What no question has.
+#[derive(Clone, Copy, Debug)]
+struct Bad;
 
-const BACK_FORM: u64 = 0x6261_636B;
+#[derive(Clone, Copy, Debug, PartialEq, Eq)]
+enum Form {
+    Source,
+    Night,
+    Back,
+    Mass,
+    Json,
+}
 
-const MASS_FORM: u64 = 0x6D61_7373;
+// The fields of a question.
+#[derive(Clone, Copy, Debug, PartialEq, Eq)]
+enum Stage {
+    Word, // the form's word
+    Setting,
+    Ends, // the ends of files
+    Parts, // the ends of their parts
+    Room, // the output's length
+    Count, // the length of the list for the answers or the listings
+    Bytes, // the hex of the sources or the image
+    Bad, // what no question has
+}
 
-const JSON_FORM: u64 = 0x6A73_6F6E;
+impl Form {
+    // The form that a word names; a source has none.
+    fn named(word: &[u8]) -> Result<Form, Bad> {
+        match word {
+            b"night" => Ok(Form::Night),
+            b"back" => Ok(Form::Back),
+            b"mass" => Ok(Form::Mass),
+            b"json" => Ok(Form::Json),
+            _ => Err(Bad),
+        }
+    }
 
-// The field that a question has come to.
-const WORD: u8 = 0; // in the form's word
+    // The field that follows a field.
+    fn next(self, stage: Stage) -> Result<Stage, Bad> {
+        match (self, stage) {
+            (Form::Night, Stage::Word) => Ok(Stage::Setting),
+            (Form::Night, Stage::Setting) => Ok(Stage::Ends),
+            (Form::Night, Stage::Ends) => Ok(Stage::Parts),
+            (Form::Night, Stage::Parts) => Ok(Stage::Room),
+            (Form::Night, Stage::Room) => Ok(Stage::Count),
+            (Form::Night, Stage::Count) => Ok(Stage::Bytes),
+            (Form::Back, Stage::Word) => Ok(Stage::Bytes),
+            (Form::Mass, Stage::Word) => Ok(Stage::Count),
+            (Form::Mass, Stage::Count) => Ok(Stage::Bytes),
+            (Form::Json, Stage::Word) => Ok(Stage::Room),
+            (Form::Json | Form::Source, Stage::Room) => Ok(Stage::Bytes),
+            (Form::Source, Stage::Setting) => Ok(Stage::Room),
+            _ => Err(Bad),
+        }
+    }
+}
 
-const SETTING: u8 = 1; // in the setting
+// What has come of a field, or of an element of a list.
+#[derive(Clone, Copy, Debug, PartialEq, Eq)]
+enum Field {
+    Empty,
+    Begun,
+    None, // it is the sign for none, behind which nothing may follow
+}
 
-const ENDS: u8 = 2; // in the ends of files
-
-const PARTS: u8 = 3; // in the ends of their parts
-
-const ROOM: u8 = 4; // in the output's length
-
-const COUNT: u8 = 5; // in the length of the list for the answers or the listings
-
-const BYTES: u8 = 6; // in the hex of the sources or the image
-
-const BAD: u8 = 7; // behind what no question has
-
-// The largest number of 64 bits is ten times the one and the other over.
-const TENTH: u64 = 1_844_674_407_370_955_161;
-
-const OVER: u64 = 5;
-
-// A word of eight letters has no room for another.
-const LETTERS: u64 = 0x100_0000_0000_0000;
-
-// Stands for a digit where there is none.
-const NO_DIGIT: u8 = 16;
-
-// A question as far as it has come.
+// The letters of a form's word.
 #[derive(Clone, Copy)]
-pub struct Question {
-    form: u64,
-    stage: u8,
-    begun: bool, // whether the field has a character yet, and an element of a list one
-    none: bool, // whether it is the sign for none, behind which nothing may follow
+struct Word {
+    letters: [u8; WORD],
+    count: usize,
+    ghost fits: { count ≤ 8 },
+}
+
+impl Word {
+    fn new() -> Self {
+        Self {
+            letters: [0; WORD],
+            count: 0,
+        }
+    }
+
+    fn push(&mut self, letter: u8) -> Result<(), Bad> {
+        let n = self.count;
+        if n == WORD {
+            return Err(Bad);
+        }
+        self.letters[n] = letter;
+        self.count = n + 1;
+        Ok(())
+    }
+
+    fn as_slice(&self) -> &[u8] {
+        &self.letters[..self.count]
+    }
+}
+
+// A question as far as it has come, but for its lists and bytes.
+#[derive(Clone, Copy)]
+struct Head {
+    form: Form,
+    stage: Stage,
+    field: Field,
+    word: Word,
     number: u64, // the number of the field so far
     setting: u64,
     room: u64,
     count: u64,
-    ends: usize, // how many elements each list has
-    parts: usize,
-    high: u8, // the first digit of a pair whose second has not come
-    length: usize, // how many bytes of the sources or the image came, as far as they are kept
-    is_cut: bool, // whether some were not kept
+    high: Option<u8>, // the first digit of a pair whose second has not come
+    is_cut: bool, // whether some bytes of the sources or the image were not kept
 }
 
-fn digit(b: u8) -> u8
-    ensures { result ≤ 16 }
-{
-    match b {
-        b'0'..=b'9' => b - 0x30,
-        b'a'..=b'f' => b - 0x57,
-        _ => NO_DIGIT,
-    }
-}
-
-fn is_letter(b: u8) -> bool {
-    match b {
-        b'a'..=b'z' => true,
-        _ => false,
-    }
-}
-
-// The field that follows a field.
-fn next(form: u64, stage: u8) -> u8 {
-    if form == NIGHT_FORM {
-        return match stage {
-            WORD => SETTING,
-            SETTING => ENDS,
-            ENDS => PARTS,
-            PARTS => ROOM,
-            ROOM => COUNT,
-            COUNT => BYTES,
-            _ => BAD,
-        };
-    }
-    if form == BACK_FORM {
-        return match stage {
-            WORD => BYTES,
-            _ => BAD,
-        };
-    }
-    if form == MASS_FORM {
-        return match stage {
-            WORD => COUNT,
-            COUNT => BYTES,
-            _ => BAD,
-        };
-    }
-    if form == JSON_FORM {
-        return match stage {
-            WORD => ROOM,
-            ROOM => BYTES,
-            _ => BAD,
-        };
-    }
-    if form != SOURCE_FORM {
-        return BAD;
-    }
-    match stage {
-        SETTING => ROOM,
-        ROOM => BYTES,
-        _ => BAD,
-    }
-}
-
-impl Question {
-    pub fn new() -> Self {
+impl Head {
+    fn new() -> Self {
         Self {
-            form: SOURCE_FORM,
-            stage: SETTING,
-            begun: false,
-            none: false,
+            form: Form::Source,
+            stage: Stage::Setting,
+            field: Field::Empty,
+            word: Word::new(),
             number: 0,
             setting: 0,
             room: 0,
             count: 0,
-            ends: 0,
-            parts: 0,
-            high: NO_DIGIT,
-            length: 0,
+            high: None,
             is_cut: false,
         }
     }
 
-    fn bad(mut self) -> Self {
-        self.stage = BAD;
-        self
-    }
-
-    // Whether a character of it has come.
-    pub fn is_begun(self) -> bool {
-        self.begun || self.stage != SETTING || self.form != SOURCE_FORM
-    }
-
-    fn is_whole(self) -> bool {
-        self.stage == BYTES && self.begun && self.high == NO_DIGIT
-    }
-
-    // Of a source or a station's text, what it is written in.
-    fn language(self) -> Language {
-        if self.form == JSON_FORM {
-            return Language::Json;
-        }
-        Language::Jsonnet(self.setting)
-    }
-
-    // An element of a list that has ended.
-    fn with_element(mut self, lists: &mut [usize]) -> Self {
-        if !self.begun {
-            return self.bad();
-        }
-        let mut at = self.ends;
-        if self.stage == PARTS {
-            at = self.parts;
-        }
-        if at >= LIST {
-            return self.bad();
-        }
-        let mut place = at;
-        if self.stage == PARTS {
-            self.parts = at + 1;
-            place = LIST + at;
-        } else {
-            self.ends = at + 1;
-        }
-        if place < lists.len() {
-            lists[place] = self.number as usize;
-        }
-        self.number = 0;
-        self.begun = false;
-        self
-    }
-
-    // The field that has ended, kept.
-    fn kept(mut self, lists: &mut [usize]) -> Self {
-        let stage = self.stage;
-        match stage {
-            WORD => {
-                self.form = self.number;
-            }
-            SETTING => {
-                self.setting = self.number;
-            }
-            ROOM => {
-                self.room = self.number;
-            }
-            COUNT => {
-                self.count = self.number;
-            }
-            _ => {
-                if !self.none {
-                    return self.with_element(lists);
-                }
-            }
-        }
-        self
-    }
-
-    // A space: the end of a field.
-    fn with_space(self, lists: &mut [usize]) -> Self {
-        if !self.begun {
-            return self.bad();
-        }
-        let mut q = self.kept(lists);
-        if q.stage == BAD {
-            return q;
-        }
-        q.stage = next(q.form, q.stage);
-        q.begun = false;
-        q.none = false;
-        q.number = 0;
-        q
+    // Whether a character of the question has come.
+    fn is_begun(&self) -> bool {
+        self.field != Field::Empty || self.stage != Stage::Setting || self.form != Form::Source
     }
 
     // A digit of a number of at most 64 bits.
-    fn with_digit(mut self, b: u8) -> Self {
-        let d = digit(b) as u64;
-        let n = self.number;
-        if d > 9 {
-            return self.bad();
+    fn take_digit(&mut self, b: u8) -> Result<(), Bad> {
+        if !b.is_ascii_digit() {
+            return Err(Bad);
         }
-        if n > TENTH {
-            return self.bad();
-        }
-        if n == TENTH {
-            if d > OVER {
-                return self.bad();
-            }
-        }
-        self.number = n * 10 + d;
-        self.begun = true;
-        self
+        let tens = self.number.checked_mul(10).ok_or(Bad)?;
+        self.number = tens.checked_add(u64::from(b - b'0')).ok_or(Bad)?;
+        self.field = Field::Begun;
+        Ok(())
     }
 
     // A letter of the form's word.
-    fn with_letter(mut self, b: u8) -> Self {
-        let n = self.number;
-        if n >= LETTERS {
-            return self.bad();
-        }
-        self.stage = WORD;
-        self.number = n * 256 + b as u64;
-        self.begun = true;
-        self
+    fn take_letter(&mut self, b: u8) -> Result<(), Bad> {
+        self.word.push(b)?;
+        self.stage = Stage::Word;
+        self.field = Field::Begun;
+        Ok(())
     }
 
     // The sign for none.
-    fn with_none(mut self) -> Self {
-        if self.begun {
-            return self.bad();
+    fn take_none(&mut self) -> Result<(), Bad> {
+        if self.field != Field::Empty {
+            return Err(Bad);
         }
-        self.begun = true;
-        self.none = true;
-        self
-    }
-
-    // A character of a list: a comma, or a digit of an element, or the sign for none, which nothing may stand before.
-    fn with_listed(self, b: u8, lists: &mut [usize]) -> Self {
-        if b == b',' {
-            return self.with_element(lists);
-        }
-        if b == b'-' {
-            let mut n = self.ends;
-            if self.stage == PARTS {
-                n = self.parts;
-            }
-            if n == 0 {
-                return self.with_none();
-            }
-        }
-        self.with_digit(b)
-    }
-
-    // A digit of the sources or the image.
-    fn with_hex(mut self, b: u8, source: &mut [u8]) -> Self {
-        let d = digit(b);
-        if b == b'-' {
-            return self.with_none();
-        }
-        if d == NO_DIGIT {
-            return self.bad();
-        }
-        self.begun = true;
-        let high = self.high;
-        if high >= NO_DIGIT {
-            self.high = d;
-            return self;
-        }
-        self.high = NO_DIGIT;
-        let n = self.length;
-        if n < source.len() {
-            source[n] = high * 16 + d;
-            self.length = n + 1;
-        } else {
-            self.is_cut = true;
-        }
-        self
+        self.field = Field::None;
+        Ok(())
     }
 
     // A character of a word or a number.
-    fn with_character(self, b: u8) -> Self {
-        if is_letter(b) {
-            if self.stage == WORD {
-                return self.with_letter(b);
-            }
-            if self.is_begun() {
-                return self.bad();
-            }
-            return self.with_letter(b);
+    fn take_character(&mut self, b: u8) -> Result<(), Bad> {
+        let in_word = self.stage == Stage::Word;
+        match b {
+            b'a'..=b'z' if in_word || !self.is_begun() => self.take_letter(b),
+            b'0'..=b'9' if !in_word => self.take_digit(b),
+            _ => Err(Bad),
         }
-        if self.stage == WORD {
-            return self.bad();
+    }
+}
+
+fn digit(b: u8) -> Result<u8, Bad> {
+    match b {
+        b'0'..=b'9' => Ok(b - b'0'),
+        b'a'..=b'f' => Ok(b - b'a' + 10),
+        _ => Err(Bad),
+    }
+}
+
+// One element more.
+fn add(list: &mut List<usize>, number: u64) -> Result<(), Bad> {
+    if list.is_full() {
+        return Err(Bad);
+    }
+    list.push(number as usize);
+    Ok(())
+}
+
+// A question as far as it has come.
+#[derive(Drop)]
+pub struct Question<'a> {
+    head: Head,
+    source: List<'a, u8>, // the bytes of the sources or the image, as many as are kept
+    ends: List<'a, usize>,
+    parts: List<'a, usize>,
+}
+
+impl<'a> Question<'a> {
+    // One that is taken in to these buffers.
+    pub fn new(source: &'a mut [u8], ends: &'a mut [usize], parts: &'a mut [usize]) -> Self {
+        Self {
+            head: Head::new(),
+            source: List::new(source),
+            ends: List::new(ends),
+            parts: List::new(parts),
         }
-        self.with_digit(b)
+    }
+
+    // Nothing of the next one has come.
+    fn clear(&mut self) {
+        self.head = Head::new();
+        self.source.clear();
+        self.ends.clear();
+        self.parts.clear();
+    }
+
+    fn is_whole(&self) -> bool {
+        let head = &self.head;
+        head.stage == Stage::Bytes && head.field != Field::Empty && head.high.is_none()
+    }
+
+    // Of a source or a station's text, what it is written in.
+    fn language(&self) -> Language {
+        match self.head.form {
+            Form::Json => Language::Json,
+            _ => Language::Jsonnet(self.head.setting),
+        }
+    }
+
+    // An element of a list that has ended.
+    fn end_element(&mut self) -> Result<(), Bad> {
+        if self.head.field != Field::Begun {
+            return Err(Bad);
+        }
+        let number = self.head.number;
+        if self.head.stage == Stage::Parts {
+            add(&mut self.parts, number)?;
+        } else {
+            add(&mut self.ends, number)?;
+        }
+        self.head.number = 0;
+        self.head.field = Field::Empty;
+        Ok(())
+    }
+
+    // The field that has ended, kept.
+    fn keep(&mut self) -> Result<(), Bad> {
+        let head = &mut self.head;
+        match head.stage {
+            Stage::Word => head.form = Form::named(head.word.as_slice())?,
+            Stage::Setting => head.setting = head.number,
+            Stage::Room => head.room = head.number,
+            Stage::Count => head.count = head.number,
+            _ => {
+                if head.field != Field::None {
+                    return self.end_element();
+                }
+            }
+        }
+        Ok(())
+    }
+
+    // A space: the end of a field.
+    fn take_space(&mut self) -> Result<(), Bad> {
+        if self.head.field == Field::Empty {
+            return Err(Bad);
+        }
+        self.keep()?;
+        let head = &mut self.head;
+        head.stage = head.form.next(head.stage)?;
+        head.field = Field::Empty;
+        head.number = 0;
+        Ok(())
+    }
+
+    // A character of a list: a comma, or a digit of an element, or the sign for none, which nothing may stand before.
+    fn take_listed(&mut self, b: u8) -> Result<(), Bad> {
+        let list = if self.head.stage == Stage::Parts {
+            &self.parts
+        } else {
+            &self.ends
+        };
+        match b {
+            b',' => self.end_element(),
+            b'-' if list.as_slice().is_empty() => self.head.take_none(),
+            _ => self.head.take_digit(b),
+        }
+    }
+
+    // A digit of the sources or the image.
+    fn take_hex(&mut self, b: u8) -> Result<(), Bad> {
+        let head = &mut self.head;
+        if b == b'-' {
+            return head.take_none();
+        }
+        let low = digit(b)?;
+        head.field = Field::Begun;
+        match head.high.take() {
+            None => head.high = Some(low),
+            Some(_) if self.source.is_full() => head.is_cut = true,
+            Some(high) => self.source.push(high << 4 | low),
+        }
+        Ok(())
+    }
+
+    fn take_in(&mut self, b: u8) -> Result<(), Bad> {
+        if self.head.field == Field::None && b != b' ' {
+            return Err(Bad);
+        }
+        match self.head.stage {
+            Stage::Bad => Err(Bad),
+            Stage::Bytes => self.take_hex(b),
+            _ if b == b' ' => self.take_space(),
+            Stage::Ends | Stage::Parts => self.take_listed(b),
+            _ => self.head.take_character(b),
+        }
     }
 
     // One byte more of the line.
-    pub fn with(self, b: u8, source: &mut [u8], lists: &mut [usize]) -> Self {
-        let stage = self.stage;
-        if self.none {
-            if b != b' ' {
-                return self.bad();
-            }
-        }
-        match stage {
-            BAD => self,
-            BYTES => self.with_hex(b, source),
-            _ => {
-                if b == b' ' {
-                    return self.with_space(lists);
-                }
-                if stage == ENDS || stage == PARTS {
-                    return self.with_listed(b, lists);
-                }
-                self.with_character(b)
-            }
+    fn take(&mut self, b: u8) {
+        if self.take_in(b).is_err() {
+            self.head.stage = Stage::Bad;
         }
     }
-}
 
-// Anything but zeros, so that what the reader leaves untouched is seen.
-pub fn smear(output: &mut [u8]) {
-    let mut i = 0;
-    while i < output.len() {
-        output[i] = 0xAA;
-        i += 1;
+    // The answer's line for a night.
+    fn answer_night(
+        &self,
+        output: &mut [u8],
+        answers: &mut [u64],
+        text: &mut Text,
+    ) -> Result<(), Bad> {
+        let head = &self.head;
+        let output = output.get_mut(..head.room as usize).ok_or(Bad)?;
+        let answers = answers.get_mut(..head.count as usize).ok_or(Bad)?;
+        let night = Night {
+            setting: head.setting,
+            sources: self.source.as_slice(),
+            ends: self.ends.as_slice(),
+            output,
+            parts: self.parts.as_slice(),
+            answers,
+        };
+        night.answer_into(text);
+        Ok(())
     }
-}
 
-// Whether all from a place on is zero.
-pub fn is_clear(output: &[u8], from: usize) -> bool {
-    let mut i = from;
-    while i < output.len() {
-        if output[i] != 0 {
-            return false;
-        }
-        i += 1;
+    // The answer's line for an image, which is lent just as many numbers as it needs.
+    fn answer_back(&self, links: &mut [usize], text: &mut Text) -> Result<(), Bad> {
+        let image = self.source.as_slice();
+        let links = links.get_mut(..image.len() / 3 * 2).ok_or(Bad)?;
+        backs::answer_into(image, links, text);
+        Ok(())
     }
-    true
+
+    // The answer's line for the planner's list, whose array has just as many numbers as the image needs.
+    fn answer_mass(
+        &self,
+        links: &mut [usize],
+        list: &mut [usize],
+        text: &mut Text,
+    ) -> Result<(), Bad> {
+        let image = self.source.as_slice();
+        let links = links.get_mut(..image.len() / 3 * 2).ok_or(Bad)?;
+        let list = list.get_mut(..self.head.count as usize).ok_or(Bad)?;
+        masses::answer_into(image, links, list, text);
+        Ok(())
+    }
+
+    // The answer's line for a source or a station's text.
+    fn answer_source(&self, output: &mut [u8], text: &mut Text) -> Result<(), Bad> {
+        let output = output.get_mut(..self.head.room as usize).ok_or(Bad)?;
+        answer_into(self.language(), self.source.as_slice(), output, text);
+        Ok(())
+    }
 }
 
 // The line `NUMBER START END DETAIL LENGTH HEXIMAGE`; `dirty` where more than the image stands in the output.
-fn told(f: Fields, output: &[u8], text: &mut [u8]) -> usize
-    ensures { IsPrefixLen result text.new }
-{
-    let number = f.number;
-    let start = f.start;
-    let end = f.end;
-    let detail = f.detail;
-    let length = f.length;
+fn tell(f: Fields, output: &[u8], text: &mut Text) {
     let image = crate::image(f, output);
     if !is_clear(output, image.len()) {
-        return put(text, 0, b"dirty\n");
+        text.put("dirty\n");
+        return;
     }
-    let mut n = put_number(text, 0, number);
-    n = put_field(text, n, start);
-    n = put_field(text, n, end);
-    n = put_field(text, n, detail);
-    n = put_field(text, n, length);
+    let Fields {
+        number,
+        start,
+        end,
+        detail,
+        length,
+    } = f;
+    text.put(format_args!("{number} {start} {end} {detail} {length} "));
     if number != 0 {
-        return put(text, n, b" -\n");
+        text.put("-\n");
+        return;
     }
-    n = put(text, n, b" ");
-    put_hex_line(text, n, image)
+    text.put_hex_line(image);
 }
 
 // The answer's line for a source or a station's text.
-pub fn answer_into(language: Language, source: &[u8], output: &mut [u8], text: &mut [u8]) -> usize
-    ensures { IsPrefixLen result text.new }
-{
-    smear(output);
+pub fn answer_into(language: Language, source: &[u8], output: &mut [u8], text: &mut Text) {
+    // anything but zeros, so that what the reader leaves untouched is seen
+    output.fill(0xAA);
     let f = crate::answer_in(language, source, output);
-    told(f, output, text)
+    tell(f, output, text);
 }
 
-// A line that asks nothing.
-fn say_bad(text: &mut [u8]) -> usize
-    ensures { IsPrefixLen result text.new }
-{
-    put(text, 0, b"bad\n")
+// Where questions are taken in and answered.
+#[derive(Drop)]
+pub struct Clerk<'a> {
+    pub question: Question<'a>,
+    pub output: &'a mut [u8],
+    pub answers: &'a mut [u64],
+    pub links: &'a mut [usize],
+    pub listings: &'a mut [usize],
+    pub text: Text<'a>, // the answer's line
 }
 
-// The answer's line for a night.
-fn answer_night(
-    q: Question,
-    source: &[u8],
-    lists: &[usize],
-    output: &mut [u8],
-    answers: &mut [u64],
-    text: &mut [u8],
-) -> usize
-    ensures { IsPrefixLen result text.new }
-{
-    let ends = q.ends;
-    let parts = q.parts;
-    let count = q.count as usize;
-    if q.is_cut {
-        return say_bad(text);
+impl Clerk<'_> {
+    fn answer_asked(&mut self) -> Result<(), Bad> {
+        let q = &self.question;
+        if !q.is_whole() {
+            return Err(Bad);
+        }
+        let text = &mut self.text;
+        match q.head.form {
+            Form::Source | Form::Json => q.answer_source(self.output, text),
+            _ if q.head.is_cut => Err(Bad),
+            Form::Night => q.answer_night(self.output, self.answers, text),
+            Form::Back => q.answer_back(self.links, text),
+            Form::Mass => q.answer_mass(self.links, self.listings, text),
+        }
     }
-    if answers.len() < count {
-        return say_bad(text);
-    }
-    if lists.len() < LISTS {
-        return say_bad(text);
-    }
-    if LIST < ends {
-        return say_bad(text);
-    }
-    if LIST < parts {
-        return say_bad(text);
-    }
-    nights::answer_into(
-        q.setting,
-        source,
-        &lists[..ends],
-        output,
-        &lists[LIST..LIST + parts],
-        &mut answers[..count],
-        text,
-    )
-}
 
-// The answer's line for an image, which is lent just as many numbers as it needs.
-fn answer_back(q: Question, image: &[u8], links: &mut [usize], text: &mut [u8]) -> usize
-    ensures { IsPrefixLen result text.new }
-{
-    let needed = image.len() / 3 * 2;
-    if q.is_cut {
-        return say_bad(text);
+    // The answer's line for the question, behind which the next one is taken in; `bad` for a line that asks nothing, and for one that the buffers are too
+    // short for.
+    fn answer(&mut self) {
+        self.text.clear();
+        if self.answer_asked().is_err() {
+            self.text.put("bad\n");
+        }
+        self.question.clear();
     }
-    if links.len() < needed {
-        return say_bad(text);
-    }
-    backs::answer_into(image, &mut links[..needed], text)
-}
 
-// The answer's line for the planner's list, whose array has just as many numbers as the image needs.
-fn answer_mass(
-    q: Question,
-    image: &[u8],
-    links: &mut [usize],
-    list: &mut [usize],
-    text: &mut [u8],
-) -> usize
-    ensures { IsPrefixLen result text.new }
-{
-    let needed = image.len() / 3 * 2;
-    let count = q.count as usize;
-    if q.is_cut {
-        return say_bad(text);
+    // One byte more of a line, and whether it was its end: then the line is answered.
+    pub fn take(&mut self, b: u8) -> bool {
+        let is_end = b == b'\n';
+        if is_end {
+            self.answer();
+        } else {
+            self.question.take(b);
+        }
+        is_end
     }
-    if links.len() < needed {
-        return say_bad(text);
-    }
-    if list.len() < count {
-        return say_bad(text);
-    }
-    masses::answer_into(image, &mut links[..needed], &mut list[..count], text)
-}
 
-// The answer's line for a question; `bad` for a line that asks nothing, and for one that the buffers are too short for.
-pub fn answer(
-    q: Question,
-    source: &[u8],
-    lists: &mut [usize],
-    output: &mut [u8],
-    answers: &mut [u64],
-    links: &mut [usize],
-    text: &mut [u8],
-) -> usize
-    ensures { IsPrefixLen result text.new }
-{
-    let length = q.length;
-    let room = q.room as usize;
-    if !q.is_whole() {
-        return say_bad(text);
+    // The end of all lines, and whether one came before it that lacked its own: then that is answered.
+    pub fn finish(&mut self) -> bool {
+        let is_begun = self.question.head.is_begun();
+        if is_begun {
+            self.answer();
+        }
+        is_begun
     }
-    if source.len() < length {
-        return say_bad(text);
-    }
-    if output.len() < room {
-        return say_bad(text);
-    }
-    if q.form == NIGHT_FORM {
-        return answer_night(
-            q,
-            &source[..length],
-            lists,
-            &mut output[..room],
-            answers,
-            text,
-        );
-    }
-    if q.form == BACK_FORM {
-        return answer_back(q, &source[..length], links, text);
-    }
-    if q.form == MASS_FORM {
-        return answer_mass(q, &source[..length], links, lists, text);
-    }
-    answer_into(q.language(), &source[..length], &mut output[..room], text)
 }

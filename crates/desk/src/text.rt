@@ -1,77 +1,43 @@
-// Text put together in a lent buffer. Each function writes at a place and hands back the next; what has no room is left out.
-ghost use Rattle.io.specs.Counts.{IsPrefixLen};
+// Text put together in a lent buffer. What is written to it and has no room is left out.
+use crate::list::List;
+use std::fmt;
+use std::fmt::{Display, Write};
 
-pub fn put(text: &mut [u8], at: usize, bytes: &[u8]) -> usize
-    ensures { IsPrefixLen result text.new }
-{
-    let mut n = at;
-    let mut i = 0;
-    while i < bytes.len() {
-        if text.len() <= n {
-            return text.len();
+pub type Text<'a> = List<'a, u8>;
+
+const DIGITS: [u8; 16] = *b"0123456789abcdef";
+
+impl fmt::Write for List<'_, u8> {
+    fn write_str(&mut self, text: &str) -> fmt::Result {
+        self.extend(text.as_bytes());
+        Ok(())
+    }
+}
+
+impl List<'_, u8> {
+    // What a value prints as.
+    pub fn put<D: Display + Drop>(&mut self, value: D) {
+        let _ = self.write_fmt(value);
+    }
+
+    // Bytes in lower-case hex, and the line's end.
+    pub fn put_hex_line(&mut self, bytes: &[u8]) {
+        for b in bytes {
+            self.extend(&[DIGITS[usize::from(*b / 16)], DIGITS[usize::from(*b % 16)]]);
         }
-        text[n] = bytes[i];
-        n += 1;
-        i += 1;
+        self.extend(b"\n");
     }
-    if text.len() < n {
-        return text.len();
-    }
-    n
-}
 
-// A number in decimal.
-pub fn put_number(text: &mut [u8], at: usize, n: u64) -> usize
-    ensures { IsPrefixLen result text.new }
-{
-    let mut digits = [0u8; 20];
-    let k = io::decimal(n, &mut digits);
-    put(text, at, &digits[..k])
-}
-
-// A number after a space.
-pub fn put_field(text: &mut [u8], at: usize, n: u64) -> usize
-    ensures { IsPrefixLen result text.new }
-{
-    let next = put(text, at, b" ");
-    put_number(text, next, n)
-}
-
-fn hex_digit(n: u8) -> u8 {
-    match n {
-        0..=9 => n + 0x30,
-        10..=15 => n + 0x57,
-        _ => b'?',
+    // Numbers with commas between them; a sign for none.
+    pub fn put_list<T: Copy + Display>(&mut self, numbers: &[T]) {
+        let Some((first, others)) = numbers.split_first() else {
+            self.extend(b"-");
+            return;
+        };
+        self.put(*first);
+        for n in others {
+            self.extend(b",");
+            self.put(*n);
+        }
     }
-}
-
-// Bytes in lower-case hex, and the line's end.
-pub fn put_hex_line(text: &mut [u8], at: usize, bytes: &[u8]) -> usize
-    ensures { IsPrefixLen result text.new }
-{
-    let mut n = at;
-    let mut i = 0;
-    while i < bytes.len() {
-        let b = bytes[i];
-        n = put(text, n, &[hex_digit(b / 16), hex_digit(b % 16)]);
-        i += 1;
-    }
-    put(text, n, b"\n")
-}
-
-// Numbers with commas between them; a sign for none.
-pub fn put_list(text: &mut [u8], at: usize, numbers: &[u64]) -> usize
-    ensures { IsPrefixLen result text.new }
-{
-    if numbers.len() == 0 {
-        return put(text, at, b"-");
-    }
-    let mut n = put_number(text, at, numbers[0]);
-    let mut i = 1;
-    while i < numbers.len() {
-        n = put(text, n, b",");
-        n = put_number(text, n, numbers[i]);
-        i += 1;
-    }
-    n
 }

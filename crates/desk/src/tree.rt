@@ -1,11 +1,10 @@
 // What `readtree` and `readjson` do: a file read, and the answer as document 01 has it printed; or its image in a file.
-ghost use Rattle.io.specs.Counts.{IsPrefixLen};
-
-use crate::input::take;
-use crate::options::Options;
-use crate::text::{put, put_field, put_hex_line};
+use crate::options::{Fault, Options};
+use crate::status::Status;
+use crate::text::Text;
 use crate::{Fields, Language, options, status};
-use std::io::{Result, Write};
+use std::io;
+use std::io::{Eprint, Write};
 use system::source::create;
 use system::{Output, Source};
 
@@ -24,71 +23,57 @@ const LARGEST: usize = 1_040_000;
 // Room for one line of numbers.
 const LINE: usize = 128;
 
-fn refused(f: Fields, text: &mut [u8]) -> usize
-    ensures { IsPrefixLen result text.new }
-{
-    let mut n = put(text, 0, b"refused");
-    n = put_field(text, n, f.number);
-    n = put_field(text, n, f.start);
-    n = put_field(text, n, f.end);
-    n = put_field(text, n, f.detail);
-    put(text, n, b"\n")
+fn refused(f: Fields, text: &mut Text) {
+    let Fields {
+        number,
+        start,
+        end,
+        detail,
+        ..
+    } = f;
+    text.put(format_args!("refused {number} {start} {end} {detail}\n"));
 }
 
-fn accepted(length: u64, text: &mut [u8]) -> usize
-    ensures { IsPrefixLen result text.new }
-{
-    let mut n = put(text, 0, b"ok");
-    n = put_field(text, n, length);
-    put(text, n, b"\n")
+fn accepted(length: u64, text: &mut Text) {
+    text.put(format_args!("ok {length}\n"));
 }
 
-// The lines that tell an answer.
-fn told(f: Fields, output: &[u8], text: &mut [u8]) -> usize
-    ensures { IsPrefixLen result text.new }
-{
+// The lines that tell an answer, and the status that goes with it.
+fn told(f: Fields, output: &[u8], text: &mut Text) -> Status {
     if f.number != 0 {
-        return refused(f, text);
+        refused(f, text);
+        return Status::Refused;
     }
-    let n = accepted(f.length, text);
-    put_hex_line(text, n, crate::image(f, output))
-}
-
-// The status of an answer, by its number.
-fn status_of(number: u64) -> u8 {
-    if number != 0 {
-        return status::REFUSED;
-    }
-    status::GOOD
+    accepted(f.length, text);
+    text.put_hex_line(crate::image(f, output));
+    Status::Good
 }
 
 // Prints lines, after which all is as it was, if they can be printed.
-fn print(rt: &HostRuntime, text: &[u8], status: u8) -> u8 {
+fn print(rt: &HostRuntime, text: &Text, status: Status) -> Status {
     let mut out = Output::new(rt);
-    out.write(text);
+    out.write(text.as_slice());
     status::if_written(rt, out.fault(), status)
 }
 
 // Reads all of a file and prints the answer with the image in hex; of a file that cannot be read to its end nothing is told. The status is
 // handed back.
-pub fn readtree(rt: &HostRuntime, file: &mut Source, name: &[u8], language: Language) -> u8 {
+pub fn readtree(rt: &HostRuntime, file: &mut Source, name: &[u8], language: Language) -> Status {
     let mut source = [0u8; SOURCE];
-    let taken = take(file, &mut source);
-    if let Some(error) = taken.fault {
-        system::fail(rt, name, error);
-        return status::FAILED;
-    }
-    let n = taken.length;
+    let n = match file.read_whole(&mut source) {
+        Ok(n) => n,
+        Err(error) => return status::unread(rt, name, error),
+    };
     let mut output = [0u8; OUTPUT];
     let f = crate::answer_in(language, &source[..n], &mut output);
-    let status = status_of(f.number);
-    let mut text = [0u8; TEXT];
-    let m = told(f, &output, &mut text);
-    print(rt, &text[..m], status)
+    let mut buffer = [0u8; TEXT];
+    let mut text = Text::new(&mut buffer);
+    let status = told(f, &output, &mut text);
+    print(rt, &text, status)
 }
 
 // Makes the bytes the file's.
-fn save(rt: &HostRuntime, name: &[u8], bytes: &[u8]) -> Result<()> {
+fn save(rt: &HostRuntime, name: &[u8], bytes: &[u8]) -> io::Result<()> {
     let mut file = create(rt, name)?;
     file.write_all(bytes)
 }
@@ -99,19 +84,19 @@ fn save_tree(
     source: &[u8],
     output: &mut [u8],
     image: &[u8],
-) -> u8 {
+) -> Status {
     let f = crate::answer_in(language, source, output);
-    let mut text = [0u8; LINE];
+    let mut buffer = [0u8; LINE];
+    let mut text = Text::new(&mut buffer);
     if f.number != 0 {
-        let n = refused(f, &mut text);
-        return print(rt, &text[..n], status::REFUSED);
+        refused(f, &mut text);
+        return print(rt, &text, Status::Refused);
     }
-    let length = f.length;
     if let Err(error) = save(rt, image, crate::image(f, output)) {
         return status::failed(rt, image, error);
     }
-    let n = accepted(length, &mut text);
-    print(rt, &text[..n], status::GOOD)
+    accepted(f.length, &mut text);
+    print(rt, &text, Status::Good)
 }
 
 // The buffer comes as a reference to an array: a proof that lent it as a slice where it is made would count its bytes one by one.
@@ -121,7 +106,7 @@ fn save_with(
     source: &[u8],
     output: &mut [u8; LARGEST],
     image: &[u8],
-) -> u8 {
+) -> Status {
     save_tree(rt, language, source, output, image)
 }
 
@@ -132,75 +117,68 @@ fn readtree_into(
     name: &[u8],
     language: Language,
     image: &[u8],
-) -> u8 {
+) -> Status {
     let mut source = [0u8; SOURCE];
-    let taken = take(file, &mut source);
-    if let Some(error) = taken.fault {
-        system::fail(rt, name, error);
-        return status::FAILED;
-    }
-    let n = taken.length;
+    let n = match file.read_whole(&mut source) {
+        Ok(n) => n,
+        Err(error) => return status::unread(rt, name, error),
+    };
     let mut output = [0u8; LARGEST];
     save_with(rt, language, &source[..n], &mut output, image)
 }
 
 // The options that hold behind the last word.
-fn take_words(rt: &HostRuntime, first: Options) -> Options {
+fn take_words(rt: &HostRuntime, first: Options) -> Result<Options, Fault> {
     let mut o = first;
     for i in status::first_argument(rt)..system::arg_count(rt) {
         let mut word = system::buffer();
-        let n = system::arg(rt, i, &mut word);
-        o = o.with(i, &word[..n]);
-        if o.fault != options::NOTHING {
-            return o;
-        }
+        o = o.with(i, system::arg(rt, i, &mut word))?;
     }
     o.ended()
 }
 
-fn read(rt: &HostRuntime, file: &mut Source, name: &[u8], o: Options) -> u8 {
-    if o.output == 0 {
+fn read(rt: &HostRuntime, file: &mut Source, name: &[u8], o: Options) -> Status {
+    let Some(output) = o.output else {
         return readtree(rt, file, name, o.language());
-    }
+    };
     let mut word = system::buffer();
-    let n = system::arg(rt, o.output, &mut word);
-    let from = o.output_from;
-    if n < from {
-        return status::FAILED;
+    match system::arg(rt, output.word, &mut word).get(output.from..) {
+        Some(image) => readtree_into(rt, file, name, o.language(), image),
+        None => Status::Failed,
     }
-    readtree_into(rt, file, name, o.language(), &word[from..n])
 }
 
-fn read_file(rt: &HostRuntime, o: Options) -> u8 {
+fn read_input(rt: &HostRuntime, o: Options) -> Status {
+    let mut input = Source::standard_input(rt);
+    read(rt, &mut input, b"standard input", o)
+}
+
+fn read_file(rt: &HostRuntime, o: Options) -> Status {
+    let Some(i) = o.file else {
+        return read_input(rt, o);
+    };
     let mut word = system::buffer();
-    let n = system::arg(rt, o.file, &mut word);
-    if o.file == 0 || options::is_standard_input(&word[..n]) {
-        let mut input = Source::standard_input(rt);
-        return read(rt, &mut input, b"standard input", o);
+    let name = system::arg(rt, i, &mut word);
+    if options::is_standard_input(name) {
+        return read_input(rt, o);
     }
-    match Source::open(rt, &word[..n]) {
-        Ok(file) => {
-            let mut file = file;
-            read(rt, &mut file, &word[..n], o)
-        }
-        Err(error) => {
-            system::fail(rt, &word[..n], error);
-            status::FAILED
-        }
+    match Source::open(rt, name) {
+        Ok(mut file) => read(rt, &mut file, name, o),
+        Err(error) => status::unread(rt, name, error),
     }
 }
 
 // Reads the one file that the words name, or standard input, by the options that a program begins with.
-pub fn run(rt: &HostRuntime, first: Options, program: &[u8]) -> u8 {
-    let o = take_words(rt, first);
-    if o.fault != options::NOTHING {
-        o.complain(rt, program);
-        return status::FAILED;
+pub fn run(rt: &HostRuntime, first: Options, program: &str) -> Status {
+    match take_words(rt, first) {
+        Ok(o) if o.more => {
+            let _ = rt.eprintln(format_args!("{program}: one file is read at a time"));
+            Status::Failed
+        }
+        Ok(o) => read_file(rt, o),
+        Err(fault) => {
+            fault.complain(rt, program);
+            Status::Failed
+        }
     }
-    if o.more {
-        system::complain(rt, program);
-        system::complain(rt, b": one file is read at a time\n");
-        return status::FAILED;
-    }
-    read_file(rt, o)
 }

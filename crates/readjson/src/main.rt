@@ -6,6 +6,6 @@ use desk::status;
 use std::process::ExitCode;
 
 fn main(rt: HostRuntime) -> ExitCode {
-    let status = desk::tree::run(&rt, Options::for_json(), b"readjson");
+    let status = desk::tree::run(&rt, Options::for_json(), "readjson");
     status::end(&rt, status)
 }

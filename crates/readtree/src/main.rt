@@ -6,6 +6,6 @@ use desk::status;
 use std::process::ExitCode;
 
 fn main(rt: HostRuntime) -> ExitCode {
-    let status = desk::tree::run(&rt, Options::new(true), b"readtree");
+    let status = desk::tree::run(&rt, Options::new(true), "readtree");
     status::end(&rt, status)
 }

@@ -3,211 +3,86 @@
 // `NUMBER START END DETAIL LENGTH HEXIMAGE`, to `night SETTING ENDS OUTENDS OUTLEN ANSWERLEN HEXSOURCES` by a line `NUMBER ANSWERS HEXOUTPUT`, to
 // `back HEXIMAGE` by a line `NUMBER OFFSET RECORDS PARTS COALESCES`, to `mass LISTLEN HEXIMAGE` by a line `NUMBER OFFSET COUNT LIST`, to `json OUTLEN HEXTEXT` as to
 // a source, and by `bad` to a line that is none.
-use desk::input::part;
-use desk::questions::Question;
-use desk::{questions, status};
-use std::io::Error;
+use desk::questions::{ANSWERS, Clerk, LINKS, LIST, LISTINGS, OUTPUT, Question, SOURCE, TEXT};
+use desk::status;
+use desk::status::Status;
+use desk::text::Text;
+use std::io;
 use std::process::ExitCode;
 use system::{Output, Source};
 
 // How many bytes are read at a time.
 const BYTES: usize = 65_536;
 
-fn reply(
-    out: &mut Output,
-    q: Question,
-    source: &[u8],
-    lists: &mut [usize],
-    output: &mut [u8],
-    answers: &mut [u64],
-    links: &mut [usize],
-    text: &mut [u8],
-) {
-    let n = questions::answer(q, source, lists, output, answers, links, text);
-    out.write(&text[..n]);
-}
-
-// Answers each question that ends in these bytes; the one that has not ended is handed back.
-fn reply_all(
-    out: &mut Output,
-    first: Question,
-    bytes: &[u8],
-    source: &mut [u8],
-    lists: &mut [usize],
-    output: &mut [u8],
-    answers: &mut [u64],
-    links: &mut [usize],
-    text: &mut [u8],
-) -> Question {
-    let mut q = first;
-    let mut i = 0;
-    while i < bytes.len() {
-        let b = bytes[i];
-        i += 1;
-        if b == b'\n' {
-            reply(out, q, source, lists, output, answers, links, text);
-            q = Question::new();
-        } else {
-            q = q.with(b, source, lists);
+// Answers each question that ends before the file does. A proved loop has to end, so it counts its turns, to a number that no run comes to.
+fn answer_ended(file: &mut Source, out: &mut Output, clerk: &mut Clerk) -> io::Result<()> {
+    for _ in 0..u64::MAX {
+        let mut bytes = [0u8; BYTES];
+        let n = file.read(&mut bytes)?;
+        if n == 0 {
+            break;
+        }
+        for b in &bytes[..n] {
+            if clerk.take(*b) {
+                out.write(clerk.text.as_slice());
+            }
         }
     }
-    q
+    Ok(())
 }
 
-// Where a turn has come to, whether there may be more to read, and why a read failed.
-#[derive(Clone, Copy)]
-struct Turn {
-    question: Question,
-    more: bool,
-    fault: Option<Error>,
-}
-
-fn take_turn(
-    file: &mut Source,
-    out: &mut Output,
-    q: Question,
-    source: &mut [u8],
-    lists: &mut [usize],
-    output: &mut [u8],
-    answers: &mut [u64],
-    links: &mut [usize],
-    text: &mut [u8],
-) -> Turn {
-    let mut bytes = [0u8; BYTES];
-    let got = part(file, &mut bytes);
-    let n = got.length;
-    if n == 0 {
-        // a last line may lack its end
-        if q.is_begun() {
-            reply(out, q, source, lists, output, answers, links, text);
-        }
-        return Turn {
-            question: q,
-            more: false,
-            fault: got.fault,
-        };
+// Answers all questions of a file, of which the last may lack its end, or those before what could not be read.
+fn answer_all(file: &mut Source, out: &mut Output, clerk: &mut Clerk) -> io::Result<()> {
+    let end = answer_ended(file, out, clerk);
+    if clerk.finish() {
+        out.write(clerk.text.as_slice());
     }
-    let next = reply_all(
-        out,
-        q,
-        &bytes[..n],
-        source,
-        lists,
-        output,
-        answers,
-        links,
-        text,
-    );
-    Turn {
-        question: next,
-        more: true,
-        fault: None,
-    }
+    end
 }
 
-// A proved loop has to end, so it counts its turns down, from a number that no run uses up. Why a read failed is handed back.
+// The same. The status tells whether all could be read, and all answers written.
 fn serve(
-    file: &mut Source,
-    out: &mut Output,
-    source: &mut [u8],
-    lists: &mut [usize],
-    output: &mut [u8],
-    answers: &mut [u64],
-    links: &mut [usize],
-    text: &mut [u8],
-) -> Option<Error> {
-    let mut q = Question::new();
-    let mut turns = u64::MAX;
-    while turns > 0 {
-        let t = take_turn(file, out, q, source, lists, output, answers, links, text);
-        if !t.more {
-            return t.fault;
-        }
-        q = t.question;
-        turns -= 1;
-    }
-    None
-}
-
-// Answers all questions of a file. Its status tells whether all could be read, and all answers written.
-fn serve_whole(
     rt: &HostRuntime,
     out: &mut Output,
+    clerk: &mut Clerk,
     file: &mut Source,
     name: &[u8],
-    source: &mut [u8],
-    lists: &mut [usize],
-    output: &mut [u8],
-    answers: &mut [u64],
-    links: &mut [usize],
-    text: &mut [u8],
-) -> u8 {
-    status::forget_errors(out);
-    let unread = serve(file, out, source, lists, output, answers, links, text);
-    let status = status::if_written(rt, out.fault(), status::GOOD);
-    match unread {
-        None => status,
-        Some(error) => {
-            system::fail(rt, name, error);
-            status::FAILED
-        }
-    }
-}
-
-fn serve_file(
-    rt: &HostRuntime,
-    out: &mut Output,
-    i: usize,
-    source: &mut [u8],
-    lists: &mut [usize],
-    output: &mut [u8],
-    answers: &mut [u64],
-    links: &mut [usize],
-    text: &mut [u8],
-) -> u8 {
-    let mut word = system::buffer();
-    let n = system::arg(rt, i, &mut word);
-    match Source::open(rt, &word[..n]) {
-        Ok(file) => {
-            let mut file = file;
-            serve_whole(
-                rt,
-                out,
-                &mut file,
-                &word[..n],
-                source,
-                lists,
-                output,
-                answers,
-                links,
-                text,
-            )
-        }
+) -> Status {
+    out.forget_errors();
+    let end = answer_all(file, out, clerk);
+    let status = status::if_written(rt, out.fault(), Status::Good);
+    match end {
+        Ok(()) => status,
         Err(error) => {
-            system::fail(rt, &word[..n], error);
-            status::FAILED
+            system::fail(rt, name, error);
+            Status::Failed
         }
     }
 }
 
-fn serve_files(
-    rt: &HostRuntime,
-    out: &mut Output,
-    first: usize,
-    source: &mut [u8],
-    lists: &mut [usize],
-    output: &mut [u8],
-    answers: &mut [u64],
-    links: &mut [usize],
-    text: &mut [u8],
-) -> u8 {
-    let count = system::arg_count(rt);
-    let mut worst = status::GOOD;
-    let mut i = first;
-    while i < count {
-        let status = serve_file(rt, out, i, source, lists, output, answers, links, text);
-        worst = status::worse(worst, status);
-        i += 1;
+fn serve_file(rt: &HostRuntime, out: &mut Output, clerk: &mut Clerk, i: usize) -> Status {
+    let mut word = system::buffer();
+    let name = system::arg(rt, i, &mut word);
+    match Source::open(rt, name) {
+        Ok(mut file) => serve(rt, out, clerk, &mut file, name),
+        Err(error) => {
+            system::fail(rt, name, error);
+            Status::Failed
+        }
+    }
+}
+
+// The files that the arguments name, or standard input where there is none.
+fn serve_all(rt: &HostRuntime, clerk: &mut Clerk) -> Status {
+    let mut out = Output::new(rt);
+    let files = status::first_argument(rt)..system::arg_count(rt);
+    if files.is_empty() {
+        let mut input = Source::standard_input(rt);
+        return serve(rt, &mut out, clerk, &mut input, b"standard input");
+    }
+    let mut worst = Status::Good;
+    for i in files {
+        worst = worst.max(serve_file(rt, &mut out, clerk, i));
     }
     worst
 }
@@ -215,49 +90,44 @@ fn serve_files(
 // The buffers come as references to arrays: a proof that lent them as slices where they are made would count their bytes one by one.
 fn serve_with(
     rt: &HostRuntime,
-    source: &mut [u8; questions::SOURCE],
-    lists: &mut [usize; questions::LISTS],
-    output: &mut [u8; questions::OUTPUT],
-    answers: &mut [u64; questions::ANSWERS],
-    links: &mut [usize; questions::LINKS],
-    text: &mut [u8; questions::TEXT],
-) -> u8 {
-    let mut out = Output::new(rt);
-    let first = status::first_argument(rt);
-    if first < system::arg_count(rt) {
-        return serve_files(
-            rt, &mut out, first, source, lists, output, answers, links, text,
-        );
-    }
-    let mut input = Source::standard_input(rt);
-    serve_whole(
-        rt,
-        &mut out,
-        &mut input,
-        b"standard input",
-        source,
-        lists,
+    source: &mut [u8; SOURCE],
+    ends: &mut [usize; LIST],
+    parts: &mut [usize; LIST],
+    output: &mut [u8; OUTPUT],
+    answers: &mut [u64; ANSWERS],
+    links: &mut [usize; LINKS],
+    listings: &mut [usize; LISTINGS],
+    text: &mut [u8; TEXT],
+) -> Status {
+    let mut clerk = Clerk {
+        question: Question::new(source, ends, parts),
         output,
         answers,
         links,
-        text,
-    )
+        listings,
+        text: Text::new(text),
+    };
+    serve_all(rt, &mut clerk)
 }
 
 fn main(rt: HostRuntime) -> ExitCode {
-    let mut source = [0u8; questions::SOURCE];
-    let mut lists = [0usize; questions::LISTS];
-    let mut output = [0u8; questions::OUTPUT];
-    let mut answers = [0u64; questions::ANSWERS];
-    let mut links = [0usize; questions::LINKS];
-    let mut text = [0u8; questions::TEXT];
+    let mut source = [0u8; SOURCE];
+    let mut ends = [0usize; LIST];
+    let mut parts = [0usize; LIST];
+    let mut output = [0u8; OUTPUT];
+    let mut answers = [0u64; ANSWERS];
+    let mut links = [0usize; LINKS];
+    let mut listings = [0usize; LISTINGS];
+    let mut text = [0u8; TEXT];
     let status = serve_with(
         &rt,
         &mut source,
-        &mut lists,
+        &mut ends,
+        &mut parts,
         &mut output,
         &mut answers,
         &mut links,
+        &mut listings,
         &mut text,
     );
     status::end(&rt, status)

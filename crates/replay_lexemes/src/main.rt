@@ -11,80 +11,49 @@ const ROOM: usize = 8192;
 // Room for the whole list.
 const TEXT: usize = 524_288;
 
-// A number of a word, and the place after the byte behind it.
-#[derive(Clone, Copy)]
-struct Number {
-    value: usize,
-    next: usize,
-}
-
-fn number_at(word: &[u8], from: usize) -> Number {
-    let mut value = 0;
-    let mut i = from;
-    while i < word.len() {
-        let b = word[i];
-        i += 1;
-        if b == b':' {
-            return Number { value, next: i };
-        }
-        value = value % 100_000 * 10 + (b % 16) as usize;
-    }
-    Number { value, next: i }
+// A number of a word.
+fn number(digits: &[u8]) -> usize {
+    digits
+        .iter()
+        .fold(0, |n, b| n % 100_000 * 10 + usize::from(*b % 16))
 }
 
 fn lexeme_agrees(word: &[u8], l: &Lexeme) -> bool {
-    let kind = number_at(word, 0);
-    if kind.value != l.kind as usize {
-        return false;
-    }
-    let start = number_at(word, kind.next);
-    if start.value != l.start {
-        return false;
-    }
-    let end = number_at(word, start.next);
-    end.value == l.end
+    let mut numbers = word.split(|b| *b == b':').map(|digits| number(digits));
+    numbers.next() == Some(l.kind as usize)
+        && numbers.next() == Some(l.start)
+        && numbers.next() == Some(l.end)
 }
 
 // Whether the lexemes of a source are the line's, word by word.
 fn source_agrees(source: &[u8], line: &[u8]) -> bool {
-    if source.len() == 0 {
-        return lists::field(line, 2).len() == 0;
+    if source.is_empty() {
+        return lists::field(line, 2).is_empty();
     }
+    let mut words = line.split(|b| *b == b' ').skip(1);
     let mut at = 0;
-    let mut n = 1;
     while at < source.len() {
         let l = lexemes::lexer::lexeme_at(source, at);
-        if !lexeme_agrees(lists::field(line, n), &l) {
+        let word = words.next().unwrap_or(&[]);
+        if !lexeme_agrees(word, &l) {
             return false;
         }
         at = l.end;
-        n += 1;
     }
-    lists::field(line, n).len() == 0
+    words.next().unwrap_or(&[]).is_empty()
 }
 
 fn line_agrees(line: &[u8]) -> bool {
     let mut bytes = [0u8; ROOM];
-    let n = lists::unhex(lists::field(line, 0), &mut bytes);
-    source_agrees(&bytes[..n], line)
-}
-
-fn replay(text: &[u8]) -> Tally {
-    let mut tally = Tally::new();
-    let mut i = 0;
-    while i < text.len() {
-        let line = lists::line_at(text, i);
-        i = i + line.len() + 1;
-        tally = tally.with(line_agrees(line));
-    }
-    tally
+    let source = lists::unhex(lists::field(line, 0), &mut bytes);
+    source_agrees(source, line)
 }
 
 // The buffer comes as a reference to an array: a proof that lent it as a slice where it is made would count its bytes one by one.
 fn run(rt: &HostRuntime, text: &mut [u8; TEXT]) {
     let n = Source::standard_input(rt).read_full(text);
-    let tally = replay(&text[..n]);
-    tally.report(&mut Output::new(rt), b"sources");
+    let tally = Tally::of_lines(&text[..n], |line| line_agrees(line));
+    tally.report(&mut Output::new(rt), "sources");
 }
 
 fn main(rt: HostRuntime) {

@@ -1,42 +1,36 @@
 #![tactic(auto)]
 // The sums of vectors/exhaustive.txt: FNV-1a with 64 bits over answer lines.
+use std::fmt;
 use system::Output;
 
-// The sum of nothing.
-pub const START: u64 = 0xCBF2_9CE4_8422_2325;
+const PRIME: u64 = 0x100_0000_01B3;
 
-// h * (2^40 + 435), as far as 64 bits go.
-fn times_prime(h: u64) -> u64 {
-    let a = std::num::wrapping_add_u64(h << 40, h << 8);
-    let b = std::num::wrapping_add_u64(h << 7, h << 5);
-    let c = std::num::wrapping_add_u64(h << 4, h << 1);
-    let d = std::num::wrapping_add_u64(a, b);
-    std::num::wrapping_add_u64(std::num::wrapping_add_u64(c, d), h)
-}
+// The sum of a text so far. What is written to it is more of the text.
+#[derive(Clone, Copy)]
+pub struct Sum(u64);
 
-// One byte more.
-pub fn fed(h: u64, b: u8) -> u64 {
-    times_prime(h ^ (b as u64))
-}
-
-// All of a text more.
-pub fn fed_all(h: u64, text: &[u8]) -> u64 {
-    let mut sum = h;
-    let mut i = 0;
-    while i < text.len() {
-        sum = fed(sum, text[i]);
-        i += 1;
+impl Sum {
+    // That of nothing.
+    pub fn new() -> Self {
+        Self(0xCBF2_9CE4_8422_2325)
     }
-    sum
+
+    // All of these bytes more.
+    pub fn feed(&mut self, text: &[u8]) {
+        self.0 = text
+            .iter()
+            .fold(self.0, |sum, b| (sum ^ u64::from(*b)).wrapping_mul(PRIME));
+    }
+
+    // ` LENGTH COUNT SUM`, and the line's end.
+    pub fn report(self, out: &mut Output, length: usize, count: usize) {
+        out.print(format_args!(" {length} {count} {:016x}\n", self.0));
+    }
 }
 
-// ` LENGTH COUNT SUM`, and the line's end.
-pub fn report(out: &mut Output, length: usize, count: usize, sum: u64) {
-    out.write(b" ");
-    out.write_decimal(length as u64);
-    out.write(b" ");
-    out.write_decimal(count as u64);
-    out.write(b" ");
-    out.write_hex(sum, 16);
-    out.write(b"\n");
+impl fmt::Write for Sum {
+    fn write_str(&mut self, text: &str) -> fmt::Result {
+        self.feed(text.as_bytes());
+        Ok(())
+    }
 }

@@ -1,7 +1,6 @@
 #![tactic(auto)]
 // What the programs take from the system, over the standard library: arguments, files, and what they write to. A call that fails ends nothing by itself.
-ghost use Rattle.std.specs.Prelude.{◌≡◌, length};
-ghost use Rattle.io.specs.Counts.{IsPrefixLen};
+ghost use Rattle.std.specs.Prelude.{◌≡◌, ◌≤◌, length};
 
 mod message; // a failure's text
 pub mod output; // standard output, and what of it failed
@@ -11,7 +10,7 @@ pub use message::fail;
 pub use output::Output;
 pub use source::Source;
 use std::env::{Env, FillError};
-use std::io::Print;
+use std::io::{Eprint, Print};
 
 // Room for any path, and for a page of text.
 pub const ROOM: usize = 4096;
@@ -26,30 +25,23 @@ pub fn buffer() -> [u8; 4096]
 // Whether there is an argument i. One that has no room is there too.
 fn has_arg(rt: &HostRuntime, i: usize) -> bool {
     let mut word = [0u8; 1];
-    match rt.arg(i, &mut word) {
-        Ok(_) => true,
-        Err(FillError::TooLong) => true,
-        Err(FillError::NotPresent) => false,
-    }
+    !matches!(rt.arg(i, &mut word), Err(FillError::NotPresent))
 }
 
 // How many arguments the program was started with, its own name among them.
 pub fn arg_count(rt: &HostRuntime) -> usize {
-    for i in 0..usize::MAX {
-        if !has_arg(rt, i) {
-            return i;
-        }
-    }
-    usize::MAX
+    (0..usize::MAX)
+        .find(|i| !has_arg(rt, *i))
+        .unwrap_or(usize::MAX)
 }
 
-// Puts argument i at the start of a buffer and hands back its length, 0 where it is missing or longer than the buffer.
-pub fn arg(rt: &HostRuntime, i: usize, word: &mut [u8]) -> usize
-    ensures { IsPrefixLen result word.new }
+// Argument i, put at the start of a buffer; nothing where it is missing or longer than the buffer.
+pub fn arg<'a>(rt: &HostRuntime, i: usize, word: &'a mut [u8]) -> &'a [u8]
+    ensures { length result.now ≤ length word.old }
 {
     match rt.arg(i, word) {
-        Ok(n) => n,
-        Err(_) => 0,
+        Ok(n) => &word[..n],
+        Err(_) => &[],
     }
 }
 
@@ -61,7 +53,5 @@ pub fn complain(rt: &HostRuntime, text: &[u8]) {
 
 // The digits of a number to standard error.
 pub fn complain_number(rt: &HostRuntime, n: u64) {
-    let mut digits = [0u8; 20];
-    let k = io::decimal(n, &mut digits);
-    complain(rt, &digits[..k]);
+    let _ = rt.eprint(n);
 }

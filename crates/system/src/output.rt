@@ -1,4 +1,5 @@
 // Standard output as a program writes to it. Writes hand nothing back: the error of the last one that failed is kept, and no later success takes it away.
+use std::fmt::Display;
 use std::io::{Error, Print, Stdout};
 
 #[derive(Drop)]
@@ -22,18 +23,11 @@ impl Output {
         }
     }
 
-    // The digits of a number.
-    pub fn write_decimal(&mut self, n: u64) {
-        let mut digits = [0u8; 20];
-        let k = io::decimal(n, &mut digits);
-        self.write(&digits[..k]);
-    }
-
-    // The digits of a number in hex, so many at least.
-    pub fn write_hex(&mut self, n: u64, width: usize) {
-        let mut digits = [0u8; 16];
-        let k = io::hex(n, width, &mut digits);
-        self.write(&digits[..k]);
+    // Writes what a value prints as.
+    pub fn print<D: Display + Drop>(&mut self, value: D) {
+        if let Err(error) = self.to.print(value) {
+            self.fault = Some(error);
+        }
     }
 
     // No write counts as failed that came before.

@@ -14,16 +14,15 @@ pub enum Source {
 
 // A name as the standard library takes it.
 fn path(name: &[u8]) -> Result<&str> {
-    match std::str::from_utf8(name) {
-        Ok(path) => Ok(path),
-        Err(_) => Err(Error::new(ErrorKind::InvalidInput, "the name is not UTF-8")),
-    }
+    std::str::from_utf8(name).map_err(|_| Error::new(
+        ErrorKind::InvalidInput,
+        "the name is not UTF-8",
+    ))
 }
 
 // Opens a file to be written, empty.
 pub fn create(rt: &HostRuntime, name: &[u8]) -> Result<File> {
-    let path = path(name)?;
-    fs::create(rt, path)
+    fs::create(rt, path(name)?)
 }
 
 impl Source {
@@ -32,9 +31,7 @@ impl Source {
     }
 
     pub fn open(rt: &HostRuntime, name: &[u8]) -> Result<Self> {
-        let path = path(name)?;
-        let file = fs::open(rt, path)?;
-        Ok(Source::Named(file))
+        fs::open(rt, path(name)?).map(Source::Named)
     }
 
     // Reads some bytes to the start of a buffer: none at the end.
@@ -47,20 +44,35 @@ impl Source {
         }
     }
 
-    // Reads until a buffer is full, the input ends or a read fails, and hands back how many bytes it put at the buffer's start.
-    pub fn read_full(&mut self, buffer: &mut [u8]) -> usize
-        ensures { IsPrefixLen result buffer.new }
+    // Reads until a buffer is full, the input ends or a read fails: how many bytes it put at the buffer's start, and why the read failed.
+    fn fill(&mut self, buffer: &mut [u8]) -> (usize, Option<Error>)
+        ensures { IsPrefixLen result.0 buffer.new }
     {
         let mut done = 0;
         while done < buffer.len() {
-            let Ok(n) = self.read(&mut buffer[done..]) else {
-                return done;
-            };
-            if n == 0 {
-                return done;
+            match self.read(&mut buffer[done..]) {
+                Ok(0) => break,
+                Ok(n) => done += n,
+                Err(error) => return (done, Some(error)),
             }
-            done += n;
         }
-        done
+        (done, None)
+    }
+
+    // The same, where a read that fails is taken for the input's end.
+    pub fn read_full(&mut self, buffer: &mut [u8]) -> usize
+        ensures { IsPrefixLen result buffer.new }
+    {
+        self.fill(buffer).0
+    }
+
+    // The same, where a read that fails is an error, behind which other bytes may have been kept back.
+    pub fn read_whole(&mut self, buffer: &mut [u8]) -> Result<usize>
+        ensures { ReadsAtMost result buffer.new }
+    {
+        match self.fill(buffer) {
+            (n, None) => Ok(n),
+            (_, Some(error)) => Err(error),
+        }
     }
 }
