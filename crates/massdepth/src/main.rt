@@ -6,11 +6,14 @@ mod listings; // the list as a person reads it
 mod objects; // the computed field that leaves an object undecided
 
 use crate::objects::{Name, computed_name, record_at};
-use desk::input::take;
-use desk::options::Options;
-use desk::{Fields, options, status};
+use desk::options::{Fault, Options};
+use desk::status::Status;
+use desk::{Fields, files, status};
+use show::file::File;
 use show::page::Page;
+use show::places::{Place, find_places};
 use show::refusals::Refusal;
+use std::io;
 use std::process::ExitCode;
 use system::Source;
 
@@ -23,74 +26,56 @@ const OUTPUT: usize = 524_288;
 // Two numbers for every three bytes of such an image.
 const LINKS: usize = 349_524;
 
-// A number for each place of a source.
+// One for each place of a source.
 const PLACES: usize = 65_002;
 
 // Four numbers for each listing. An object that is listed has seven bytes of source at least, as `{[a]+:` and `}`.
 const LIST: usize = 40_000;
 
-// Nothing was listed, something was, or the file has no list: the worse the higher, as `status` has them.
-const NOTHING: u8 = status::GOOD;
+// Nothing was listed, something was, or the file has no list: the worse the higher.
+const NOTHING: Status = Status::Good;
 
-const LISTED: u8 = status::REFUSED;
+const LISTED: Status = Status::Refused;
 
-// The options that hold, and how the files so far have ended.
-#[derive(Clone, Copy)]
-struct Turn {
-    options: Options,
-    status: u8,
+// What files are read into, and what they are listed with.
+#[derive(Drop)]
+struct Buffers<'a> {
+    source: &'a mut [u8],
+    output: &'a mut [u8],
+    places: &'a mut [Place],
+    links: &'a mut [usize],
+    list: &'a mut [usize],
 }
 
-fn complain(rt: &HostRuntime, name: &[u8], fault: &[u8]) -> u8 {
+fn complain(rt: &HostRuntime, name: &[u8], fault: &[u8]) -> Status {
     system::complain(rt, b"massdepth: ");
     system::complain(rt, name);
     system::complain(rt, fault);
-    status::FAILED
+    Status::Failed
 }
 
-// Where the field stands that the i-th listing is shown at. Of an undecided object it is the first computed field that is added, which record r has.
-fn shown_at(image: &[u8], links: &[usize], list: &[usize], i: usize, r: usize) -> Name {
-    if list.len() / 4 <= i {
-        return Name { start: 0, end: 0 };
-    }
-    if list[i * 4 + 1] == 0 {
-        return computed_name(image, links, r);
-    }
-    Name {
-        start: list[i * 4 + 2],
-        end: list[i * 4 + 3],
-    }
-}
-
-// The listings in their order, which is that of the records.
+// The listings in their order, which is that of the records. An undecided object is shown at the first computed field that is added.
 fn tell_listings(
     page: &mut Page,
-    name: &[u8],
-    source: &[u8],
+    file: File,
     image: &[u8],
-    places: &[usize],
+    places: &[Place],
     links: &[usize],
     list: &[usize],
     count: usize,
 ) {
+    let (listings, _) = list.as_chunks::<4>();
     let mut r = 0;
-    let mut i = 0;
-    while i < count {
-        if list.len() / 4 <= i {
-            return;
-        }
-        r = record_at(links, r, list[i * 4]);
-        let at = shown_at(image, links, list, i, r);
-        listings::tell(
-            page,
-            name,
-            source,
-            places,
-            list[i * 4 + 1],
-            at.start,
-            at.end,
-        );
-        i += 1;
+    for [offset, kind, start, end] in listings.iter().take(count) {
+        r = record_at(links, r, *offset);
+        let name = match *kind {
+            0 => computed_name(image, links, r).unwrap_or(Name { start: 0, end: 0 }),
+            _ => Name {
+                start: *start,
+                end: *end,
+            },
+        };
+        listings::tell(page, file, places, *kind, name);
     }
 }
 
@@ -98,28 +83,27 @@ fn tell_listings(
 fn list_image(
     rt: &HostRuntime,
     page: &mut Page,
-    name: &[u8],
-    source: &[u8],
+    file: File,
     image: &[u8],
-    places: &mut [usize],
+    places: &mut [Place],
     links: &mut [usize],
     list: &mut [usize],
-) -> u8 {
+) -> Status {
     let answer = mass::list(image, links, list);
-    let mass::Answer::Listed(count) = answer else {
-        return complain(rt, name, b" has too many objects to list\n");
+    let Ok(count) = answer else {
+        return complain(rt, file.name, b" has too many objects to list\n");
     };
     if count == 0 {
-        listings::tell_none(page, name);
+        listings::tell_none(page, file.name);
         return NOTHING;
     }
     let _ = images::back(image, links);
-    show::places::find_places(source, places);
-    tell_listings(page, name, source, image, places, links, list, count);
+    let places = find_places(file.text, places);
+    tell_listings(page, file, image, places, links, list, count);
     LISTED
 }
 
-fn tell_refused(page: &mut Page, name: &[u8], f: Fields, source: &[u8]) {
+fn tell_refused(page: &mut Page, f: Fields, file: File) {
     let refusal = Refusal {
         number: f.number,
         start: f.start,
@@ -127,190 +111,93 @@ fn tell_refused(page: &mut Page, name: &[u8], f: Fields, source: &[u8]) {
         detail: f.detail,
         length: f.length,
     };
-    show::refusals::tell(page, name, refusal, source);
+    refusal.tell(page, file);
 }
 
 fn list_source(
     rt: &HostRuntime,
     page: &mut Page,
-    name: &[u8],
+    file: File,
     setting: u64,
-    source: &[u8],
     output: &mut [u8],
-    places: &mut [usize],
+    places: &mut [Place],
     links: &mut [usize],
     list: &mut [usize],
-) -> u8 {
-    let f = desk::answer(setting, source, output);
+) -> Status {
+    let f = desk::answer(setting, file.text, output);
     if f.number != 0 {
-        tell_refused(page, name, f, source);
-        return status::FAILED;
+        tell_refused(page, f, file);
+        return Status::Failed;
     }
-    list_image(
-        rt,
-        page,
-        name,
-        source,
-        desk::image(f, output),
-        places,
-        links,
-        list,
-    )
+    let image = desk::image(f, output);
+    list_image(rt, page, file, image, places, links, list)
 }
 
-fn list_from(
-    rt: &HostRuntime,
-    file: &mut Source,
-    name: &[u8],
-    setting: u64,
-    source: &mut [u8],
-    output: &mut [u8],
-    places: &mut [usize],
-    links: &mut [usize],
-    list: &mut [usize],
-) -> u8 {
-    let taken = take(file, source);
-    if let Some(error) = taken.fault {
-        system::fail(rt, name, error);
-        return status::FAILED;
-    }
-    let n = taken.length;
-    let mut page = show::page::begin(rt, false);
-    let status = list_source(
-        rt,
-        &mut page,
-        name,
-        setting,
-        &source[..n],
-        output,
-        places,
-        links,
-        list,
-    );
-    show::page::flush(&mut page);
-    status::if_written(rt, show::page::fault(&page), status)
-}
-
-fn list_file(
-    rt: &HostRuntime,
-    name: &[u8],
-    setting: u64,
-    source: &mut [u8],
-    output: &mut [u8],
-    places: &mut [usize],
-    links: &mut [usize],
-    list: &mut [usize],
-) -> u8 {
-    if options::is_standard_input(name) {
-        let mut input = Source::standard_input(rt);
-        return list_from(
+impl<'a> Buffers<'a> {
+    fn list(
+        &mut self,
+        rt: &HostRuntime,
+        page: &mut Page,
+        source: &mut Source,
+        name: &[u8],
+        setting: u64,
+    ) -> io::Result<Status> {
+        let text = files::bytes(source, self.source)?;
+        Ok(list_source(
             rt,
-            &mut input,
-            b"standard input",
+            page,
+            File { name, text },
             setting,
-            source,
-            output,
-            places,
-            links,
-            list,
-        );
+            self.output,
+            self.places,
+            self.links,
+            self.list,
+        ))
     }
-    match Source::open(rt, name) {
-        Ok(file) => {
-            let mut file = file;
-            list_from(
-                rt, &mut file, name, setting, source, output, places, links, list,
-            )
-        }
-        Err(error) => {
-            system::fail(rt, name, error);
-            status::FAILED
-        }
-    }
-}
 
-// One argument: how all stands before it, and how after.
-fn take_argument(
-    rt: &HostRuntime,
-    i: usize,
-    turn: Turn,
-    source: &mut [u8],
-    output: &mut [u8],
-    places: &mut [usize],
-    links: &mut [usize],
-    list: &mut [usize],
-) -> Turn {
-    let mut word = system::buffer();
-    let n = system::arg(rt, i, &mut word);
-    let before = turn.options;
-    let options = before.with(i, &word[..n]);
-    if options.file != i {
-        return Turn {
-            options: options,
-            status: turn.status,
-        };
-    }
-    let setting = options.setting;
-    let listed = list_file(rt, &word[..n], setting, source, output, places, links, list);
-    Turn {
-        options: options,
-        status: status::worse(turn.status, listed),
-    }
-}
-
-// Behind the last argument: standard input is listed where no file was named.
-fn end_arguments(
-    rt: &HostRuntime,
-    turn: Turn,
-    source: &mut [u8],
-    output: &mut [u8],
-    places: &mut [usize],
-    links: &mut [usize],
-    list: &mut [usize],
-) -> u8 {
-    let before = turn.options;
-    let options = before.ended();
-    if options.fault != options::NOTHING {
-        options.complain(rt, b"massdepth");
-        return status::FAILED;
-    }
-    if options.file != 0 {
-        return turn.status;
-    }
-    list_file(
-        rt,
-        b"-",
-        options.setting,
-        source,
-        output,
-        places,
-        links,
-        list,
-    )
-}
-
-fn take_arguments(
-    rt: &HostRuntime,
-    source: &mut [u8],
-    output: &mut [u8],
-    places: &mut [usize],
-    links: &mut [usize],
-    list: &mut [usize],
-) -> Turn {
-    let count = system::arg_count(rt);
-    let mut turn = Turn {
-        options: Options::new(false),
-        status: NOTHING,
-    };
-    let mut i = status::first_argument(rt);
-    while i < count {
-        turn = take_argument(rt, i, turn, source, output, places, links, list);
-        if turn.options.fault != options::NOTHING {
-            return turn;
+    fn tell(
+        &mut self,
+        rt: &HostRuntime,
+        source: &mut Source,
+        name: &[u8],
+        options: Options,
+    ) -> Status {
+        let mut page = Page::new(rt, false);
+        match self.list(rt, &mut page, source, name, options.setting) {
+            Ok(status) => {
+                page.flush();
+                status::if_written(rt, page.fault(), status)
+            }
+            Err(error) => status::unread(rt, name, error),
         }
-        i += 1;
     }
-    turn
+
+    // Each file that the words name, or standard input where none does: the worst of what they end as.
+    // Kept in each program: one function in `desk` was tried, which takes this as a closure; the proof didn't close, that the references in the buffers stay.
+    fn tell_files(&mut self, rt: &HostRuntime, first: Options) -> Result<Status, Fault> {
+        let mut options = first;
+        let mut status = Status::Good;
+        for i in status::first_argument(rt)..system::arg_count(rt) {
+            let mut buffer = system::buffer();
+            let word = system::arg(rt, i, &mut buffer);
+            options = options.with(i, word)?;
+            if options.file == Some(i) {
+                status = status.max(self.tell_word(rt, word, options));
+            }
+        }
+        let options = options.ended()?;
+        match options.file {
+            Some(_) => Ok(status),
+            None => Ok(self.tell_word(rt, b"-", options)),
+        }
+    }
+
+    fn tell_word(&mut self, rt: &HostRuntime, word: &[u8], options: Options) -> Status {
+        match files::open(rt, word) {
+            Ok(mut file) => self.tell(rt, &mut file, files::name_of(word), options),
+            Err(error) => status::unread(rt, word, error),
+        }
+    }
 }
 
 // The buffers come as references to arrays: a proof that lent them as slices where they are made would count their elements one by one.
@@ -318,18 +205,25 @@ fn run(
     rt: &HostRuntime,
     source: &mut [u8; SOURCE],
     output: &mut [u8; OUTPUT],
-    places: &mut [usize; PLACES],
+    places: &mut [Place; PLACES],
     links: &mut [usize; LINKS],
     list: &mut [usize; LIST],
-) -> u8 {
-    let turn = take_arguments(rt, source, output, places, links, list);
-    end_arguments(rt, turn, source, output, places, links, list)
+) -> Status {
+    let mut buffers = Buffers {
+        source,
+        output,
+        places,
+        links,
+        list,
+    };
+    let told = buffers.tell_files(rt, Options::new(false));
+    files::end(rt, "massdepth", told)
 }
 
 fn main(rt: HostRuntime) -> ExitCode {
     let mut source = [0u8; SOURCE];
     let mut output = [0u8; OUTPUT];
-    let mut places = [0usize; PLACES];
+    let mut places = [Place::NONE; PLACES];
     let mut links = [0usize; LINKS];
     let mut list = [0usize; LIST];
     let status = run(

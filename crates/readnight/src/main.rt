@@ -1,9 +1,12 @@
 #![tactic(auto)]
 // Reads a night's files and tells of each in a line whether it was read, or why not and where; then how many were.
 // Arguments: a setting, and files.
-use desk::input::{Taken, take};
 use desk::status;
+use desk::status::Status;
+use show::file::File;
+use show::page::Page;
 use show::refusals::Refusal;
+use std::io;
 use std::io::{Error, IsTerminal};
 use std::process::ExitCode;
 use std::time::Clock;
@@ -23,35 +26,11 @@ const GROWTH: usize = 16;
 
 const OUTPUT: usize = 2_097_152;
 
-// For each file of a call: its end, the end of its part, which argument it is.
-const LISTS: usize = 192;
-
-const PARTS: usize = 64;
-
-const NAMES: usize = 128;
-
-// For each file of a call its answer.
+// For each file of a call its answer, five numbers.
 const ANSWERS: usize = 320;
 
 // How often the clock must have gone on a second before how far it has come is told: twice is more than a second.
 const LONG: u8 = 2;
-
-// The files of the call to come, and what became of those before.
-#[derive(Clone, Copy)]
-struct Night {
-    setting: u64,
-    files: usize,
-    used: usize, // bytes of their sources
-    read: u64,
-    refused: u64,
-    failed: u64, // files that could not be read to their end
-    clock: u64, // the last second seen
-    seconds: u8, // how many were, as far as that matters
-}
-
-fn one_more(n: u64) -> u64 {
-    n % 0xFFFF_FFFF + 1
-}
 
 // The second that the clock is at; a clock that cannot be read stands still.
 fn now(rt: &HostRuntime) -> u64 {
@@ -61,12 +40,21 @@ fn now(rt: &HostRuntime) -> u64 {
     }
 }
 
+// What became of the files so far.
+#[derive(Drop)]
+struct Night {
+    setting: u64,
+    read: u64,
+    refused: u64,
+    failed: u64, // files that could not be read to their end
+    clock: u64, // the last second seen
+    seconds: u8, // how many were, as far as that matters
+}
+
 impl Night {
     fn new(rt: &HostRuntime, setting: u64) -> Self {
         Self {
-            setting: setting,
-            files: 0,
-            used: 0,
+            setting,
             read: 0,
             refused: 0,
             failed: 0,
@@ -75,360 +63,285 @@ impl Night {
         }
     }
 
-    fn with_read(mut self) -> Self {
-        self.read = one_more(self.read);
-        self
-    }
-
-    fn with_refused(mut self) -> Self {
-        self.refused = one_more(self.refused);
-        self
-    }
-
-    fn with_failed(mut self) -> Self {
-        self.failed = one_more(self.failed);
-        self
-    }
-
-    fn with_end(mut self, end: usize) -> Self {
-        let files = self.files;
-        if files < FILES {
-            self.files = files + 1;
-        }
-        self.used = end;
-        self
-    }
-
-    fn emptied(mut self) -> Self {
-        self.files = 0;
-        self.used = 0;
-        self
-    }
-
-    // Whether another file may have no room in the call to come.
-    fn is_full(self) -> bool {
-        FILES <= self.files || SOURCES - SOURCE < self.used
-    }
-
     // The clock is looked at.
-    fn with_time(mut self, rt: &HostRuntime) -> Self {
+    fn look_at_clock(&mut self, rt: &HostRuntime) {
         let second = now(rt);
-        let seen = self.seconds;
         if second != self.clock {
             self.clock = second;
-            if seen < LONG {
-                self.seconds = seen + 1;
-            }
+            self.seconds = self.seconds.saturating_add(1);
         }
-        self
     }
 
     // Whether a person waits.
-    fn is_long(self, rt: &HostRuntime) -> bool {
+    fn is_long(&self, rt: &HostRuntime) -> bool {
         self.seconds >= LONG && rt.stderr().is_terminal()
     }
 
+    // On a terminal, once it takes long: how many of the arguments are done.
+    fn show_progress(&self, rt: &HostRuntime, done: usize, count: usize) {
+        if self.is_long(rt) {
+            system::complain(rt, b"\rreadnight: argument ");
+            system::complain_number(rt, done as u64);
+            system::complain(rt, b" of ");
+            system::complain_number(rt, count as u64);
+        }
+    }
+
+    fn hide_progress(&self, rt: &HostRuntime) {
+        if self.is_long(rt) {
+            system::complain(rt, b"\r\x1b[K");
+        }
+    }
+
+    fn count_read(&mut self) {
+        self.read = self.read.saturating_add(1);
+    }
+
+    fn count_refused(&mut self) {
+        self.refused = self.refused.saturating_add(1);
+    }
+
+    fn count_failed(&mut self) {
+        self.failed = self.failed.saturating_add(1);
+    }
+
+    // A file's line: which argument it is, its source and its answer.
+    fn tell(&mut self, rt: &HostRuntime, i: usize, source: &[u8], answer: &[u64; 5]) {
+        let mut word = system::buffer();
+        let name = system::arg(rt, i, &mut word);
+        let mut page = Page::new(rt, false);
+        let [number, start, end, detail, length] = *answer;
+        if number == 0 {
+            page.tell_read(name);
+            self.count_read();
+        } else {
+            let refusal = Refusal {
+                number,
+                start,
+                end,
+                detail,
+                length,
+            };
+            refusal.tell_in_a_line(&mut page, File { name, text: source });
+            self.count_refused();
+        }
+        page.flush();
+    }
+
+    // The lines of a call's files.
+    fn tell_all(
+        &mut self,
+        rt: &HostRuntime,
+        sources: &[u8],
+        ends: &[usize],
+        names: &[usize],
+        answers: &[u64],
+    ) {
+        let (answers, _) = answers.as_chunks::<5>();
+        let mut from = 0;
+        for ((end, name), answer) in ends.iter().zip(names).zip(answers) {
+            let Some(source) = sources.get(from..*end) else {
+                return;
+            };
+            self.tell(rt, *name, source, answer);
+            from = *end;
+        }
+    }
+
     // `N read, N refused`, and how many could not be read at all; why that could not be written, if it could not.
-    fn report(self, out: &mut Output) -> Option<Error> {
-        out.write_decimal(self.read);
-        out.write(b" read, ");
-        out.write_decimal(self.refused);
-        out.write(b" refused");
-        if self.failed > 0 {
-            out.write(b", ");
-            out.write_decimal(self.failed);
-            out.write(b" unreadable");
+    fn report(&self, out: &mut Output) -> Option<Error> {
+        let read = self.read;
+        let refused = self.refused;
+        let failed = self.failed;
+        out.print(format_args!("{read} read, {refused} refused"));
+        if failed > 0 {
+            out.print(format_args!(", {failed} unreadable"));
         }
         out.write(b"\n");
         out.fault()
     }
 
-    fn status(self) -> u8 {
+    fn status(&self) -> Status {
         if self.failed > 0 {
-            return status::FAILED;
+            Status::Failed
+        } else if self.refused > 0 {
+            Status::Refused
+        } else {
+            Status::Good
         }
-        if self.refused > 0 {
-            return status::REFUSED;
-        }
-        status::GOOD
     }
 }
 
-// On a terminal, once it takes long: how far it has come.
-fn show_progress(rt: &HostRuntime, n: Night, from: usize, i: usize, count: usize) {
-    if count <= i {
-        return;
-    }
-    if i < from {
-        return;
-    }
-    if n.is_long(rt) {
-        system::complain(rt, b"\rreadnight: argument ");
-        system::complain_number(rt, (i - from + 1) as u64);
-        system::complain(rt, b" of ");
-        system::complain_number(rt, (count - from) as u64);
-    }
+// The files of the call to come: for each its end, the end of its part, and which argument it is.
+#[derive(Drop)]
+struct Call<'a> {
+    sources: &'a mut [u8],
+    output: &'a mut [u8],
+    answers: &'a mut [u64],
+    files: usize, // how many there are
+    used: usize, // bytes of their sources
+    ends: [usize; FILES],
+    parts: [usize; FILES],
+    names: [usize; FILES],
 }
 
-fn hide_progress(rt: &HostRuntime, n: Night) {
-    if n.is_long(rt) {
-        system::complain(rt, b"\r\x1b[K");
-    }
-}
-
-// A file's line: which argument it is, its source and its answer.
-fn tell(rt: &HostRuntime, n: Night, i: usize, source: &[u8], answer: &[u64]) -> Night {
-    let mut word = system::buffer();
-    let length = system::arg(rt, i, &mut word);
-    if answer.len() < 5 {
-        return n;
-    }
-    let mut page = show::page::begin(rt, false);
-    if answer[0] == 0 {
-        show::refusals::tell_read(&mut page, &word[..length]);
-        show::page::flush(&mut page);
-        return n.with_read();
-    }
-    let refusal = Refusal {
-        number: answer[0],
-        start: answer[1],
-        end: answer[2],
-        detail: answer[3],
-        length: answer[4],
-    };
-    show::refusals::tell_in_a_line(&mut page, &word[..length], refusal, source);
-    show::page::flush(&mut page);
-    n.with_refused()
-}
-
-// The lines of a call's files.
-fn tell_all(
-    rt: &HostRuntime,
-    first: Night,
-    sources: &[u8],
-    ends: &[usize],
-    names: &[usize],
-    answers: &[u64],
-) -> Night {
-    let mut n = first;
-    let mut from = 0;
-    let mut i = 0;
-    while i < ends.len() {
-        let end = ends[i];
-        if sources.len() < end {
-            return n;
-        }
-        if end < from {
-            return n;
-        }
-        if names.len() <= i {
-            return n;
-        }
-        if answers.len() / 5 <= i {
-            return n;
-        }
-        n = tell(
-            rt,
-            n,
-            names[i],
-            &sources[from..end],
-            &answers[i * 5..i * 5 + 5],
-        );
-        from = end;
-        i += 1;
-    }
-    n
-}
-
-// The call. Its lists always fit: a part is so many times as long as its source.
+// The call itself, and the lines of its files. Its lists always fit: a part is so many times as long as its source.
+// The sources come as `&mut`: lent as `&` beside the output, the fields of one struct get no proof.
 fn read_files(
     rt: &HostRuntime,
-    n: Night,
-    sources: &[u8],
-    lists: &[usize],
+    night: &mut Night,
+    sources: &mut [u8],
+    used: usize,
     output: &mut [u8],
     answers: &mut [u64],
-) -> Night {
-    let files = n.files;
-    let used = n.used;
-    if FILES < files {
-        return n;
+    ends: &[usize],
+    parts: &[usize],
+    names: &[usize],
+) {
+    let sources = front(sources, used);
+    let room = sources.len().saturating_mul(GROWTH).min(output.len());
+    let numbers = ends.len().saturating_mul(5).min(answers.len());
+    let output = &mut output[..room];
+    let answers = &mut answers[..numbers];
+    let number = night::read(night.setting, sources, ends, output, parts, answers);
+    night.hide_progress(rt);
+    if number == night::READ {
+        night.tell_all(rt, sources, ends, names, answers);
+    } else {
+        night.count_failed();
     }
-    if lists.len() < LISTS {
-        return n;
-    }
-    if answers.len() < ANSWERS {
-        return n;
-    }
-    if sources.len() < used {
-        return n;
-    }
-    if output.len() / GROWTH < used {
-        return n;
-    }
-    let ends = &lists[..files];
-    let number = night::read(
-        n.setting,
-        &sources[..used],
-        ends,
-        &mut output[..used * GROWTH],
-        &lists[PARTS..PARTS + files],
-        &mut answers[..files * 5],
-    );
-    hide_progress(rt, n);
-    if number != night::READ {
-        return n.with_failed();
-    }
-    tell_all(
-        rt,
-        n,
-        &sources[..used],
-        ends,
-        &lists[NAMES..NAMES + files],
-        &answers[..files * 5],
-    )
 }
 
-// One file more for the call to come; one that cannot be read to its end is told of and left out.
-fn add_file(
-    rt: &HostRuntime,
-    n: Night,
-    i: usize,
-    sources: &mut [u8],
-    lists: &mut [usize],
-) -> Night {
-    let mut word = system::buffer();
-    let length = system::arg(rt, i, &mut word);
-    let files = n.files;
-    let used = n.used;
-    if sources.len() < used {
-        return n;
-    }
-    let taken = take_named(rt, &word[..length], &mut sources[used..]);
-    if let Some(error) = taken.fault {
-        system::fail(rt, &word[..length], error);
-        return n.with_failed();
-    }
-    let end = used % SOURCES + taken.length % SOURCES;
-    if FILES <= files {
-        return n;
-    }
-    if lists.len() < LISTS {
-        return n;
-    }
-    lists[files] = end;
-    lists[PARTS + files] = end * GROWTH;
-    lists[NAMES + files] = i;
-    n.with_end(end)
+// The first bytes of a buffer, as many as it has.
+fn front(bytes: &[u8], n: usize) -> &[u8] {
+    bytes.get(..n).unwrap_or(bytes)
 }
 
-// A source, and of a longer one enough to see that it is too long.
-fn take_source(file: &mut Source, rest: &mut [u8]) -> Taken {
-    if rest.len() < SOURCE {
-        return take(file, rest);
-    }
-    take(file, &mut rest[..SOURCE])
+// A source by its file's name behind those that are there, and of a longer one enough to see that it is too long.
+fn take(rt: &HostRuntime, name: &[u8], sources: &mut [u8], used: usize) -> io::Result<usize> {
+    let mut file = Source::open(rt, name)?;
+    let from = used.min(sources.len());
+    let rest = &mut sources[from..];
+    let most = rest.len().min(SOURCE);
+    file.read_whole(&mut rest[..most])
 }
 
-// That of a file by its name.
-fn take_named(rt: &HostRuntime, name: &[u8], rest: &mut [u8]) -> Taken {
-    match Source::open(rt, name) {
-        Ok(file) => {
-            let mut file = file;
-            take_source(&mut file, rest)
+impl<'a> Call<'a> {
+    // Whether another file may have no room.
+    fn is_full(&self) -> bool {
+        FILES <= self.files || SOURCES - SOURCE < self.used
+    }
+
+    // The files are read and told of, and there are none.
+    fn read(&mut self, rt: &HostRuntime, night: &mut Night) {
+        let files = self.files.min(FILES);
+        let used = self.used;
+        let ends = self.ends;
+        let parts = self.parts;
+        let names = self.names;
+        read_files(
+            rt,
+            night,
+            self.sources,
+            used,
+            self.output,
+            self.answers,
+            &ends[..files],
+            &parts[..files],
+            &names[..files],
+        );
+        self.used = 0;
+        self.files = 0;
+    }
+
+    // The file of an argument, whose source ends here.
+    fn push(&mut self, name: usize, end: usize) {
+        let files = self.files;
+        if files < FILES {
+            self.ends[files] = end;
+            self.parts[files] = end.saturating_mul(GROWTH);
+            self.names[files] = name;
+            self.files = files + 1;
+            self.used = end;
         }
-        Err(error) => Taken {
-            length: 0,
-            fault: Some(error),
-        },
+    }
+
+    // One file more; one that cannot be read to its end is told of and left out.
+    fn add(&mut self, rt: &HostRuntime, night: &mut Night, i: usize) {
+        let mut word = system::buffer();
+        let name = system::arg(rt, i, &mut word);
+        let used = self.used;
+        match take(rt, name, self.sources, used) {
+            Ok(n) => self.push(i, used.saturating_add(n)),
+            Err(error) => {
+                system::fail(rt, name, error);
+                night.count_failed();
+            }
+        }
     }
 }
 
-fn take_argument(
-    rt: &HostRuntime,
-    n: Night,
-    i: usize,
-    sources: &mut [u8],
-    lists: &mut [usize],
-    output: &mut [u8],
-    answers: &mut [u64],
-) -> Night {
-    if n.is_full() {
-        let told = read_files(rt, n, sources, lists, output, answers);
-        return add_file(rt, told.emptied(), i, sources, lists);
-    }
-    add_file(rt, n, i, sources, lists)
-}
-
-fn take_arguments(
-    rt: &HostRuntime,
-    first: Night,
-    from: usize,
-    sources: &mut [u8],
-    lists: &mut [usize],
-    output: &mut [u8],
-    answers: &mut [u64],
-) -> Night {
+// The files that the arguments from one on name.
+fn read_arguments(rt: &HostRuntime, night: &mut Night, from: usize, call: &mut Call) {
     let count = system::arg_count(rt);
-    let mut n = first;
-    let mut i = from;
-    while i < count {
-        n = take_argument(rt, n, i, sources, lists, output, answers);
-        n = n.with_time(rt);
-        show_progress(rt, n, from, i, count);
-        i += 1;
+    for i in from..count {
+        if call.is_full() {
+            call.read(rt, night);
+        }
+        call.add(rt, night, i);
+        night.look_at_clock(rt);
+        night.show_progress(rt, (i - from).saturating_add(1), count - from);
     }
-    read_files(rt, n, sources, lists, output, answers)
+    call.read(rt, night);
 }
 
 // The buffers come as references to arrays: a proof that lent them as slices where they are made would count their elements one by one.
 fn read_all(
     rt: &HostRuntime,
-    setting: u64,
+    night: &mut Night,
     from: usize,
     sources: &mut [u8; SOURCES],
-    lists: &mut [usize; LISTS],
     output: &mut [u8; OUTPUT],
     answers: &mut [u64; ANSWERS],
-) -> Night {
-    take_arguments(
-        rt,
-        Night::new(rt, setting),
-        from,
+) {
+    let mut call = Call {
         sources,
-        lists,
         output,
         answers,
-    )
+        files: 0,
+        used: 0,
+        ends: [0; FILES],
+        parts: [0; FILES],
+        names: [0; FILES],
+    };
+    read_arguments(rt, night, from, &mut call);
 }
 
 // The setting is the first argument.
 fn setting_of(rt: &HostRuntime, i: usize) -> u64 {
     let mut word = system::buffer();
-    let n = system::arg(rt, i, &mut word);
-    lists::number(&word[..n], false) as u64
+    u64::from(lists::number(system::arg(rt, i, &mut word), false))
 }
 
 fn main(rt: HostRuntime) -> ExitCode {
     let mut sources = [0u8; SOURCES];
-    let mut lists = [0usize; LISTS];
     let mut output = [0u8; OUTPUT];
     let mut answers = [0u64; ANSWERS];
     let first = status::first_argument(&rt);
     if system::arg_count(&rt) <= first {
         system::complain(&rt, b"readnight: a setting is wanted\n");
-        return status::end(&rt, status::FAILED);
+        return status::end(&rt, Status::Failed);
     }
-    let n = read_all(
+    let mut night = Night::new(&rt, setting_of(&rt, first));
+    read_all(
         &rt,
-        setting_of(&rt, first),
-        first + 1,
+        &mut night,
+        first.saturating_add(1),
         &mut sources,
-        &mut lists,
         &mut output,
         &mut answers,
     );
     let mut out = Output::new(&rt);
-    let fault = n.report(&mut out);
-    status::end(&rt, status::if_written(&rt, fault, n.status()))
+    let fault = night.report(&mut out);
+    status::end(&rt, status::if_written(&rt, fault, night.status()))
 }

@@ -1,50 +1,42 @@
 // Two sources that part, as a person reads it: what stands in each at the place, and its line.
-use crate::page::{Page, say};
-use crate::places::say_place;
-use crate::refusals::say_line;
-use crate::say::say_characters;
-use crate::texts::say_text;
+use crate::file::File;
+use crate::page::Page;
 
-fn say_here(page: &mut Page, source: &[u8], start: usize, end: usize) {
-    if end <= start {
-        say(page, b"nothing more");
-        return;
+// What stands at a place of a file where it parts from another.
+#[derive(Clone, Copy)]
+pub struct Difference<'a> {
+    pub file: File<'a>,
+    pub start: usize,
+    pub end: usize,
+}
+
+impl<'a> Difference<'a> {
+    fn say_here(self, page: &mut Page) {
+        if self.end <= self.start {
+            page.say(b"nothing more");
+            return;
+        }
+        if let Some(text) = self.file.text.get(self.start..self.end) {
+            page.say_text(b"`", text);
+        }
     }
-    if end <= source.len() {
-        say_text(page, b"`", &source[start..end]);
+
+    // The place, what stands there between words, and its line with carets.
+    fn tell(self, page: &mut Page, before: &[u8], after: &[u8]) {
+        self.file.say_place(page, self.start);
+        page.say(before);
+        self.say_here(page);
+        page.say(after);
+        page.say_line(self.file.text, self.start, self.end);
     }
-}
 
-fn say_name(page: &mut Page, name: &[u8], source: &[u8], start: usize) {
-    say_characters(page, name);
-    say(page, b":");
-    say_place(page, source, start);
-    say(page, b": ");
-}
+    // That of the first file.
+    pub fn tell_first(self, page: &mut Page) {
+        self.tell(page, b"", b" stands here,\n");
+    }
 
-// A place of a source under its name, what stands there between words, and its line with carets.
-fn point(
-    page: &mut Page,
-    name: &[u8],
-    source: &[u8],
-    start: usize,
-    end: usize,
-    before: &[u8],
-    after: &[u8],
-) {
-    say_name(page, name, source, start);
-    say(page, before);
-    say_here(page, source, start, end);
-    say(page, after);
-    say_line(page, source, start, end);
-}
-
-// Where one of the two parts from the other.
-pub fn tell_first(page: &mut Page, name: &[u8], source: &[u8], start: usize, end: usize) {
-    point(page, name, source, start, end, b"", b" stands here,\n");
-}
-
-// Where the other one does.
-pub fn tell_second(page: &mut Page, name: &[u8], source: &[u8], start: usize, end: usize) {
-    point(page, name, source, start, end, b"and ", b" here.\n");
+    // That of the second.
+    pub fn tell_second(self, page: &mut Page) {
+        self.tell(page, b"and ", b" here.\n");
+    }
 }

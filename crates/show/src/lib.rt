@@ -3,11 +3,13 @@
 mod bad_blocks; // text blocks with a line at fault
 pub mod differences; // two sources that part
 mod escapes; // what is wrong with an escape
+pub mod file; // a file that is told of
 pub mod page; // where it is written
 pub mod places; // places as a person counts them
 pub mod records; // the image's records
 pub mod refusals; // a refusal as a sentence
 pub mod say; // words, numbers and characters
+mod short; // short texts with numbers
 pub mod texts; // texts, whose ends are never left out
 mod unseen; // characters that cannot be seen
 mod within; // what stands open before a place

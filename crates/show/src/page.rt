@@ -1,118 +1,100 @@
 // What is written goes to a page, and from it to standard output when it is full.
-ghost use Rattle.std.specs.Prelude.{◌+◌, ◌≤◌, length};
-
+use arrayvec::ArrayVec;
 use std::io::Error;
 use system::Output;
 
 // How many bytes a page has room for.
 const SIZE: usize = 4096;
 
+// What a text is coloured as.
+#[derive(Clone, Copy)]
+pub enum Colour {
+    Fault, // what a fault is marked with
+    Text,
+    Name,
+    File, // a file's name
+    Place,
+}
+
+impl Colour {
+    // What tells a terminal of it.
+    fn code(self) -> &'static [u8] {
+        match self {
+            Colour::Fault => b"\x1b[1;31m",
+            Colour::Text => b"\x1b[32m",
+            Colour::Name => b"\x1b[36m",
+            Colour::File => b"\x1b[1m",
+            Colour::Place => b"\x1b[2m",
+        }
+    }
+}
+
 #[derive(Drop)]
 pub struct Page {
     out: Output,
     colours: bool, // whether there are any
-    next: usize, // where the next text goes
-    text: [u8; SIZE],
+    text: ArrayVec<u8, SIZE>,
 }
 
-// An empty page, with colours or without.
-pub fn begin(rt: &HostRuntime, colours: bool) -> Page {
-    Page {
-        out: Output::new(rt),
-        colours,
-        next: 0,
-        text: [0; SIZE],
+impl Page {
+    // An empty page, with colours or without.
+    pub fn new(rt: &HostRuntime, colours: bool) -> Self {
+        Self {
+            out: Output::new(rt),
+            colours,
+            text: ArrayVec::new(),
+        }
     }
-}
 
-// Why the last write failed that did, of all since the page began.
-pub fn fault(page: &Page) -> Option<Error> {
-    page.out.fault()
-}
-
-// All that is written so far goes out, and the page is empty.
-pub fn flush(page: &mut Page) {
-    let next = page.next;
-    if next <= page.text.len() {
-        page.out.write(&page.text[..next]);
+    // Why the last write failed that did, of all since the page began.
+    pub fn fault(&self) -> Option<Error> {
+        self.out.fault()
     }
-    page.next = 0;
-}
 
-fn copy(page: &mut [u8], at: usize, text: &[u8])
-    requires { at + length text.now ≤ length page.old }
-{
-    let mut i = 0;
-    while i < text.len() {
-        page[at + i] = text[i];
-        i += 1;
+    // All that is written so far goes out, and the page is empty.
+    pub fn flush(&mut self) {
+        self.out.write(self.text.as_slice());
+        self.text.clear();
     }
-}
 
-// A text for which the page has no room behind what is written: it goes onto the empty page, or out by itself where it is longer than that.
-fn turn(page: &mut Page, text: &[u8]) {
-    flush(page);
-    if page.text.len() < text.len() {
-        page.out.write(text);
-        return;
+    // A text for which the page has no room behind what is written: it goes onto the empty page, or out by itself where it is longer than that.
+    #[inline(never)]
+    fn turn(&mut self, text: &[u8]) {
+        self.flush();
+        if self.text.try_extend_from_slice(text).is_err() {
+            self.out.write(text);
+        }
     }
-    copy(&mut page.text, 0, text);
-    page.next = text.len();
-}
 
-// A text behind what is written.
-pub fn say(page: &mut Page, text: &[u8]) {
-    let next = page.next;
-    let size = page.text.len();
-    if size < next {
-        return;
+    // A text behind what is written.
+    #[inline(always)]
+    pub fn say(&mut self, text: &[u8]) {
+        if self.text.try_extend_from_slice(text).is_err() {
+            self.turn(text);
+        }
     }
-    if size - next < text.len() {
-        turn(page, text);
-        return;
+
+    // The same where something holds.
+    pub fn say_if(&mut self, holds: bool, text: &[u8]) {
+        if holds {
+            self.say(text);
+        }
     }
-    copy(&mut page.text, next, text);
-    page.next = next + text.len();
-}
 
-// A text of one byte.
-pub fn say_byte(page: &mut Page, b: u8) {
-    say(page, &[b]);
-}
-
-// Colours: what a fault is marked with, texts, names, the names of files, places, and none.
-pub const FAULT: u8 = 0;
-
-pub const TEXT: u8 = 1;
-
-pub const NAME: u8 = 2;
-
-pub const FILE: u8 = 3;
-
-pub const PLACE: u8 = 4;
-
-const NONE: u8 = 5;
-
-fn say_colour(page: &mut Page, colour: u8) {
-    say(page, &[0x1B, b'[']);
-    match colour {
-        FAULT => say(page, b"1;31m"),
-        TEXT => say(page, b"32m"),
-        NAME => say(page, b"36m"),
-        FILE => say(page, b"1m"),
-        PLACE => say(page, b"2m"),
-        _ => say(page, b"0m"),
+    // A text of one byte.
+    pub fn say_byte(&mut self, b: u8) {
+        self.say(&[b]);
     }
-}
 
-// A colour from here on, where there are colours.
-pub fn paint(page: &mut Page, colour: u8) {
-    if page.colours {
-        say_colour(page, colour);
+    // A colour from here on, where there are colours.
+    pub fn paint(&mut self, colour: Colour) {
+        if self.colours {
+            self.say(colour.code());
+        }
     }
-}
 
-// No colour from here on.
-pub fn plain(page: &mut Page) {
-    paint(page, NONE);
+    // No colour from here on.
+    pub fn plain(&mut self) {
+        self.say_if(self.colours, b"\x1b[0m");
+    }
 }

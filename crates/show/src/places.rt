@@ -1,128 +1,117 @@
 // Places in a source as a person counts them.
-ghost use Rattle.std.specs.Prelude.{◌≡◌, ◌≤◌, length};
+use crate::page::Page;
+use crate::say::is_inside;
+use crate::short::Short;
 
-use crate::page::{Page, say};
-use crate::say::{is_inside, put_before, put_number};
-use std::num::wrapping_add_usize;
-
-// A place is a line and a character in it, both from 1, packed into one number.
-const COLUMNS: usize = 4_294_967_296;
-
-const LINES: usize = 2_147_483_648;
-
-const FIRST: usize = 4_294_967_297;
-
-fn line_of(place: usize) -> usize {
-    place / COLUMNS
+// A line and a character in it, both from 1.
+#[derive(Clone, Copy, PartialEq, Eq, PartialOrd, Ord)]
+pub struct Place {
+    line: u32,
+    column: u32,
 }
 
-fn column_of(place: usize) -> usize {
-    place % COLUMNS
+// A number as a place keeps it.
+fn kept(n: usize) -> u32 {
+    u32::try_from(n).unwrap_or(u32::MAX)
 }
 
-// The place after a byte.
-fn after(place: usize, b: u8) -> usize {
-    if b == b'\n' {
-        return (line_of(place) % LINES + 1) * COLUMNS + 1;
-    }
-    if is_inside(b) {
-        return place;
-    }
-    wrapping_add_usize(place, 1)
-}
+impl Place {
+    // What stands where no place has been found yet.
+    pub const NONE: Place = Place { line: 0, column: 0 };
 
-fn place_of(source: &[u8], at: usize) -> usize {
-    let mut p = FIRST;
-    let mut i = 0;
-    while i < at {
-        if source.len() <= i {
-            return p;
+    // The first of a source.
+    const FIRST: Place = Place { line: 1, column: 1 };
+
+    pub fn new(line: usize, column: usize) -> Self {
+        Self {
+            line: kept(line),
+            column: kept(column),
         }
-        p = after(p, source[i]);
-        i += 1;
     }
-    p
+
+    // The place after a byte.
+    fn after(self, b: u8) -> Self {
+        if b == b'\n' {
+            return Self {
+                line: self.line.wrapping_add(1),
+                column: 1,
+            };
+        }
+        if is_inside(b) {
+            return self;
+        }
+        Self {
+            line: self.line,
+            column: self.column.wrapping_add(1),
+        }
+    }
+
+    // That of a byte.
+    fn of(source: &[u8], at: usize) -> Self {
+        let before = source.iter().take(at);
+        before.fold(Self::FIRST, |place, b| place.after(*b))
+    }
+
+    // `LINE:COLUMN` before a text.
+    fn put(self, text: &mut Short) {
+        text.put_number(self.column as usize);
+        text.put(b":");
+        text.put_number(self.line as usize);
+    }
 }
 
-// `LINE:COLUMN` at the end of a text, and where it begins.
-fn put_place(text: &mut [u8; 48], place: usize) -> usize
-    requires { 48 ≡ length text.old }
-    ensures { (result ≤ 48) × (48 ≡ length text.new) }
-{
-    let column = put_number(text, 48, column_of(place));
-    let colon = put_before(text, column, b":");
-    put_number(text, colon, line_of(place))
-}
-
-// `LINE:COLUMN`.
-pub fn say_place(page: &mut Page, source: &[u8], at: usize) {
-    let mut text = [0u8; 48];
-    let from = put_place(&mut text, place_of(source, at));
-    say(page, &text[from..]);
-}
-
-// The places of all bytes of a source and of its end, where there is room: found once, for a tree has many places.
-pub fn find_places(source: &[u8], places: &mut [usize]) {
+// The places of all bytes of a source and of its end, found once, for a tree has many places; nothing where there is no room for them.
+pub fn find_places<'a>(source: &[u8], places: &'a mut [Place]) -> &'a [Place] {
     if places.len() <= source.len() {
-        return;
+        return &[];
     }
-    let mut p = FIRST;
-    let mut i = 0;
-    while i < source.len() {
-        places[i] = p;
-        p = after(p, source[i]);
-        i += 1;
+    let mut place = Place::FIRST;
+    for (i, b) in source.iter().enumerate() {
+        places[i] = place;
+        place = place.after(*b);
     }
-    places[i] = p;
+    places[source.len()] = place;
+    &places[..=source.len()]
 }
 
-// Whether a place comes by a line and a column.
-fn is_by(line: usize, column: usize, by_line: usize, by_column: usize) -> bool {
-    if line == by_line {
-        return column <= by_column;
-    }
-    line < by_line
+// The byte at a place: the last one that comes by it. The places stand in their order.
+pub fn byte_at(places: &[Place], by: Place) -> usize {
+    let after = places.partition_point(|place| *place <= by);
+    after.saturating_sub(1)
 }
 
-// The byte at a line and a column, of so many: the last one that comes by them.
-pub fn byte_at(places: &[usize], count: usize, line: usize, column: usize) -> usize {
-    let mut found = 0;
-    let mut i = 0;
-    while i < places.len() {
-        if count < i {
-            return found;
+// That of a byte before a text; `byte N` for an image that came without its source.
+fn put_found(text: &mut Short, places: &[Place], at: usize) {
+    match places.get(at) {
+        Some(place) => place.put(text),
+        None => {
+            text.put_number(at);
+            text.put(b"byte ");
         }
-        if !is_by(line_of(places[i]), column_of(places[i]), line, column) {
-            return found;
-        }
-        found = i;
-        i += 1;
     }
-    found
 }
 
-// `LINE:COLUMN` at the end of a text; `byte N` of an image that came without its source.
-fn put_found(text: &mut [u8; 48], places: &[usize], at: usize) -> usize
-    requires { 48 ≡ length text.old }
-    ensures { (result ≤ 48) × (48 ≡ length text.new) }
-{
-    if places.len() <= at {
-        let digits = put_number(text, 48, at);
-        return put_before(text, digits, b"byte ");
+impl Page {
+    // `LINE:COLUMN` of a byte of a source.
+    pub fn say_place(&mut self, source: &[u8], at: usize) {
+        let mut text = Short::new();
+        let place = Place::of(source, at);
+        place.put(&mut text);
+        self.say(text.as_slice());
     }
-    put_place(text, places[at])
-}
 
-pub fn say_found(page: &mut Page, places: &[usize], at: usize) {
-    let mut text = [0u8; 48];
-    let from = put_found(&mut text, places, at);
-    say(page, &text[from..]);
-}
+    // The same where the places are found.
+    pub fn say_found(&mut self, places: &[Place], at: usize) {
+        let mut text = Short::new();
+        put_found(&mut text, places, at);
+        self.say(text.as_slice());
+    }
 
-// The same behind ` at `.
-pub fn say_at(page: &mut Page, places: &[usize], at: usize) {
-    let mut text = [0u8; 48];
-    let found = put_found(&mut text, places, at);
-    let from = put_before(&mut text, found, b" at ");
-    say(page, &text[from..]);
+    // The same behind ` at `.
+    pub fn say_at(&mut self, places: &[Place], at: usize) {
+        let mut text = Short::new();
+        put_found(&mut text, places, at);
+        text.put(b" at ");
+        self.say(text.as_slice());
+    }
 }

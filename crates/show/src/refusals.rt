@@ -2,14 +2,11 @@
 ghost use Rattle.std.specs.Prelude.{◌≤◌, length};
 
 use crate::bad_blocks::line_at_fault;
-use crate::escapes::say_escape;
-use crate::page::{FAULT, Page, paint, plain, say};
-use crate::places::say_place;
-use crate::say::{
-    character_end, columns, is_inside, one_more, say_characters, say_hex, say_number, say_times,
-};
-use crate::texts::say_text;
-use crate::within::{note, say_within, takes_comma};
+use crate::file::File;
+use crate::page::{Colour, Page};
+use crate::say::{columns, run_end};
+use crate::texts::{ahead, behind};
+use crate::within::Brackets;
 use grammar::numbers::Number;
 use lexemes::kinds::Kind;
 
@@ -28,143 +25,124 @@ pub struct Refusal {
     pub length: u64,
 }
 
-fn say_kind(page: &mut Page, kind: u8) {
+// What is wrong.
+#[derive(Clone, Copy)]
+enum Fault {
+    Setting,
+    Long,
+    Encoding,
+    Lexeme(u8), // a bad one, by its kind
+    Wanted(u8), // another lexeme is, of this kind
+    NoFieldName,
+    NoName,
+    NoExpression,
+    LateArgument, // one without a name, behind one with a name
+    SecondField, // an object comprehension has it
+    Assert, // an object comprehension has one
+    NoField, // an object comprehension has none
+    Escape(usize), // where its backslash stands
+    Depth,
+    Room(usize), // how many bytes the tree takes
+    Large,
+}
+
+// A number or a detail, which is a kind or below 5.
+fn small(n: u64) -> u8 {
+    u8::try_from(n).unwrap_or(0)
+}
+
+// The name of a kind of lexeme that is wanted.
+fn kind_name(kind: u8) -> &'static [u8] {
     match kind {
-        Kind::EOF => say(page, b"the end of the file"),
-        Kind::IDENT => say(page, b"a name"),
-        Kind::R_BRACK => say(page, b"`]`"),
-        Kind::L_PAREN => say(page, b"`(`"),
-        Kind::R_PAREN => say(page, b"`)`"),
-        Kind::R_BRACE => say(page, b"`}`"),
-        Kind::COLON => say(page, b"`:`"),
-        Kind::SEMI => say(page, b"`;`"),
-        Kind::DOT => say(page, b"`.`"),
-        Kind::ASSIGN => say(page, b"`=`"),
-        Kind::THEN_KW => say(page, b"`then`"),
-        Kind::IN_KW => say(page, b"`in`"),
-        _ => say(page, b"something else"),
+        Kind::EOF => b"the end of the file",
+        Kind::IDENT => b"a name",
+        Kind::R_BRACK => b"`]`",
+        Kind::L_PAREN => b"`(`",
+        Kind::R_PAREN => b"`)`",
+        Kind::R_BRACE => b"`}`",
+        Kind::COLON => b"`:`",
+        Kind::SEMI => b"`;`",
+        Kind::DOT => b"`.`",
+        Kind::ASSIGN => b"`=`",
+        Kind::THEN_KW => b"`then`",
+        Kind::IN_KW => b"`in`",
+        _ => b"something else",
     }
 }
 
-fn say_wanted(page: &mut Page, kind: u8, comma: bool) {
-    say_cut(page, comma, b"`,` or ");
-    say_kind(page, kind);
-    say(page, b" is wanted");
-}
-
-fn say_bad_lexeme(page: &mut Page, kind: u8) {
+// What is wrong with a bad lexeme.
+fn lexeme_fault(kind: u8) -> &'static [u8] {
     match kind {
-        Kind::ERROR_FLOAT_JUNK_AFTER_POINT => say(page, b"a number has no digit after its point"),
-        Kind::ERROR_FLOAT_JUNK_AFTER_EXPONENT => say(
-            page,
-            b"a number has no digit after its exponent's letter",
-        ),
-        Kind::ERROR_FLOAT_JUNK_AFTER_EXPONENT_SIGN => say(
-            page,
-            b"a number has no digit after its exponent's sign",
-        ),
-        Kind::ERROR_STRING_DOUBLE_UNTERMINATED => say(page, b"a string's closing \" is missing"),
-        Kind::ERROR_STRING_SINGLE_UNTERMINATED => say(page, b"a string's closing ' is missing"),
-        Kind::ERROR_STRING_DOUBLE_VERBATIM_UNTERMINATED => say(
-            page,
-            b"a verbatim string's closing \" is missing",
-        ),
-        Kind::ERROR_STRING_SINGLE_VERBATIM_UNTERMINATED => say(
-            page,
-            b"a verbatim string's closing ' is missing",
-        ),
-        Kind::ERROR_STRING_VERBATIM_MISSING_QUOTES => say(page, b"a quote is wanted after @"),
-        Kind::ERROR_STRING_BLOCK_UNEXPECTED_END => say(
-            page,
-            b"a text block is not closed before the file ends",
-        ),
-        Kind::ERROR_STRING_BLOCK_MISSING_NEW_LINE => say(
-            page,
-            b"a new line is wanted after a text block's |||",
-        ),
-        Kind::ERROR_STRING_BLOCK_MISSING_TERMINATION => say(
-            page,
-            b"a text block has a line with neither its indent nor |||",
-        ),
-        Kind::ERROR_STRING_BLOCK_MISSING_INDENT => say(
-            page,
-            b"a text block's first line is not indented",
-        ),
-        Kind::ERROR_COMMENT_TOO_SHORT => say(page, b"/*/ does not close a comment"),
-        Kind::ERROR_COMMENT_UNTERMINATED => say(page, b"a comment is not closed"),
-        _ => say(page, b"no word, number or sign begins so"),
-    }
-}
-
-fn say_misplaced(page: &mut Page, detail: u8) {
-    match detail {
-        1 => say(page, b"an argument without a name follows one with a name"),
-        2 => say(
-            page,
-            b"the object comprehension that ends here has a second field",
-        ),
-        3 => say(
-            page,
-            b"the object comprehension that ends here has an assert",
-        ),
-        _ => say(
-            page,
-            b"the object comprehension that ends here has no field",
-        ),
-    }
-}
-
-// What is wrong, in words.
-fn say_fault(page: &mut Page, number: u8, detail: u8, comma: bool) {
-    match number {
-        Number::ENCODING => say(page, b"the bytes are not UTF-8"),
-        Number::LEXEME => say_bad_lexeme(page, detail),
-        Number::WANTED => say_wanted(page, detail, comma),
-        Number::ABSENT => {
-            if detail == 1 {
-                say(page, b"a field name is wanted");
-            } else {
-                say(page, b"a name or a pattern is wanted");
-            }
+        Kind::ERROR_FLOAT_JUNK_AFTER_POINT => b"a number has no digit after its point",
+        Kind::ERROR_FLOAT_JUNK_AFTER_EXPONENT => {
+            b"a number has no digit after its exponent's letter"
         }
-        Number::EXPRESSION => say(page, b"an expression is wanted"),
-        Number::MISPLACED => say_misplaced(page, detail),
-        Number::LARGE => say(
-            page,
-            b"the number is more than a double holds, some 1.797e308",
-        ),
-        _ => say(page, b"phrases stand more than 200 deep in each other"),
+        Kind::ERROR_FLOAT_JUNK_AFTER_EXPONENT_SIGN => {
+            b"a number has no digit after its exponent's sign"
+        }
+        Kind::ERROR_STRING_DOUBLE_UNTERMINATED => b"a string's closing \" is missing",
+        Kind::ERROR_STRING_SINGLE_UNTERMINATED => b"a string's closing ' is missing",
+        Kind::ERROR_STRING_DOUBLE_VERBATIM_UNTERMINATED => {
+            b"a verbatim string's closing \" is missing"
+        }
+        Kind::ERROR_STRING_SINGLE_VERBATIM_UNTERMINATED => {
+            b"a verbatim string's closing ' is missing"
+        }
+        Kind::ERROR_STRING_VERBATIM_MISSING_QUOTES => b"a quote is wanted after @",
+        Kind::ERROR_STRING_BLOCK_UNEXPECTED_END => {
+            b"a text block is not closed before the file ends"
+        }
+        Kind::ERROR_STRING_BLOCK_MISSING_NEW_LINE => {
+            b"a new line is wanted after a text block's |||"
+        }
+        Kind::ERROR_STRING_BLOCK_MISSING_TERMINATION => {
+            b"a text block has a line with neither its indent nor |||"
+        }
+        Kind::ERROR_STRING_BLOCK_MISSING_INDENT => b"a text block's first line is not indented",
+        Kind::ERROR_COMMENT_TOO_SHORT => b"/*/ does not close a comment",
+        Kind::ERROR_COMMENT_UNTERMINATED => b"a comment is not closed",
+        _ => b"no word, number or sign begins so",
     }
 }
 
-fn say_byte_there(page: &mut Page, b: u8) {
-    say(page, b"; the byte 0x");
-    say_hex(page, b as u32, 2);
-    say(page, b" stands there");
+// Whether a bad lexeme is a text block of which one line is at fault.
+fn has_bad_line(kind: u8) -> bool {
+    matches!(
+        kind,
+        Kind::ERROR_STRING_BLOCK_MISSING_TERMINATION | Kind::ERROR_STRING_BLOCK_MISSING_INDENT
+    )
 }
 
-fn say_text_there(page: &mut Page, text: &[u8]) {
-    say(page, b"; ");
-    say_text(page, b"`", text);
-    say(page, b" stands there");
-}
+impl Fault {
+    // Whether a phrase is refused: it is then told what stands open there.
+    fn is_of_phrase(self) -> bool {
+        match self {
+            Fault::Wanted(_) | Fault::NoFieldName | Fault::NoName | Fault::NoExpression => true,
+            Fault::LateArgument | Fault::SecondField | Fault::Assert | Fault::NoField => true,
+            _ => false,
+        }
+    }
 
-// What stands at the place.
-fn say_there(page: &mut Page, number: u8, source: &[u8], start: usize, end: usize) {
-    if source.len() <= start {
-        say(page, b"; nothing more stands there");
-        return;
-    }
-    if number == Number::ENCODING {
-        say_byte_there(page, source[start]);
-        return;
-    }
-    if end <= start {
-        say(page, b"; nothing more stands there");
-        return;
-    }
-    if end <= source.len() {
-        say_text_there(page, &source[start..end]);
+    // In words.
+    fn say(self, page: &mut Page) {
+        let words: &[u8] = match self {
+            Fault::Encoding => b"the bytes are not UTF-8",
+            Fault::Lexeme(kind) => lexeme_fault(kind),
+            Fault::Wanted(kind) => {
+                page.say(kind_name(kind));
+                b" is wanted"
+            }
+            Fault::NoFieldName => b"a field name is wanted",
+            Fault::NoName => b"a name or a pattern is wanted",
+            Fault::NoExpression => b"an expression is wanted",
+            Fault::LateArgument => b"an argument without a name follows one with a name",
+            Fault::SecondField => b"the object comprehension that ends here has a second field",
+            Fault::Assert => b"the object comprehension that ends here has an assert",
+            Fault::NoField => b"the object comprehension that ends here has no field",
+            Fault::Large => b"the number is more than a double holds, some 1.797e308",
+            _ => b"phrases stand more than 200 deep in each other",
+        };
+        page.say(words);
     }
 }
 
@@ -173,23 +151,12 @@ fn shown_from(source: &[u8], at: usize) -> usize
     requires { at ≤ length source.now }
     ensures { result ≤ at }
 {
-    let mut left = BEFORE;
-    let mut i = at;
-    while i > 0 {
-        let b = source[i - 1];
-        if b == b'\n' {
-            return i;
-        }
-        if left == 0 {
-            return i;
-        }
-        i -= 1;
-        if is_inside(b) {
-            continue;
-        }
-        left -= 1;
-    }
-    i
+    let before = &source[..at];
+    let line = match before.iter().rposition(|b| *b == b'\n') {
+        Some(feed) => feed + 1,
+        None => 0,
+    };
+    line + behind(&before[line..], BEFORE)
 }
 
 // Where it ends: so many characters from the place on, or with the line.
@@ -197,259 +164,182 @@ fn shown_to(source: &[u8], at: usize) -> usize
     requires { at ≤ length source.now }
     ensures { (at ≤ result) × (result ≤ length source.now) }
 {
-    let mut left = AFTER;
-    let mut i = at;
-    while i < source.len() {
-        if source[i] == b'\n' {
-            return i;
-        }
-        if left == 0 {
-            return i;
-        }
-        i = character_end(source, i);
-        left -= 1;
-    }
-    i
+    let end = run_end(source, at, |b| b == b'\n');
+    at + ahead(&source[at..end], AFTER)
 }
 
 // Whether a part of a line that begins here leaves some of it out.
 fn is_cut_before(source: &[u8], from: usize) -> bool {
-    if from == 0 {
-        return false;
-    }
-    if source.len() < from {
-        return false;
-    }
-    source[from - 1] != b'\n'
+    matches!(source.get(..from), Some([.., b]) if *b != b'\n')
 }
 
 fn is_cut_after(source: &[u8], to: usize) -> bool {
-    if to < source.len() {
-        return source[to] != b'\n';
-    }
-    false
-}
-
-fn say_cut(page: &mut Page, is_cut: bool, mark: &[u8]) {
-    if is_cut {
-        say(page, mark);
-    }
-}
-
-fn say_carets(page: &mut Page, n: usize) {
-    paint(page, FAULT);
-    say_times(page, b"^", n);
-    plain(page);
+    matches!(source.get(to), Some(b) if *b != b'\n')
 }
 
 // How many columns are marked of a line that is shown up to a place: one at least.
 fn marked(source: &[u8], start: usize, end: usize, to: usize) -> usize {
-    if source.len() < to {
-        return 1;
-    }
-    if end <= start {
-        return 1;
-    }
-    if end < to {
-        return columns(&source[start..end]);
-    }
-    if to <= start {
-        return 1;
-    }
-    columns(&source[start..to])
-}
-
-// The shown part of a line.
-fn say_shown(page: &mut Page, source: &[u8], from: usize, to: usize)
-    requires { (from ≤ to) × (to ≤ length source.now) }
-{
-    say(page, b"    ");
-    say_cut(page, is_cut_before(source, from), b"...");
-    say_characters(page, &source[from..to]);
-    say_cut(page, is_cut_after(source, to), b"...");
-    say(page, b"\n");
-}
-
-// The line below it: so many columns up to the place, and carets.
-fn say_marks(page: &mut Page, is_cut: bool, before: usize, count: usize) {
-    say(page, b"    ");
-    say_cut(page, is_cut, b"   ");
-    say_times(page, b" ", before);
-    say_carets(page, count);
-    say(page, b"\n");
-}
-
-// The line, and carets under the place.
-pub fn say_line(page: &mut Page, source: &[u8], start: usize, end: usize) {
-    if source.len() < start {
-        return;
-    }
-    let from = shown_from(source, start);
-    let to = shown_to(source, start);
-    let before = columns(&source[from..start]);
-    say_shown(page, source, from, to);
-    say_marks(
-        page,
-        is_cut_before(source, from),
-        before,
-        marked(source, start, end, to),
-    );
-}
-
-// A number or a detail, which is a kind or below 5.
-fn small(n: u64) -> u8 {
-    if n > 255 {
-        return 0;
-    }
-    n as u8
-}
-
-// The place before which it is told what stands open: where a phrase is refused, and else the source's start.
-fn watched(number: u8, start: usize) -> usize {
-    match number {
-        Number::WANTED => start,
-        Number::ABSENT => start,
-        Number::EXPRESSION => start,
-        Number::MISPLACED => start,
-        _ => 0,
+    match source.get(start..end.min(to)) {
+        None | Some([]) => 1,
+        Some(text) => columns(text),
     }
 }
 
-// The sentence of a refusal that has a place.
-fn say_sentence(page: &mut Page, number: u8, f: Refusal, source: &[u8]) {
-    let start = f.start as usize;
-    let end = f.end as usize;
-    let mut notes = system::buffer();
-    let open = note(source, watched(number, start), &mut notes);
-    let detail = small(f.detail);
-    say_place(page, source, start);
-    say(page, b": ");
-    say_fault(
-        page,
-        number,
-        detail,
-        takes_comma(source, &notes, open, detail),
-    );
-    say_there(page, number, source, start, end);
-    say_within(page, source, &notes, open);
-    say(page, b".\n");
-}
+impl Page {
+    // The shown part of a line.
+    fn say_shown(&mut self, source: &[u8], from: usize, to: usize)
+        requires { (from ≤ to) × (to ≤ length source.now) }
+    {
+        self.say(b"    ");
+        self.say_if(is_cut_before(source, from), b"...");
+        self.say_characters(&source[from..to]);
+        self.say_if(is_cut_after(source, to), b"...");
+        self.say(b"\n");
+    }
 
-// Whether a bad lexeme is a text block of which one line is at fault.
-fn has_bad_line(kind: u8) -> bool {
-    match kind {
-        Kind::ERROR_STRING_BLOCK_MISSING_TERMINATION => true,
-        Kind::ERROR_STRING_BLOCK_MISSING_INDENT => true,
-        _ => false,
+    // The line below it: so many columns up to the place, and carets.
+    fn say_marks(&mut self, is_cut: bool, before: usize, count: usize) {
+        self.say(b"    ");
+        self.say_if(is_cut, b"   ");
+        self.say_times(b" ", before);
+        self.paint(Colour::Fault);
+        self.say_times(b"^", count);
+        self.plain();
+        self.say(b"\n");
+    }
+
+    // The line, and carets under the place.
+    pub fn say_line(&mut self, source: &[u8], start: usize, end: usize) {
+        if source.len() < start {
+            return;
+        }
+        let from = shown_from(source, start);
+        let to = shown_to(source, start);
+        self.say_shown(source, from, to);
+        self.say_marks(
+            is_cut_before(source, from),
+            columns(&source[from..start]),
+            marked(source, start, end, to),
+        );
+    }
+
+    // What stands at the place of a refusal.
+    fn say_there(&mut self, fault: Fault, source: &[u8], start: usize, end: usize) {
+        match (source.get(start), fault) {
+            (Some(b), Fault::Encoding) => {
+                self.say(b"; the byte 0x");
+                self.say_hex(u32::from(*b), 2);
+                self.say(b" stands there");
+            }
+            (Some(_), _) if start < end => {
+                if let Some(text) = source.get(start..end) {
+                    self.say(b"; ");
+                    self.say_text(b"`", text);
+                    self.say(b" stands there");
+                }
+            }
+            _ => self.say(b"; nothing more stands there"),
+        }
+    }
+
+    // A file that is read, under its name, as one line.
+    pub fn tell_read(&mut self, name: &[u8]) {
+        self.say_characters(name);
+        self.say(b": ok\n");
     }
 }
 
-// The line of a bad text block that is at fault.
-fn tell_bad_line(page: &mut Page, name: &[u8], start: usize, source: &[u8]) {
-    let at = line_at_fault(source, start);
-    say_characters(page, name);
-    say(page, b":");
-    say_place(page, source, at);
-    say(page, b": this line.\n");
-    say_line(page, source, at, at);
-}
-
-// The line that it is about; where the bytes are not UTF-8, the line up to there.
-fn tell_place(page: &mut Page, number: u8, f: Refusal, source: &[u8]) {
-    let start = f.start as usize;
-    let end = f.end as usize;
-    if number != Number::ENCODING {
-        say_line(page, source, start, end);
-        return;
+impl Refusal {
+    // What is wrong, by its number and detail.
+    fn fault(self) -> Fault {
+        let detail = small(self.detail);
+        match small(self.number) {
+            Number::SETTING => Fault::Setting,
+            Number::LONG => Fault::Long,
+            Number::ENCODING => Fault::Encoding,
+            Number::LEXEME => Fault::Lexeme(detail),
+            Number::WANTED => Fault::Wanted(detail),
+            Number::ABSENT if detail == 1 => Fault::NoFieldName,
+            Number::ABSENT => Fault::NoName,
+            Number::EXPRESSION => Fault::NoExpression,
+            Number::MISPLACED => match detail {
+                1 => Fault::LateArgument,
+                2 => Fault::SecondField,
+                3 => Fault::Assert,
+                _ => Fault::NoField,
+            },
+            Number::ESCAPE => Fault::Escape(self.detail as usize),
+            Number::ROOM => Fault::Room(self.length as usize),
+            Number::LARGE => Fault::Large,
+            _ => Fault::Depth,
+        }
     }
-    if start <= source.len() {
-        say_line(page, &source[..start], start, start);
+
+    // The sentence of a fault that has a place.
+    fn say_sentence(self, page: &mut Page, fault: Fault, source: &[u8]) {
+        let start = self.start as usize;
+        let watched = if fault.is_of_phrase() { start } else { 0 };
+        let brackets = Brackets::before(source, watched);
+        page.say_place(source, start);
+        page.say(b": ");
+        if let Fault::Wanted(kind) = fault {
+            page.say_if(brackets.take_comma(kind), b"`,` or ");
+        }
+        fault.say(page);
+        page.say_there(fault, source, start, self.end as usize);
+        brackets.say(page);
+        page.say(b".\n");
     }
-}
 
-fn say_escape_at(page: &mut Page, source: &[u8], at: usize) {
-    if at < source.len() {
-        say_escape(page, &source[at..]);
+    // The sentence of a bad escape, at its backslash.
+    fn say_bad_escape(self, page: &mut Page, at: usize, source: &[u8]) {
+        page.say_place(source, at);
+        page.say(b": ");
+        if at < source.len() {
+            page.say_escape(&source[at..]);
+        }
+        Brackets::before(source, self.start as usize).say(page);
+        page.say(b".\n");
     }
-}
 
-// The sentence of a bad escape, at its backslash.
-fn say_bad_escape(page: &mut Page, start: usize, at: usize, source: &[u8]) {
-    let mut notes = system::buffer();
-    let open = note(source, start, &mut notes);
-    say_place(page, source, at);
-    say(page, b": ");
-    say_escape_at(page, source, at);
-    say_within(page, source, &notes, open);
-    say(page, b".\n");
-}
-
-fn say_room(page: &mut Page, length: usize) {
-    say(page, b" the tree takes ");
-    say_number(page, length);
-    say(page, b" bytes, more than there is room for.\n");
-}
-
-fn say_told(page: &mut Page, number: u8, f: Refusal, source: &[u8]) {
-    match number {
-        Number::SETTING => say(page, b" the setting is above 15.\n"),
-        Number::LONG => say(
-            page,
-            b" the file is longer than 65,000 bytes, the most that is read.\n",
-        ),
-        Number::ROOM => say_room(page, f.length as usize),
-        Number::ESCAPE => say_bad_escape(page, f.start as usize, f.detail as usize, source),
-        _ => say_sentence(page, number, f, source),
+    // A refusal of a file under its name, as one line.
+    pub fn tell_in_a_line(self, page: &mut Page, file: File) {
+        page.say_characters(file.name);
+        page.say(b":");
+        match self.fault() {
+            Fault::Setting => page.say(b" the setting is above 15.\n"),
+            Fault::Long => {
+                page.say(b" the file is longer than 65,000 bytes, the most that is read.\n")
+            }
+            Fault::Room(length) => {
+                page.say(b" the tree takes ");
+                page.say_number(length);
+                page.say(b" bytes, more than there is room for.\n");
+            }
+            Fault::Escape(at) => self.say_bad_escape(page, at, file.text),
+            fault => self.say_sentence(page, fault, file.text),
+        }
     }
-}
 
-fn has_place(number: u8) -> bool {
-    match number {
-        Number::SETTING => false,
-        Number::LONG => false,
-        Number::ROOM => false,
-        _ => true,
+    // A refusal with the line of the source that it is about: a bad escape is marked at its backslash, and where the bytes are not UTF-8, it is the line
+    // up to there.
+    pub fn tell(self, page: &mut Page, file: File) {
+        self.tell_in_a_line(page, file);
+        let source = file.text;
+        let start = self.start as usize;
+        let end = self.end as usize;
+        match self.fault() {
+            Fault::Setting | Fault::Long | Fault::Room(_) => {}
+            Fault::Escape(at) => page.say_line(source, at, at.saturating_add(1)),
+            Fault::Encoding => page.say_line(source.get(..start).unwrap_or(&[]), start, start),
+            Fault::Lexeme(kind) if has_bad_line(kind) => {
+                page.say_line(source, start, end);
+                let at = line_at_fault(source, start);
+                file.say_place(page, at);
+                page.say(b"this line.\n");
+                page.say_line(source, at, at);
+            }
+            _ => page.say_line(source, start, end),
+        }
     }
-}
-
-// A refusal of a file under its name, as one line; whether it has a place.
-pub fn tell_in_a_line(page: &mut Page, name: &[u8], f: Refusal, source: &[u8]) -> bool {
-    say_characters(page, name);
-    say(page, b":");
-    let number = small(f.number);
-    say_told(page, number, f, source);
-    has_place(number)
-}
-
-// A file that is read, under its name, as one line.
-pub fn tell_read(page: &mut Page, name: &[u8]) {
-    say_characters(page, name);
-    say(page, b": ok\n");
-}
-
-// Of a bad text block also the line that is at fault.
-fn tell_lexeme(page: &mut Page, name: &[u8], f: Refusal, source: &[u8]) {
-    let start = f.start as usize;
-    say_line(page, source, start, f.end as usize);
-    if has_bad_line(small(f.detail)) {
-        tell_bad_line(page, name, start, source);
-    }
-}
-
-// A refusal with the line of the source that it is about; a bad escape is marked at its backslash.
-pub fn tell(page: &mut Page, name: &[u8], f: Refusal, source: &[u8]) {
-    if !tell_in_a_line(page, name, f, source) {
-        return;
-    }
-    let number = small(f.number);
-    if number == Number::ESCAPE {
-        let at = f.detail as usize;
-        say_line(page, source, at, one_more(at));
-        return;
-    }
-    if number == Number::LEXEME {
-        tell_lexeme(page, name, f, source);
-        return;
-    }
-    tell_place(page, number, f, source);
 }

@@ -1,167 +1,36 @@
 // What is written: words, numbers, and characters as a person reads them.
-ghost use Rattle.std.specs.Prelude.{◌≡◌, ◌<◌, ◌≤◌, length};
+ghost use Rattle.std.specs.Prelude.{◌<◌, ◌≤◌, length};
 
-use crate::page::{Page, say};
-use crate::unseen::{code_of, is_unseen, say_code_point};
+use crate::page::Page;
+use crate::short::Short;
+use crate::unseen::unseen_code;
 
 // How deep lines are indented; beyond that a line begins with its depth.
 const INDENTED: usize = 24;
 
-// The room for a text that is put together from its end on: two numbers of twenty digits and what stands between and before them.
-const ROOM: usize = 48;
+// The blanks before the deepest line that is indented.
+static BLANKS: [u8; 48] = [b' '; 48];
 
-// A word before what stands from a place of the text on, and where it begins.
-pub(crate) fn put_before(text: &mut [u8; 48], from: usize, word: &[u8]) -> usize
-    requires { (from ≤ 48) × (48 ≡ length text.old) }
-    ensures { (result ≤ 48) × (48 ≡ length text.new) }
+// Where a run of bytes ends that begins at a place: at the first for which `stops` holds, or at the text's end.
+pub fn run_end<F: Fn(u8) -> bool>(text: &[u8], from: usize, stops: F) -> usize
+    requires within { from ≤ length text.now }
+    requires callable { F.IsAlwaysCallable stops }
+    ensures { (from ≤ result) × (result ≤ length text.now) }
 {
-    if from < word.len() {
-        return from;
-    }
-    let start = from - word.len();
-    let mut i = 0;
-    while i < word.len() {
-        text[start + i] = word[i];
-        i += 1;
-    }
-    start
-}
-
-// The digits of a number before it.
-pub(crate) fn put_number(text: &mut [u8; 48], from: usize, n: usize) -> usize
-    requires { (from ≤ 48) × (48 ≡ length text.old) }
-    ensures { (result ≤ 48) × (48 ≡ length text.new) }
-{
-    let mut left = n;
-    let mut i = from;
-    while i > 0 {
-        i -= 1;
-        text[i] = b'0' + (left % 10) as u8;
-        if left < 10 {
-            return i;
-        }
-        left = left / 10;
-    }
-    i
-}
-
-// The digits of a number.
-pub fn say_number(page: &mut Page, n: usize) {
-    let mut text = [0u8; 48];
-    let from = put_number(&mut text, ROOM, n);
-    say(page, &text[from..]);
-}
-
-fn one_less(n: usize) -> usize {
-    if n == 0 {
-        return 0;
-    }
-    n - 1
-}
-
-// `, 1 thing` or `, 2 things`, of the word for several.
-pub fn say_count(page: &mut Page, n: usize, things: &[u8]) {
-    let mut text = [0u8; 48];
-    let from = put_number(&mut text, ROOM, n);
-    let start = put_before(&mut text, from, b", ");
-    say(page, &text[start..]);
-    if n == 1 {
-        say(page, front(things, one_less(things.len())));
-        return;
-    }
-    say(page, things);
-}
-
-// One of some words, counted from 0.
-pub fn say_word(page: &mut Page, words: &[u8], n: u8) {
-    say(page, lists::field(words, n as usize));
-}
-
-pub fn say_hex(page: &mut Page, n: u32, width: usize) {
-    let mut digits = [0u8; 16];
-    let k = io::hex(n as u64, width, &mut digits);
-    say(page, &digits[..k]);
-}
-
-// The same text again and again.
-pub fn say_times(page: &mut Page, text: &[u8], n: usize) {
-    let mut left = n;
-    while left > 0 {
-        say(page, text);
-        left -= 1;
+    match text[from..].iter().position(|b| stops(*b)) {
+        Some(n) => from + n,
+        None => text.len(),
     }
 }
 
 // The first bytes of a text, as many as it has.
 pub fn front(text: &[u8], n: usize) -> &[u8] {
-    if text.len() < n {
-        return text;
-    }
-    &text[..n]
-}
-
-// The start of a line that stands too deep to be indented whole.
-fn say_depth(page: &mut Page, depth: usize) {
-    say(page, b"                                                [");
-    say_number(page, depth);
-    say(page, b"] ");
-}
-
-// The start of a line that stands so deep.
-pub fn indent(page: &mut Page, depth: usize) {
-    if depth > INDENTED {
-        say_depth(page, depth);
-        return;
-    }
-    say(
-        page,
-        front(
-            b"                                                ",
-            depth * 2,
-        ),
-    );
-}
-
-// One more, short of wrapping.
-pub fn one_more(n: usize) -> usize {
-    if n == usize::MAX {
-        return n;
-    }
-    n + 1
+    text.get(..n).unwrap_or(text)
 }
 
 // Whether a byte stands inside a character and not at its start.
 pub fn is_inside(b: u8) -> bool {
     b / 64 == 2
-}
-
-// How many columns a text takes where it is shown character by character.
-pub fn columns(text: &[u8]) -> usize {
-    let mut n = 0;
-    let mut i = 0;
-    while i < text.len() {
-        let end = character_end(text, i);
-        n = n % 1_000_000 + column_count(&text[i..end]);
-        i = end;
-    }
-    n
-}
-
-// How many columns a character takes: one, or those of `<U+00a0>` and `<U+e0001>`.
-fn column_count(character: &[u8]) -> usize
-    ensures { result ≤ 9 }
-{
-    if character.len() < 2 {
-        return 1;
-    }
-    let code = code_of(character);
-    if !is_unseen(code) {
-        return 1;
-    }
-    if code > 0xFFFF {
-        return 9;
-    }
-    8
 }
 
 // How many bytes a character has, by its first.
@@ -181,70 +50,148 @@ pub fn character_end(text: &[u8], at: usize) -> usize
     requires { at < length text.now }
     ensures { (at < result) × (result ≤ length text.now) }
 {
-    let w = width(text[at]);
-    if text.len() - at < w {
+    let width = width(text[at]);
+    if text.len() - at < width {
         return text.len();
     }
-    at + w
+    at + width
 }
 
-// A character below 128 that cannot be seen: it is shown by the picture that Unicode has for it.
-fn say_control(page: &mut Page, b: u8) {
-    if b < 0x20 {
-        say(page, &[0xE2, 0x90, 0x80 + b]);
-        return;
+// How many columns a character takes: one, or those of `<U+00a0>` and `<U+e0001>`.
+fn column_count(character: &[u8]) -> usize {
+    match unseen_code(character) {
+        Some(code) if code > 0xFFFF => 9,
+        Some(_) => 8,
+        None => 1,
     }
-    say(page, &[0xE2, 0x90, 0xA1]);
 }
 
-// One character, shown so that none moves the cursor; its end is handed back.
-fn say_character(page: &mut Page, text: &[u8], at: usize) -> usize
-    requires { at < length text.now }
-    ensures { (at < result) × (result ≤ length text.now) }
-{
-    let b = text[at];
-    if b < 0x80 {
-        say_control(page, b);
-        return at + 1;
-    }
-    let end = character_end(text, at);
-    let character = &text[at..end];
-    let code = code_of(character);
-    if is_unseen(code) {
-        say_code_point(page, code);
-        return end;
-    }
-    say(page, character);
-    end
-}
-
-// Where a run of bytes ends that are seen as they are.
-fn seen_end(text: &[u8], from: usize) -> usize
-    requires { from ≤ length text.now }
-    ensures { (from ≤ result) × (result ≤ length text.now) }
-{
-    let mut i = from;
-    while i < text.len() {
-        if text[i] < 0x20 {
-            return i;
-        }
-        if text[i] > 0x7E {
-            return i;
-        }
-        i += 1;
-    }
-    i
-}
-
-// A text whole.
-pub fn say_characters(page: &mut Page, text: &[u8]) {
+// How many columns a text takes where it is shown character by character.
+pub fn columns(text: &[u8]) -> usize {
+    let mut n = 0usize;
     let mut i = 0;
     while i < text.len() {
-        let end = seen_end(text, i);
-        say(page, &text[i..end]);
+        let end = character_end(text, i);
+        n = n.saturating_add(column_count(&text[i..end]));
         i = end;
-        if i < text.len() {
-            i = say_character(page, text, i);
+    }
+    n
+}
+
+// A character that is not shown as it is.
+#[derive(Clone, Copy)]
+pub(crate) enum Odd {
+    Byte(u8), // one below 128
+    Unseen(u32), // the code point of another that cannot be seen
+}
+
+impl Odd {
+    fn of(character: &[u8]) -> Option<Self> {
+        match character {
+            [b @ 0..=0x7F] => Some(Odd::Byte(*b)),
+            _ => unseen_code(character).map(Odd::Unseen),
         }
+    }
+}
+
+impl Page {
+    // The digits of a number.
+    pub fn say_number(&mut self, n: usize) {
+        let mut text = Short::new();
+        text.put_number(n);
+        self.say(text.as_slice());
+    }
+
+    // `, 1 thing` or `, 2 things`, of the word for several.
+    pub fn say_count(&mut self, n: usize, things: &[u8]) {
+        let mut text = Short::new();
+        text.put_number(n);
+        text.put(b", ");
+        self.say(text.as_slice());
+        match things {
+            [thing @ .., _] if n == 1 => self.say(thing),
+            _ => self.say(things),
+        }
+    }
+
+    // One of some words, counted from 0.
+    pub fn say_word(&mut self, words: &[&str], n: u8) {
+        if let Some(word) = words.get(usize::from(n)) {
+            self.say(word.as_bytes());
+        }
+    }
+
+    pub fn say_hex(&mut self, n: u32, width: usize) {
+        let mut digits = [0u8; 16];
+        let k = io::hex(u64::from(n), width, &mut digits);
+        self.say(&digits[..k]);
+    }
+
+    // The same text again and again.
+    pub fn say_times(&mut self, text: &[u8], n: usize) {
+        for _ in 0..n {
+            self.say(text);
+        }
+    }
+
+    // The start of a line that stands too deep to be indented whole.
+    fn say_depth(&mut self, depth: usize) {
+        self.say(&BLANKS);
+        self.say(b"[");
+        self.say_number(depth);
+        self.say(b"] ");
+    }
+
+    // The start of a line that stands so deep.
+    pub fn indent(&mut self, depth: usize) {
+        if depth > INDENTED {
+            self.say_depth(depth);
+            return;
+        }
+        self.say(&BLANKS[..depth * 2]);
+    }
+
+    // A text whole: bytes for which `is_plain` holds and characters that can be seen as they are, of each other one what `say_odd` says.
+    pub(crate) fn say_each<F: Fn(u8) -> bool, G: Fn(&mut Page, Odd)>(
+        &mut self,
+        text: &[u8],
+        is_plain: F,
+        say_odd: G,
+    )
+        requires plain { F.IsAlwaysCallable is_plain }
+        requires odd { G.IsAlwaysCallable say_odd }
+    {
+        let mut i = 0;
+        while i < text.len() {
+            let from = run_end(text, i, |b| !is_plain(b));
+            self.say(&text[i..from]);
+            i = from;
+            if from < text.len() {
+                i = character_end(text, from);
+                let character = &text[from..i];
+                match Odd::of(character) {
+                    Some(odd) => say_odd(self, odd),
+                    None => self.say(character),
+                }
+            }
+        }
+    }
+
+    // A character that cannot be seen, so that it does not move the cursor: below 128 by the picture that Unicode has for it.
+    fn say_picture(&mut self, odd: Odd) {
+        match odd {
+            Odd::Byte(b) if b < 0x20 => self.say(&[0xE2, 0x90, 0x80 + b]),
+            Odd::Byte(_) => self.say(&[0xE2, 0x90, 0xA1]),
+            Odd::Unseen(code) => self.say_code_point(code),
+        }
+    }
+
+    // A text whole, as it is seen.
+    pub fn say_characters(&mut self, text: &[u8]) {
+        self.say_each(
+            text,
+            |b| matches!(b, 0x20..=0x7E),
+            |page, odd| page.say_picture(odd),
+        );
     }
 }

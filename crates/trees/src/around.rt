@@ -1,101 +1,84 @@
 // The records around a place of the source.
-use crate::lines::say_step;
-use crate::links::{first_of, payload_of, tag_of};
-use crate::tree::{is_step, say_whole};
+use crate::links::{Record, Tree};
 use grammar::tags::Tag;
-use show::page::{Page, say};
-use show::records::number;
-use show::say::{one_more, say_characters};
+use show::page::Page;
 
-// Where in its payload a record's span stands; beyond its end where it has none.
-fn span_at(tag: u8, p: &[u8]) -> usize {
-    match tag {
-        Tag::IDENTITY => 1,
-        Tag::VARIABLE => 0,
-        Tag::INFIX => 1,
-        Tag::IMPORT => 1,
-        Tag::ERROR => 0,
-        Tag::CALL => 0,
-        Tag::INDEX_PART => 0,
-        Tag::FUNCTION => 0,
-        Tag::IF => 0,
-        Tag::NAME_PATTERN => 0,
-        Tag::FIELD => 0,
-        Tag::ASSERT => 0,
-        Tag::IF_CLAUSE => 0,
-        _ => p.len(),
+// Where something stands in the source.
+#[derive(Clone, Copy)]
+struct Span {
+    start: usize,
+    end: usize,
+}
+
+// Whether the last record of which something holds, if there is one, is another or comes after it.
+fn comes_by(last: Option<usize>, first: usize) -> bool {
+    match last {
+        Some(r) => first <= r,
+        None => false,
     }
 }
 
-// Whether a record begins at a byte or before it.
-fn begins_by(image: &[u8], links: &[usize], r: usize, at: usize) -> bool {
-    let p = payload_of(image, links, r);
-    let span = span_at(tag_of(image, links, r), p);
-    span < p.len() && number(p, span) <= at
-}
-
-// Whether it ends behind it.
-fn ends_behind(image: &[u8], links: &[usize], r: usize, at: usize) -> bool {
-    let p = payload_of(image, links, r);
-    let span = span_at(tag_of(image, links, r), p);
-    span < p.len() && at < number(p, one_more(one_more(span)))
-}
-
-// One more than the last record of which something holds.
-fn later(last: usize, r: usize, holds: bool) -> usize {
-    if holds {
-        return one_more(r);
-    }
-    last
-}
-
-fn say_found(page: &mut Page, image: &[u8], places: &[usize], links: &[usize], r: usize) {
-    let tag = tag_of(image, links, r);
-    if tag != Tag::INFIX && is_step(image, links, r, tag) {
-        say(page, b"then ");
-        say_step(page, image, links, r, places);
-        return;
-    }
-    say_whole(page, image, places, links, r);
-}
-
-// Shows the records around a byte of the source, the innermost first: those that have, in the places that they and the records below them keep,
-// one that begins at it or before it and one that ends behind it. Whether there are any. A record comes after those below it, so the last records that
-// begin and end so tell whether they stand below.
-pub fn show(
-    page: &mut Page,
-    image: &[u8],
-    places: &[usize],
-    links: &[usize],
-    count: usize,
-    at: usize,
-) -> bool {
-    let mut begun = 0;
-    let mut ended = 0;
-    let mut found = false;
-    let mut r = 0;
-    while r < count {
-        let first = first_of(links, r);
-        begun = later(begun, r, begins_by(image, links, r, at));
-        ended = later(ended, r, ends_behind(image, links, r, at));
-        r += 1;
-        if begun <= first {
-            continue;
+impl<'a> Record<'a> {
+    // Where in its payload its span stands, if it has one.
+    fn span_at(&self) -> Option<usize> {
+        match self.tag {
+            Tag::IDENTITY | Tag::INFIX | Tag::IMPORT => Some(1),
+            Tag::VARIABLE | Tag::ERROR | Tag::CALL | Tag::INDEX_PART | Tag::FUNCTION => Some(0),
+            Tag::IF | Tag::NAME_PATTERN | Tag::FIELD | Tag::ASSERT | Tag::IF_CLAUSE => Some(0),
+            _ => None,
         }
-        if ended <= first {
-            continue;
-        }
-        say_found(page, image, places, links, r - 1);
-        say(page, b"\n");
-        found = true;
     }
-    found
+
+    fn span(&self) -> Option<Span> {
+        match self.span_at() {
+            Some(at) if at < self.payload.len() => Some(Span {
+                start: self.number(at),
+                end: self.number(at.saturating_add(2)),
+            }),
+            _ => None,
+        }
+    }
+
+    fn say_found(&self, page: &mut Page) {
+        if self.tag != Tag::INFIX && self.is_step() {
+            page.say(b"then ");
+            self.say_step(page);
+        } else {
+            self.say_whole(page);
+        }
+        page.say(b"\n");
+    }
+}
+
+impl<'a> Tree<'a> {
+    // Shows the records around a byte of the source, the innermost first: those that have, in the places that they and the records below them keep,
+    // one that begins at it or before it and one that ends behind it. Whether there are any. A record comes after those below it, so the last records that
+    // begin and end so tell whether they stand below.
+    pub fn show_around(&'a self, page: &mut Page, at: usize) -> bool {
+        let mut begun = None;
+        let mut ended = None;
+        let mut found = false;
+        for r in 0..self.count {
+            let record = self.record(r);
+            if let Some(span) = record.span() {
+                if span.start <= at {
+                    begun = Some(r);
+                }
+                if at < span.end {
+                    ended = Some(r);
+                }
+            }
+            let first = record.first();
+            if comes_by(begun, first) && comes_by(ended, first) {
+                record.say_found(page);
+                found = true;
+            }
+        }
+        found
+    }
 }
 
 pub fn tell_none(page: &mut Page, name: &[u8]) {
-    say_characters(page, name);
-    say(
-        page,
-        b": no record of the tree has a place around that one.\n",
-    );
+    page.say_characters(name);
+    page.say(b": no record of the tree has a place around that one.\n");
 }

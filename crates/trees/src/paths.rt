@@ -1,164 +1,116 @@
 // Paths: a variable, `self`, `super` or `$`, and names after it, as `std.map`. A path stands on the line of what it is called or indexed by.
-ghost use Rattle.std.specs.Prelude.{◌≤◌};
+ghost use Rattle.std.specs.Prelude.{◌≤◌, IfSome};
 
-use crate::links::{payload_of, tag_of};
+use crate::links::{Record, Tree};
 use grammar::tags::Tag;
-use show::page::{Page, say};
+use show::page::Page;
 use show::records::{byte, rest};
-use show::say::{one_more, say_times, say_word};
-use show::texts::say_name;
 
 // A path has fewer names than this after its first: what is longer has lines of its own, so that none is gone over again and again.
-pub const PARTS: usize = 8;
-
-fn is_letter(b: u8) -> bool {
-    if b >= b'a' {
-        return b <= b'z';
-    }
-    match b {
-        b'0'..=b'9' => true,
-        b'A'..=b'Z' => true,
-        b'_' => true,
-        _ => false,
-    }
-}
-
-// Whether a text may stand behind a point.
-pub fn is_name(text: &[u8]) -> bool {
-    let mut i = 0;
-    while i < text.len() {
-        if !is_letter(text[i]) {
-            return false;
-        }
-        i += 1;
-    }
-    text.len() > 0
-}
+const PARTS: usize = 8;
 
 // So short a name is shown whole.
 const SHORT: usize = 40;
 
+// The bases of a path that are no variables.
+pub const IDENTITIES: [&str; 3] = ["self", "super", "$"];
+
+// Kept by hand: small letters, which most are, are told first; one `matches!` of all takes 19 instructions a small letter where this takes 8.
+fn is_letter(b: u8) -> bool {
+    if b >= b'a' {
+        return b <= b'z';
+    }
+    matches!(b, b'A'..=b'Z' | b'0'..=b'9' | b'_')
+}
+
+// Whether a text may stand behind a point.
+pub fn is_name(text: &[u8]) -> bool {
+    !text.is_empty() && text.iter().all(|b| is_letter(*b))
+}
+
 // A name. One of letters has nothing that cannot be seen, so it goes out as it is.
 pub fn say_letters(page: &mut Page, name: &[u8]) {
     if name.len() <= SHORT && is_name(name) {
-        say(page, name);
+        page.say(name);
         return;
     }
-    say_name(page, name);
+    page.say_name(name);
 }
 
-// Whether a record is the index by a name.
-pub fn is_named_part(image: &[u8], links: &[usize], r: usize) -> bool {
-    if r < 2 {
-        return false;
+impl<'a> Tree<'a> {
+    // Whether a record is the index by a name.
+    pub fn is_named_part(&self, r: usize) -> bool {
+        r >= 2
+            && self.tag(r) == Tag::INDEX_PART
+            && self.tag(r - 1) == Tag::STRING
+            && is_name(self.payload(r - 1))
     }
-    if tag_of(image, links, r) != Tag::INDEX_PART {
-        return false;
+
+    // How many names stand after the first in the path that ends with a record, if it is one. A part's name stands before it, and before that what it is
+    // a part of.
+    fn parts(&self, r: usize) -> Option<usize>
+        ensures { IfSome result (λ n. n ≤ 8) }
+    {
+        let mut c = r;
+        for n in 0..PARTS {
+            if matches!(self.tag(c), Tag::VARIABLE | Tag::IDENTITY) {
+                return Some(n);
+            }
+            if c < 2 || !self.is_named_part(c) {
+                return None;
+            }
+            c -= 2;
+        }
+        None
     }
-    if tag_of(image, links, r - 1) != Tag::STRING {
-        return false;
+
+    pub fn is_path(&self, r: usize) -> bool {
+        self.parts(r).is_some()
     }
-    is_name(payload_of(image, links, r - 1))
-}
 
-// How many names stand after the first in the path that ends with a record; PARTS where it is none. A part's name stands before it, and before
-// that what it is a part of.
-pub fn parts(image: &[u8], links: &[usize], r: usize) -> usize
-    ensures { result ≤ 8 }
-{
-    let mut c = r;
-    let mut n = 0;
-    while n < PARTS {
-        let tag = tag_of(image, links, c);
-        if tag == Tag::VARIABLE {
-            return n;
-        }
-        if tag == Tag::IDENTITY {
-            return n;
-        }
-        if !is_named_part(image, links, c) {
-            return PARTS;
-        }
-        if c < 2 {
-            return PARTS;
-        }
-        c -= 2;
-        n += 1;
+    // Whether a part begins a run, so that what stands before it had parentheses.
+    pub fn begins_run(&self, r: usize) -> bool {
+        byte(self.payload(r), 4) != 0
     }
-    n
-}
 
-pub fn is_path(image: &[u8], links: &[usize], r: usize) -> bool {
-    parts(image, links, r) < PARTS
-}
+    // How many parts of the path between two records begin a run, but for the first.
+    fn runs(&self, head: usize, r: usize) -> usize {
+        let later = (head..=r).step_by(2).skip(2);
+        later.filter(|part| self.begins_run(*part)).count()
+    }
 
-// The record of a path's next part, behind its name.
-fn two_more(r: usize) -> usize {
-    one_more(one_more(r))
-}
+    fn say_head(&self, page: &mut Page, head: usize) {
+        let p = self.payload(head);
+        if self.tag(head) == Tag::IDENTITY {
+            page.say_word(&IDENTITIES, byte(p, 0));
+            return;
+        }
+        say_letters(page, rest(p, 4));
+    }
 
-// Whether a part begins a run, so that what stands before it had parentheses.
-pub fn begins_run(image: &[u8], links: &[usize], r: usize) -> bool {
-    byte(payload_of(image, links, r), 4) != 0
-}
-
-// How many of a path's parts after the first begin a run.
-fn runs(image: &[u8], links: &[usize], head: usize, n: usize) -> usize {
-    let mut count = 0;
-    let mut part = two_more(head);
-    let mut i = 1;
-    while i < n {
-        i += 1;
-        part = two_more(part);
-        if begins_run(image, links, part) {
-            count = one_more(count);
+    // `.name` or `?.name`, by the part's record.
+    pub fn say_part_name(&self, page: &mut Page, r: usize) {
+        page.say_if(byte(self.payload(r), 5) != 0, b"?");
+        page.say(b".");
+        if r > 0 {
+            say_letters(page, self.payload(r - 1));
         }
     }
-    count
-}
 
-fn say_where(page: &mut Page, holds: bool, mark: &[u8]) {
-    if holds {
-        say(page, mark);
-    }
-}
-
-fn say_head(page: &mut Page, image: &[u8], links: &[usize], head: usize) {
-    let p = payload_of(image, links, head);
-    if tag_of(image, links, head) == Tag::IDENTITY {
-        say_word(page, b"self super $", byte(p, 0));
-        return;
-    }
-    say_letters(page, rest(p, 4));
-}
-
-// `.name` or `?.name`, by the part's record.
-pub fn say_part_name(page: &mut Page, image: &[u8], links: &[usize], r: usize) {
-    say_where(page, byte(payload_of(image, links, r), 5) != 0, b"?");
-    say(page, b".");
-    if r > 0 {
-        say_letters(page, payload_of(image, links, r - 1));
-    }
-}
-
-// The path that ends with a record.
-pub fn say_path(page: &mut Page, image: &[u8], links: &[usize], r: usize) {
-    let n = parts(image, links, r);
-    if n == PARTS {
-        return;
-    }
-    if r < n * 2 {
-        return;
-    }
-    let head = r - n * 2;
-    say_times(page, b"(", runs(image, links, head, n));
-    say_head(page, image, links, head);
-    let mut part = head;
-    let mut i = 0;
-    while i < n {
-        part = two_more(part);
-        say_where(page, i > 0 && begins_run(image, links, part), b")");
-        say_part_name(page, image, links, part);
-        i += 1;
+    // The path that ends with a record.
+    pub fn say_path(&self, page: &mut Page, r: usize) {
+        let Some(parts) = self.parts(r) else {
+            return;
+        };
+        if r < parts * 2 {
+            return;
+        }
+        let head = r - parts * 2;
+        page.say_times(b"(", self.runs(head, r));
+        self.say_head(page, head);
+        for (i, part) in (head..=r).step_by(2).skip(1).enumerate() {
+            page.say_if(i > 0 && self.begins_run(part), b")");
+            self.say_part_name(page, part);
+        }
     }
 }

@@ -1,11 +1,8 @@
 // Arrays of small values, which stand several to a line.
-use crate::lines::say_leaf;
-use crate::links::{below, first_of, payload_of, tag_of};
+use crate::links::Record;
 use grammar::tags::Tag;
-use show::page::{Page, say};
-use show::records::number;
-use show::say::indent;
-use show::texts::{has_lines, say_name, say_quoted};
+use show::page::Page;
+use show::texts::has_lines;
 
 // The most bytes that a small value has.
 const SMALL: usize = 32;
@@ -13,107 +10,78 @@ const SMALL: usize = 32;
 // How many bytes a line of them has, or a value more.
 const LINE: usize = 64;
 
-// Whether a record is such a value.
-fn is_small(tag: u8, p: &[u8]) -> bool {
-    if p.len() > SMALL {
-        return false;
-    }
-    match tag {
-        Tag::NULL => true,
-        Tag::BOOL => true,
-        Tag::NUMBER => true,
-        Tag::STRING => !has_lines(p),
-        _ => false,
-    }
-}
-
-// Whether all elements of an array are: it then has as many records below it as elements.
-pub fn is_row(image: &[u8], links: &[usize], r: usize) -> bool {
-    let count = number(payload_of(image, links, r), 0);
-    if count == 0 {
-        return false;
-    }
-    if below(links, r) != count {
-        return false;
-    }
-    let mut i = first_of(links, r);
-    while i < r {
-        if !is_small(tag_of(image, links, i), payload_of(image, links, i)) {
-            return false;
-        }
-        i += 1;
-    }
-    true
-}
-
-// A value without a word before it, where its form tells what it is.
-fn say_small(page: &mut Page, image: &[u8], places: &[usize], links: &[usize], r: usize) {
-    let tag = tag_of(image, links, r);
-    let p = payload_of(image, links, r);
-    match tag {
-        Tag::NUMBER => say_name(page, p),
-        Tag::STRING => say_quoted(page, p),
-        _ => say_leaf(page, tag, p, false, places),
-    }
-}
+// Few elements stand on the array's own line.
+const FEW: usize = 6;
 
 // What stands behind a value: nothing behind the last, a new line where the line is full.
 fn say_gap(page: &mut Page, is_last: bool, is_full: bool, depth: usize) {
     if is_last {
-        say(page, b"\n");
+        page.say(b"\n");
         return;
     }
     if is_full {
-        say(page, b",\n");
-        indent(page, depth);
+        page.say(b",\n");
+        page.indent(depth);
         return;
     }
-    say(page, b", ");
+    page.say(b", ");
 }
-
-// How much of the line is filled behind a value.
-fn filled(used: usize, is_full: bool, size: usize) -> usize {
-    if is_full {
-        return 0;
-    }
-    if size > SMALL {
-        return used;
-    }
-    if used > LINE {
-        return used;
-    }
-    used + size + 4
-}
-
-// Few elements stand on the array's own line.
-const FEW: usize = 6;
 
 fn say_start(page: &mut Page, count: usize, depth: usize) {
     if count <= FEW {
-        say(page, b": ");
+        page.say(b": ");
         return;
     }
-    say(page, b"\n");
-    indent(page, depth);
+    page.say(b"\n");
+    page.indent(depth);
 }
 
-// The elements, so many to a line.
-pub fn show_row(
-    page: &mut Page,
-    image: &[u8],
-    places: &[usize],
-    links: &[usize],
-    r: usize,
-    depth: usize,
-) {
-    say_start(page, below(links, r), depth);
-    let mut used = 0;
-    let mut i = first_of(links, r);
-    while i < r {
-        say_small(page, image, places, links, i);
-        i += 1;
-        used = filled(used, false, payload_of(image, links, i - 1).len());
-        say_gap(page, i == r, used > LINE, depth);
-        used = filled(used, used > LINE, 0);
+impl<'a> Record<'a> {
+    // Whether it is such a value.
+    fn is_small(&self) -> bool {
+        self.payload.len() <= SMALL
+            && match self.tag {
+                Tag::NULL | Tag::BOOL | Tag::NUMBER => true,
+                Tag::STRING => !has_lines(self.payload),
+                _ => false,
+            }
+    }
+
+    // How many records stand below it.
+    fn below(&self) -> usize {
+        self.index.saturating_sub(self.first())
+    }
+
+    // Whether all elements of an array are such values: it then has as many records below it as elements.
+    pub fn is_row(&self) -> bool {
+        let tree = self.tree;
+        let count = self.number(0);
+        count > 0
+            && self.below() == count
+            && (self.first()..self.index).all(|r| tree.record(r).is_small())
+    }
+
+    // A value without a word before it, where its form tells what it is.
+    fn say_small(&self, page: &mut Page) {
+        match self.tag {
+            Tag::NUMBER => page.say_name(self.payload),
+            Tag::STRING => page.say_quoted(self.payload),
+            _ => self.say_leaf(page, false),
+        }
+    }
+
+    // The elements, so many to a line.
+    pub fn show_row(&self, page: &mut Page, depth: usize) {
+        let tree = self.tree;
+        say_start(page, self.below(), depth);
+        let mut used = 0usize;
+        for r in self.first()..self.index {
+            let value = tree.record(r);
+            value.say_small(page);
+            used = used.saturating_add(value.payload.len().saturating_add(4));
+            let is_full = used > LINE;
+            say_gap(page, r + 1 == self.index, is_full, depth);
+            used = if is_full { 0 } else { used + 4 };
+        }
     }
 }

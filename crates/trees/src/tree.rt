@@ -1,54 +1,99 @@
 // The image's records stand children first; a person reads a tree from its root. So the records are shown from the last on, by a stack of those
 // that wait. What a chain is made of is not indented further and far: the body of a `local` begins with `in`, and another operator, index or call
 // that is applied to what stands above it with `then`.
-use crate::lines::{is_several, say_leaf, say_record, say_step};
-use crate::links::{first_child, first_of, payload_of, tag_of};
-use crate::paths::{is_named_part, is_path};
-use crate::rows::{is_row, show_row};
+use crate::links::{Record, Tree};
 use grammar::tags::Tag;
-use show::page::{FILE, Page, paint, plain, say, say_byte};
+use show::page::{Colour, Page};
 use show::records::byte;
-use show::say::{indent, one_more, say_characters};
-use show::texts::{has_lines, show_lines};
+use show::texts::has_lines;
 
 // How a record's line begins.
-const PLAIN: u8 = 0;
+#[derive(Clone, Copy, PartialEq, Eq)]
+enum Beginning {
+    Plain,
+    In, // the body of what stands above it
+    Else, // what stands above it has it as its else
+    Then, // what it is applied to has been shown, and stands above it
+}
 
-const IN: u8 = 1; // the body of what stands above it
+impl Beginning {
+    // The word for it.
+    fn word(self) -> &'static [u8] {
+        match self {
+            Beginning::Plain => b"",
+            Beginning::In => b"in ",
+            Beginning::Else => b"else ",
+            Beginning::Then => b"then ",
+        }
+    }
+}
 
-const ELSE: u8 = 2; // what stands above it has it as its else
-
-const THEN: u8 = 3; // what it is applied to has been shown, and stands above it
-
-// An entry of the stack holds a record, how deep its line stands, and how it begins: they are packed into one number.
-const BEGINNINGS: usize = 4;
-
+// So many depths and records are told apart.
 const DEPTHS: usize = 65_536;
 
 const RECORDS: usize = 16_777_216;
 
-fn packed(r: usize, depth: usize, how: u8) -> usize {
-    r % RECORDS * DEPTHS * BEGINNINGS + depth % DEPTHS * BEGINNINGS + (how % 4) as usize
+// A record that waits, how deep its line stands, and how it begins.
+#[derive(Clone, Copy)]
+pub struct Entry {
+    record: u32,
+    depth: u16,
+    how: Beginning,
 }
 
-fn record_of(entry: usize) -> usize {
-    entry / BEGINNINGS / DEPTHS
-}
+impl Entry {
+    // What the place of an entry holds that is not used.
+    pub const NONE: Entry = Entry {
+        record: 0,
+        depth: 0,
+        how: Beginning::Plain,
+    };
 
-fn depth_of(entry: usize) -> usize {
-    entry / BEGINNINGS % DEPTHS
-}
-
-fn how_of(entry: usize) -> u8 {
-    (entry % BEGINNINGS) as u8
-}
-
-fn pushed(stack: &mut [usize], top: usize, entry: usize) -> usize {
-    if stack.len() <= top {
-        return top;
+    fn new(record: usize, depth: usize, how: Beginning) -> Self {
+        Self {
+            record: (record % RECORDS) as u32,
+            depth: (depth % DEPTHS) as u16,
+            how,
+        }
     }
-    stack[top] = entry;
-    top + 1
+
+    fn depth(self) -> usize {
+        usize::from(self.depth)
+    }
+}
+
+// The entries that wait, the next last, in room that is lent.
+#[derive(Drop)]
+struct Stack<'a> {
+    entries: &'a mut [Entry],
+    used: usize,
+}
+
+impl<'a> Stack<'a> {
+    // An entry on top, if there is room.
+    fn push(&mut self, entry: Entry) {
+        let top = self.used;
+        if top < self.entries.len() {
+            self.entries[top] = entry;
+            self.used = top + 1;
+        }
+    }
+
+    // The top, which is taken off.
+    fn pop(&mut self) -> Option<Entry> {
+        let top = self.used.checked_sub(1)?;
+        self.used = top;
+        self.entries.get(top).copied()
+    }
+
+    // The top, if more wait than before.
+    fn above(&self, before: usize) -> Option<Entry> {
+        let top = self.used;
+        if top <= before {
+            return None;
+        }
+        self.entries.get(top - 1).copied()
+    }
 }
 
 // The powers of infix operators by their bytes in the image, as infix_binding_power has them.
@@ -67,419 +112,258 @@ fn power(operator: u8) -> u8 {
     }
 }
 
-// Whether two records are infix operators of one power.
-fn is_chain(image: &[u8], links: &[usize], r: usize, left: usize) -> bool {
-    if tag_of(image, links, left) != Tag::INFIX {
-        return false;
-    }
-    power(byte(payload_of(image, links, r), 0)) == power(byte(payload_of(image, links, left), 0))
-}
-
-// Whether a record is shown below its first child, as what is done to that.
-pub fn is_step(image: &[u8], links: &[usize], r: usize, tag: u8) -> bool {
-    match tag {
-        Tag::INFIX => is_chain(image, links, r, first_child(links, r)),
-        Tag::INDEX_PART => {
-            if is_named_part(image, links, r) {
-                return !is_path(image, links, r);
-            }
-            !is_path(image, links, first_child(links, r))
-        }
-        Tag::CALL => !is_path(image, links, first_child(links, r)),
-        Tag::SLICE => !is_path(image, links, first_child(links, r)),
-        Tag::EXTENSION => !is_path(image, links, first_child(links, r)),
-        _ => false,
-    }
-}
-
 // Which children stand on a record's line or above it, and how the line of the last begins.
-#[derive(Drop)]
+#[derive(Clone, Copy)]
 struct Shape {
     first: bool,
     last: bool,
-    how: u8,
+    how: Beginning,
 }
 
-// Whether the first child stands on the line or above it.
-fn has_first(image: &[u8], links: &[usize], r: usize, tag: u8, p: &[u8], how: u8) -> bool {
-    if how == THEN {
-        return true;
+impl<'a> Record<'a> {
+    // Whether it and the record of its left operand are infix operators of one power.
+    fn is_chain(&self) -> bool {
+        let tree = self.tree;
+        let left = tree.first_child(self.index);
+        tree.tag(left) == Tag::INFIX && power(self.byte(0)) == power(byte(tree.payload(left), 0))
     }
-    match tag {
-        Tag::FIELD => byte(p, 4) == 0,
-        Tag::CALL => true,
-        Tag::INDEX_PART => true,
-        Tag::SLICE => true,
-        Tag::EXTENSION => true,
-        Tag::BIND => is_name_pattern(image, links, first_child(links, r)),
-        Tag::PARAMETER => is_name_pattern(image, links, first_child(links, r)),
-        Tag::FOR => is_name_pattern(image, links, first_child(links, r)),
-        _ => false,
-    }
-}
 
-fn is_name_pattern(image: &[u8], links: &[usize], r: usize) -> bool {
-    tag_of(image, links, r) == Tag::NAME_PATTERN
-}
-
-// Whether the last child of such a record is a value that may stand on its line.
-fn takes_value(tag: u8, p: &[u8]) -> bool {
-    match tag {
-        Tag::FIELD => byte(p, 6) == 0,
-        Tag::BIND => byte(p, 0) == 0,
-        Tag::PARAMETER => byte(p, 0) != 0,
-        Tag::NAMED_ARGUMENT => true,
-        Tag::PREFIX => true,
-        Tag::IMPORT => true,
-        Tag::ERROR => true,
-        _ => false,
-    }
-}
-
-// Whether a value is small: one without children, and without lines of its own.
-fn is_small(image: &[u8], links: &[usize], r: usize) -> bool {
-    match tag_of(image, links, r) {
-        Tag::STRING => !has_lines(payload_of(image, links, r)),
-        Tag::IDENTITY..=Tag::VARIABLE => true,
-        _ => false,
-    }
-}
-
-// Whether the last child stands on the line: a part's name, or the record's value.
-fn has_last(image: &[u8], links: &[usize], r: usize, tag: u8, p: &[u8]) -> bool {
-    if r == 0 {
-        return false;
-    }
-    if tag == Tag::INDEX_PART {
-        return is_named_part(image, links, r);
-    }
-    if !takes_value(tag, p) {
-        return false;
-    }
-    is_small(image, links, r - 1)
-}
-
-fn last_how(tag: u8, p: &[u8]) -> u8 {
-    match tag {
-        Tag::LOCAL => IN,
-        Tag::ASSERT_EXPR => IN,
-        Tag::IF => {
-            if byte(p, 4) != 0 {
-                return ELSE;
+    // Whether it is shown below its first child, as what is done to that.
+    pub fn is_step(&self) -> bool {
+        let tree = self.tree;
+        match self.tag {
+            Tag::INFIX => self.is_chain(),
+            Tag::INDEX_PART if tree.is_named_part(self.index) => !tree.is_path(self.index),
+            Tag::INDEX_PART | Tag::CALL | Tag::SLICE | Tag::EXTENSION => {
+                !tree.is_path(tree.first_child(self.index))
             }
-            PLAIN
+            _ => false,
         }
-        _ => PLAIN,
     }
-}
 
-fn shape_of(image: &[u8], links: &[usize], r: usize, tag: u8, p: &[u8], how: u8) -> Shape {
-    Shape {
-        first: has_first(image, links, r, tag, p, how),
-        last: has_last(image, links, r, tag, p),
-        how: last_how(tag, p),
+    // Whether the first child stands on the line or above it.
+    fn has_first(&self, how: Beginning) -> bool {
+        let tree = self.tree;
+        how == Beginning::Then
+            || match self.tag {
+                Tag::FIELD => !self.flag(4),
+                Tag::CALL | Tag::INDEX_PART | Tag::SLICE | Tag::EXTENSION => true,
+                Tag::BIND | Tag::PARAMETER | Tag::FOR => {
+                    tree.tag(tree.first_child(self.index)) == Tag::NAME_PATTERN
+                }
+                _ => false,
+            }
     }
-}
 
-// A child on top of the stack, if it does not stand on the line: below its parent's line, or at the same depth where its line begins with a word.
-fn push_child(
-    stack: &mut [usize],
-    top: usize,
-    r: usize,
-    depth: usize,
-    how: u8,
-    skipped: bool,
-) -> usize {
-    if skipped {
-        return top;
-    }
-    if how != PLAIN {
-        return pushed(stack, top, packed(r, depth, how));
-    }
-    pushed(stack, top, packed(r, one_more(depth), PLAIN))
-}
-
-// Whether a child is the first, and stands on the line or above it.
-fn is_last_pushed(next: usize, first: usize, on_line: bool) -> bool {
-    next <= first && on_line
-}
-
-// A record's children that do not stand on its line on top of the stack, the last below, and the stack's new height.
-fn push_children(
-    links: &[usize],
-    of: usize,
-    shape: Shape,
-    stack: &mut [usize],
-    top: usize,
-    depth: usize,
-) -> usize {
-    let first = first_of(links, of);
-    let mut how = shape.how;
-    let mut skipped = shape.last;
-    let mut c = of;
-    let mut n = top;
-    while first < c {
-        let child = c - 1;
-        let next = first_of(links, child);
-        if c <= next {
-            return n;
+    // Whether the last child of such a record is a value that may stand on its line.
+    fn takes_value(&self) -> bool {
+        match self.tag {
+            Tag::FIELD => !self.flag(6),
+            Tag::BIND => !self.flag(0),
+            Tag::PARAMETER => self.flag(0),
+            Tag::NAMED_ARGUMENT | Tag::PREFIX | Tag::IMPORT | Tag::ERROR => true,
+            _ => false,
         }
-        if is_last_pushed(next, first, shape.first) {
-            return n;
+    }
+
+    // Whether the last child stands on the line: a part's name, or the record's value.
+    fn has_last(&self) -> bool {
+        let tree = self.tree;
+        if self.tag == Tag::INDEX_PART {
+            return tree.is_named_part(self.index);
         }
-        n = push_child(stack, n, child, depth, how, skipped);
-        skipped = false;
-        how = PLAIN;
-        c = next;
+        self.index > 0 && self.takes_value() && tree.is_small_value(self.index - 1)
     }
-    n
-}
 
-// The word that a line begins with.
-fn say_joint(page: &mut Page, how: u8) {
-    if how == IN {
-        say(page, b"in ");
-        return;
+    // How the line of the last child begins.
+    fn last_how(&self) -> Beginning {
+        match self.tag {
+            Tag::LOCAL | Tag::ASSERT_EXPR => Beginning::In,
+            Tag::IF if self.flag(4) => Beginning::Else,
+            _ => Beginning::Plain,
+        }
     }
-    say(page, b"else ");
-}
 
-// The same where there is one.
-fn say_beginning(page: &mut Page, how: u8) {
-    if how != PLAIN {
-        say_joint(page, how);
+    fn shape(&self, how: Beginning) -> Shape {
+        Shape {
+            first: self.has_first(how),
+            last: self.has_last(),
+            how: self.last_how(),
+        }
     }
-}
 
-// The value that stands on a record's line.
-fn say_value(page: &mut Page, image: &[u8], places: &[usize], links: &[usize], r: usize) {
-    say(page, b": ");
-    say_leaf(
-        page,
-        tag_of(image, links, r),
-        payload_of(image, links, r),
-        false,
-        places,
-    );
-}
+    // A record with the value that stands on its line, if its last child does.
+    fn say_with_value(&self, page: &mut Page, has_last: bool) {
+        let tree = self.tree;
+        self.say(page);
+        if has_last && self.index > 0 && self.tag != Tag::INDEX_PART {
+            page.say(b": ");
+            tree.record(self.index - 1).say_leaf(page, false);
+        }
+    }
 
-// A record with the value that stands on its line; whether it has a last child that does.
-fn say_with_value(
-    page: &mut Page,
-    image: &[u8],
-    places: &[usize],
-    links: &[usize],
-    r: usize,
-    tag: u8,
-    p: &[u8],
-    has_last: bool,
-) {
-    say_record(page, image, links, r, tag, p, places);
-    if !has_last {
-        return;
+    // The same of a record by itself.
+    pub fn say_whole(&self, page: &mut Page) {
+        self.say_with_value(page, self.has_last());
     }
-    if r == 0 {
-        return;
-    }
-    if tag != Tag::INDEX_PART {
-        say_value(page, image, places, links, r - 1);
+
+    // Its line without the end: what it does to what stands above it, or the record.
+    fn say_line(&self, page: &mut Page, how: Beginning, has_last: bool) {
+        page.say(how.word());
+        if how == Beginning::Then {
+            self.say_step(page);
+        } else {
+            self.say_with_value(page, has_last);
+        }
     }
 }
 
-// The same of a record by itself.
-pub fn say_whole(page: &mut Page, image: &[u8], places: &[usize], links: &[usize], r: usize) {
-    let tag = tag_of(image, links, r);
-    let p = payload_of(image, links, r);
-    let last = has_last(image, links, r, tag, p);
-    say_with_value(page, image, places, links, r, tag, p, last);
-}
-
-// A record's line without its end: what it does to what stands above it, or the record.
-fn say_line(
-    page: &mut Page,
-    image: &[u8],
-    places: &[usize],
-    links: &[usize],
-    r: usize,
-    tag: u8,
-    p: &[u8],
-    how: u8,
-    has_last: bool,
-) {
-    if how == THEN {
-        say(page, b"then ");
-        say_step(page, image, links, r, places);
-        return;
-    }
-    say_beginning(page, how);
-    say_with_value(page, image, places, links, r, tag, p, has_last);
-}
-
-// The lines of a text behind its record's line, or dots where they stand too deep.
-fn show_text(page: &mut Page, p: &[u8], depth: usize, most: usize) {
-    if most < depth {
-        say(page, b" ...\n");
-        return;
-    }
-    say_byte(page, b'\n');
-    show_lines(page, p, depth);
-}
-
-// A record without children: its line, and behind it a text's own lines.
-fn show_leaf(
-    page: &mut Page,
-    places: &[usize],
-    tag: u8,
-    p: &[u8],
-    depth: usize,
-    how: u8,
+// What is shown of a tree: lines no deeper than `most`.
+#[derive(Clone, Copy)]
+struct View<'a> {
+    tree: &'a Tree<'a>,
     most: usize,
-) {
-    let several = is_several(tag, p);
-    indent(page, depth);
-    say_beginning(page, how);
-    say_leaf(page, tag, p, several, places);
-    if several {
-        show_text(page, p, one_more(depth), most);
-        return;
-    }
-    say_byte(page, b'\n');
 }
 
-// The elements of an array of small values behind its line, several to a line, or dots where they stand too deep.
-fn show_elements(
-    page: &mut Page,
-    image: &[u8],
-    places: &[usize],
-    links: &[usize],
-    r: usize,
-    depth: usize,
-    most: usize,
-) {
-    if most < depth {
-        say(page, b" ...\n");
-        return;
+impl<'a> View<'a> {
+    // A record's children that do not stand on its line on top of the stack, the last below: they stand below their parent's line, or at the same depth
+    // where their lines begin with a word.
+    fn push_children(self, stack: &mut Stack, of: usize, shape: Shape, depth: usize) {
+        let tree = self.tree;
+        let first = tree.first(of);
+        let mut how = shape.how;
+        let mut is_skipped = shape.last;
+        let mut c = of;
+        while first < c {
+            let child = c - 1;
+            let next = tree.first(child);
+            if c <= next || (next <= first && shape.first) {
+                return;
+            }
+            if !is_skipped {
+                let below = if how == Beginning::Plain {
+                    depth.saturating_add(1)
+                } else {
+                    depth
+                };
+                stack.push(Entry::new(child, below, how));
+            }
+            is_skipped = false;
+            how = Beginning::Plain;
+            c = next;
+        }
     }
-    show_row(page, image, places, links, r, depth);
-}
 
-// Whether the first of the children that were pushed is too deep to be shown.
-fn is_too_deep(stack: &[usize], before: usize, top: usize, most: usize) -> bool {
-    if top <= before {
-        return false;
+    // What ends a record's line: dots where something below it stands too deep.
+    fn say_line_end(self, page: &mut Page, depth: usize) {
+        page.say_if(depth > self.most, b" ...");
+        page.say(b"\n");
     }
-    if stack.len() < top {
-        return false;
-    }
-    depth_of(stack[top - 1]) > most
-}
 
-fn say_line_end(page: &mut Page, dots: bool) {
-    if dots {
-        say(page, b" ...\n");
-        return;
+    // A record without children: its line, and behind it a text's own lines, or dots where they stand too deep.
+    fn show_leaf(self, page: &mut Page, record: Record, depth: usize, how: Beginning) {
+        let is_several = record.is_several();
+        let below = if is_several {
+            depth.saturating_add(1)
+        } else {
+            0
+        };
+        page.indent(depth);
+        page.say(how.word());
+        record.say_leaf(page, is_several);
+        self.say_line_end(page, below);
+        if is_several && below <= self.most {
+            page.show_lines(record.payload, below);
+        }
     }
-    say_byte(page, b'\n');
-}
 
-// A record's line and what belongs to it, and its children on the stack.
-fn show_record(
-    page: &mut Page,
-    image: &[u8],
-    places: &[usize],
-    links: &[usize],
-    stack: &mut [usize],
-    top: usize,
-    entry: usize,
-    tag: u8,
-    most: usize,
-) -> usize {
-    let r = record_of(entry);
-    let depth = depth_of(entry);
-    let how = how_of(entry);
-    let p = payload_of(image, links, r);
-    let shape = shape_of(image, links, r, tag, p, how);
-    indent(page, depth);
-    say_line(page, image, places, links, r, tag, p, how, shape.last);
-    if tag == Tag::ARRAY && is_row(image, links, r) {
-        show_elements(page, image, places, links, r, one_more(depth), most);
-        return top;
-    }
-    let n = push_children(links, r, shape, stack, top, depth);
-    say_line_end(page, is_too_deep(stack, top, n, most));
-    n
-}
-
-// The next of the stack: a record is shown, or first what it is applied to; or it is too deep.
-fn show_next(
-    page: &mut Page,
-    image: &[u8],
-    places: &[usize],
-    links: &[usize],
-    stack: &mut [usize],
-    top: usize,
-    entry: usize,
-    most: usize,
-) -> usize {
-    if depth_of(entry) > most {
-        return top;
-    }
-    let r = record_of(entry);
-    let how = how_of(entry);
-    let tag = tag_of(image, links, r);
-    if tag <= Tag::VARIABLE {
-        let p = payload_of(image, links, r);
-        show_leaf(page, places, tag, p, depth_of(entry), how, most);
-        return top;
-    }
-    if how == THEN {
-        return show_record(page, image, places, links, stack, top, entry, tag, most);
-    }
-    if !is_step(image, links, r, tag) {
-        return show_record(page, image, places, links, stack, top, entry, tag, most);
-    }
-    let n = pushed(stack, top, packed(r, depth_of(entry), THEN));
-    pushed(
-        stack,
-        n,
-        packed(first_child(links, r), depth_of(entry), how),
-    )
-}
-
-// The tree of an image that was read back: so many records, each with its links. The root is the last. Lines deeper than `most` are left out.
-pub fn show(
-    page: &mut Page,
-    image: &[u8],
-    places: &[usize],
-    links: &[usize],
-    stack: &mut [usize],
-    count: usize,
-    most: usize,
-) {
-    if count == 0 {
-        return;
-    }
-    let mut top = pushed(stack, 0, packed(count - 1, 0, PLAIN));
-    // each record stands on the stack twice at most
-    let mut left = count % RECORDS * 2;
-    while left > 0 {
-        if top == 0 {
+    // The elements of an array of small values behind its line, several to a line, or dots where they stand too deep.
+    fn show_elements(self, page: &mut Page, record: Record, depth: usize) {
+        if depth > self.most {
+            page.say(b" ...\n");
             return;
         }
-        if stack.len() < top {
+        record.show_row(page, depth);
+    }
+
+    // A record's line and what belongs to it, and its children on the stack.
+    fn show_record(
+        self,
+        page: &mut Page,
+        stack: &mut Stack,
+        record: Record,
+        depth: usize,
+        how: Beginning,
+    ) {
+        let shape = record.shape(how);
+        page.indent(depth);
+        record.say_line(page, how, shape.last);
+        if record.tag == Tag::ARRAY && record.is_row() {
+            self.show_elements(page, record, depth.saturating_add(1));
             return;
         }
-        let entry = stack[top - 1];
-        top = show_next(page, image, places, links, stack, top - 1, entry, most);
-        left -= 1;
+        let before = stack.used;
+        self.push_children(stack, record.index, shape, depth);
+        let deepest = match stack.above(before) {
+            Some(entry) => entry.depth(),
+            None => 0,
+        };
+        self.say_line_end(page, deepest);
+    }
+
+    // The next of the stack: a record is shown, or first what it is applied to; or it is too deep.
+    fn show_next(self, page: &mut Page, stack: &mut Stack, entry: Entry) {
+        let tree = self.tree;
+        let depth = entry.depth();
+        let how = entry.how;
+        if depth > self.most {
+            return;
+        }
+        let record = tree.record(entry.record as usize);
+        if record.tag <= Tag::VARIABLE {
+            self.show_leaf(page, record, depth, how);
+        } else if how == Beginning::Then || !record.is_step() {
+            self.show_record(page, stack, record, depth, how);
+        } else {
+            stack.push(Entry::new(record.index, depth, Beginning::Then));
+            stack.push(Entry::new(tree.first_child(record.index), depth, how));
+        }
+    }
+}
+
+impl<'a> Tree<'a> {
+    // Whether a record is a value without children, and without lines of its own.
+    fn is_small_value(&self, r: usize) -> bool {
+        match self.tag(r) {
+            Tag::STRING => !has_lines(self.payload(r)),
+            Tag::IDENTITY..=Tag::VARIABLE => true,
+            _ => false,
+        }
+    }
+
+    // The tree whole. The root is the last record. Lines deeper than `most` are left out.
+    pub fn show(&'a self, page: &mut Page, entries: &mut [Entry], most: usize) {
+        if self.count == 0 {
+            return;
+        }
+        let view = View { tree: self, most };
+        let mut stack = Stack { entries, used: 0 };
+        stack.push(Entry::new(self.count - 1, 0, Beginning::Plain));
+        // each record stands on the stack twice at most
+        for _ in 0..self.count % RECORDS * 2 {
+            let Some(entry) = stack.pop() else {
+                return;
+            };
+            view.show_next(page, &mut stack, entry);
+        }
     }
 }
 
 // The name of the file whose tree follows.
 pub fn tell_name(page: &mut Page, name: &[u8]) {
-    paint(page, FILE);
-    say_characters(page, name);
-    say(page, b":");
-    plain(page);
-    say(page, b"\n");
+    page.paint(Colour::File);
+    page.say_characters(name);
+    page.say(b":");
+    page.plain();
+    page.say(b"\n");
 }

@@ -1,32 +1,27 @@
 // Why an image is not shown.
-use show::page::{Page, say};
-use show::say::{say_characters, say_number};
+use show::page::Page;
 
-fn say_why(page: &mut Page, number: u64) {
+// In words, by document 02's number.
+fn why(number: u64) -> &'static [u8] {
     match number {
-        13 => say(page, b"no record has this tag"),
-        14 => say(
-            page,
-            b"the record's length, a flag or an operator is wrong, or infix records with and without a place are mixed",
-        ),
-        15 => say(
-            page,
-            b"children are missing, or more than one tree stands there",
-        ),
-        16 => say(
-            page,
-            b"no source gives this record: its text, a span, its children, or that it stands alone",
-        ),
-        _ => say(page, b"the image is too long to be shown"),
+        13 => b"no record has this tag",
+        14 => {
+            b"the record's length, a flag or an operator is wrong, or infix records with and without a place are mixed"
+        }
+        15 => b"children are missing, or more than one tree stands there",
+        16 => {
+            b"no source gives this record: its text, a span, its children, or that it stands alone"
+        }
+        _ => b"the image is too long to be shown",
     }
 }
 
-// `NAME: byte OFFSET: WHY.`, by document 02's number.
+// `NAME: byte OFFSET: WHY.`
 pub fn tell(page: &mut Page, name: &[u8], number: u64, offset: u64) {
-    say_characters(page, name);
-    say(page, b": byte ");
-    say_number(page, offset as usize);
-    say(page, b": ");
-    say_why(page, number);
-    say(page, b".\n");
+    page.say_characters(name);
+    page.say(b": byte ");
+    page.say_number(offset as usize);
+    page.say(b": ");
+    page.say(why(number));
+    page.say(b".\n");
 }

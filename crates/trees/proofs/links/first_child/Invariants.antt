@@ -1,4 +1,0 @@
-use Rattle.trees.proofs.links.first_child.Given as goal
-
-abbrev pub decreases-loop-c : goal.decreases-loop-c
-decreases-loop-c l = l.c

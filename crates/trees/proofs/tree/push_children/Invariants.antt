@@ -1,4 +1,0 @@
-use Rattle.trees.proofs.tree.push_children.Given as goal
-
-abbrev pub decreases-loop-c : goal.decreases-loop-c
-decreases-loop-c l = l.c
