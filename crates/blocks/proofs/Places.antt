@@ -7,13 +7,13 @@ use Prim.Native.Nat.{ℕ, zero, suc, ◌+◌, ◌-◌, ◌≤◌, ◌<◌, min}
 use native.Mathlib.Omega.{arith}
 use native.Mathlib.Numerals.{add-one}
 use native.Mathlib.Decide.{ℕ_discrete}
-use lib.ListN.{length, get_or, set, take, drop, length-append, length-drop, take-append-drop, drop_of_length-le}
+use lib.ListN.{length, get_or, set, take, drop, length-append, length-replicate, length-drop, take-append-drop, drop_of_length-le, get_or-append}
 use borrow.Rule.Slice.PartMut.{put_mid}
 use Rattle.std.specs.List.{starts_with}
 use Rattle.std.proofs.Common.{nat_eq}
 use Rattle.std.proofs.lemmas.Slice.Eq.{starts_is}
 use Rattle.std.proofs.lemmas.Bool.Decides.{Decides-eqb}
-use lib.Seq.{sets, sets-eq, slice, length-sets, drop-append-le, length-slice, length-take-le, drop-drop}
+use lib.Seq.{sets, sets-eq, slice, length-sets, slice_empty, take-suc, drop-append-le, length-slice, length-take-le, get_or-take, get_or-drop, drop-drop, ext_get_or}
 use borrow.Author.Tests.{lt-ltb, le-ltb}
 use Rattle.strings.proofs.Stores.{sets_append}
 use Rattle.blocks.specs.Blocks.{Run, stop, more, LineFeed, Dash, there, NoBars}
@@ -82,6 +82,33 @@ starts_told s a e i r h g l f n told = by r (subst₂ (λ (t u : List ℕ). r �
         starts room (there ∙ ap (λ (k : ℕ). slice a e s ++ drop k (drop i s)) long ∙ ap (λ (t : List ℕ). slice a e s ++ t) (drop-drop (e - a) i s))
     by false q = differs (λ t d. true≢false (sym ((starts_is Decides-eqb (drop i s) (slice a e s) false q).1 t d)))
 
+-- The bytes from i on are those from a to e, or not.
+module _ (s : List ℕ) (a e i : ℕ) (h : a ≤ e) (g : e ≤ length s) where
+  get_or-slice : (k : ℕ) → k < e - a → get_or (slice a e s) k 0 ≡ get_or s (a + k) 0
+  get_or-slice k l = get_or-drop a (take e s) k 0 ∙ get_or-take e s (a + k) 0 (omega arith)
+
+  pub starts_there : i + (e - a) ≤ length s → ((k : ℕ) → k < e - a → get_or s (a + k) 0 ≡ get_or s (i + k) 0) → StartsAt s a e i true
+  starts_there m all =
+      let n : ℕ = e - a in
+      let long : length (take n (drop i s)) ≡ n = length-take-le n (drop i s) (omega (arith, length-drop i s)) in
+      let same : take n (drop i s) ≡ slice a e s =
+      ext_get_or 0 (take n (drop i s)) (slice a e s) (long ∙ sym (length-slice a e s g))
+      (λ k l.
+      let l' : k < n = omega arith in
+      get_or-take n (drop i s) k 0 l' ∙ get_or-drop i s k 0 ∙ sym (all k l') ∙ sym (get_or-slice k l')) in
+      starts m (sym (take-append-drop n (drop i s)) ∙ ap (λ (t : List ℕ). t ++ drop n (drop i s)) same ∙ ap (λ (t : List ℕ). slice a e s ++ t) (drop-drop n i s))
+
+  pub starts_short : i ≤ length s → length s - i < e - a → StartsAt s a e i false
+  starts_short m l = differs (λ r d. omega (arith, ap length d, length-append (slice a e s) r, length-slice a e s g, length-drop i s))
+
+  pub starts_not : (k : ℕ) → k < e - a → (get_or s (a + k) 0 ≡ get_or s (i + k) 0 → ⊥) → StartsAt s a e i false
+  starts_not k l n =
+      differs
+      (λ r d.
+      n
+      (sym (get_or-slice k l) ∙ sym (get_or-append (slice a e s) r 0 k (omega (arith, length-slice a e s g))) ∙ ap (λ (t : List ℕ). get_or t k 0) (sym d)
+      ∙ get_or-drop i s k 0))
+
 -- Parts of a source.
 pub slice-drop : (s : List ℕ) (a e : ℕ) → a ≤ e → e ≤ length s → slice a e s ++ drop e s ≡ drop a s
 slice-drop s a e h g =
@@ -102,6 +129,44 @@ set_beyond (x ∷ l) (suc i) v h = ap (λ (k : List ℕ). x ∷ k) (set_beyond l
 pub sets-beyond : (vs l : List ℕ) (i : ℕ) → length l ≤ i → sets l i vs ≡ l
 sets-beyond [] l i h = refl
 sets-beyond (v ∷ vs) l i h = ap (λ (k : List ℕ). sets k (suc i) vs) (set_beyond l i v h) ∙ sets-beyond vs l (suc i) (omega arith)
+
+-- A loop has copied the bytes from a up to i.
+pub record Copied (s : List ℕ) (a : ℕ) (out₀ : List ℕ) (at i : ℕ) (out : List ℕ) (w : ℕ) : Type 0 where
+  pub since : a ≤ i
+  pub within : i ≤ length s
+  pub count : w ≡ at + (i - a)
+  pub stored : out ≡ sets out₀ at (slice a i s)
+
+module _ {s : List ℕ} {a : ℕ} {out₀ : List ℕ} {at : ℕ} where
+  pub copied_none : a ≤ length s → Copied s a out₀ at a out₀ at
+  copied_none h = record { since = omega arith; within = h; count = omega arith; stored = rw (slice_empty a s) refl }
+
+  pub copied_more :
+      {i : ℕ} {out : List ℕ} {w : ℕ} {out₁ : List ℕ} → Copied s a out₀ at i out w → i < length s → out₁ ≡ set out w (get_or s i 0) →
+      Copied s a out₀ at (i + 1) out₁ (w + 1)
+  copied_more {i} {out} {w} {out₁} d h e =
+      let grown : slice a (i + 1) s ≡ slice a i s ++ get_or s i 0 ∷ [] =
+      ap (λ (k : ℕ). slice a k s) (add-one i) ∙ ap (drop a) (take-suc s i 0 h)
+      ∙ drop-append-le a (take i s) (get_or s i 0 ∷ []) (omega (arith, d.since, length-take-le i s d.within)) in
+      let place : w ≡ at + length (slice a i s) = omega (arith, d.count, length-slice a i s d.within) in
+      record {
+        since = omega (arith, d.since);
+        within = omega arith;
+        count = omega (arith, d.since, d.count);
+        stored =
+            e ∙ ap (λ (o : List ℕ). set o w (get_or s i 0)) d.stored ∙ sets_append out₀ at w (slice a i s) (get_or s i 0 ∷ []) place
+            ∙ ap (sets out₀ at) (sym grown);
+      }
+
+  pub copied_length : {i : ℕ} {out : List ℕ} {w : ℕ} → Copied s a out₀ at i out w → length out ≡ length out₀
+  copied_length {i} d = ap length d.stored ∙ length-sets out₀ at (slice a i s)
+
+-- What has no room is not stored, however far it goes on.
+pub copied_full : {s : List ℕ} {a : ℕ} {out₀ : List ℕ} {at i : ℕ} {out : List ℕ} {w : ℕ} (e : ℕ) → Copied s a out₀ at i out w → length out ≤ w → i ≤ e → e ≤ length s → out ≡ sets out₀ at (slice a e s)
+copied_full {s} {a} {out₀} {at} {i} {out} {w} e d full h g =
+    sym (ap (sets out₀ at) (sym (slice_split s a i e d.since h g))
+    ∙ sym (sets_append out₀ at w (slice a i s) (slice i e s) (omega (arith, d.count, length-slice a i s d.within)))
+    ∙ ap (λ (o : List ℕ). sets o w (slice i e s)) (sym d.stored) ∙ sets-beyond (slice i e s) out w full)
 
 -- What is written as far as there is room is stored, since beyond the end nothing is.
 pub sets_room :
@@ -139,3 +204,22 @@ run_feeds (more {run = run} p d) = feeds_cons (length run) p (run_feeds d)
 
 pub spanned_feeds : {s : List ℕ} {i e : ℕ} → Spans LineFeed s i e → slice i e s ≡ feeds (e - i)
 spanned_feeds {s} {i} {e} d = run_feeds d.run ∙ ap feeds (length-slice i e s d.within)
+
+-- A loop has stored k LFs.
+pub record Fed (out₀ : List ℕ) (at k : ℕ) (out : List ℕ) : Type 0 where
+  pub stored : out ≡ sets out₀ at (feeds k)
+
+module _ {out₀ : List ℕ} {at : ℕ} where
+  pub fed_none : Fed out₀ at 0 out₀
+  fed_none = record { stored = refl }
+
+  pub fed_more : {k : ℕ} {out out₁ : List ℕ} → Fed out₀ at k out → out₁ ≡ set out (at + k) 0x0A → Fed out₀ at (k + 1) out₁
+  fed_more {k} d e = record {
+    stored =
+        e ∙ ap (λ (o : List ℕ). set o (at + k) 0x0A) d.stored
+        ∙ sets_append out₀ at (at + k) (feeds k) (0x0A ∷ []) (ap (λ (n : ℕ). at + n) (sym (length-replicate {A = ℕ} k 0x0A)))
+        ∙ ap (sets out₀ at) (feeds-next k);
+  }
+
+  pub fed_length : {k : ℕ} {out : List ℕ} → Fed out₀ at k out → length out ≡ length out₀
+  fed_length {k} d = ap length d.stored ∙ length-sets out₀ at (feeds k)

@@ -2,11 +2,13 @@
 -- Assumes nothing.
 use mathlib.Core.Path.{◌≡◌, refl, sym, ◌∙◌, ap, subst}
 use mathlib.Core.List.{List, [], ◌∷◌, ◌++◌}
-use Prim.Native.Nat.{ℕ, zero, suc, ◌+◌, ◌≤◌, ◌<◌}
+use Prim.Native.Nat.{ℕ, zero, suc, ◌+◌, ◌-◌, ◌≤◌, ◌<◌}
 use native.Mathlib.Omega.{arith}
+use native.Mathlib.Numerals.{add-one}
 use native.Mathlib.Decide.{ℕ_discrete}
+use borrow.Author.Count.{below_more}
 use lib.ListN.{length, get_or, take, drop, length-append}
-use lib.Seq.{slice}
+use lib.Seq.{slice, slice-cons}
 use Rattle.strings.proofs.Stores.{drop-next}
 use Rattle.blocks.specs.Blocks.{Run, stop, more, InLine, Sought, here, on}
 use Rattle.blocks.specs.Inside.{Spans}
@@ -69,11 +71,33 @@ pub record Passed (P : ℕ → Type 0) (s : List ℕ) (i j : ℕ) : Type 0 where
   pub all : (k : ℕ) → k < j → i ≤ k → P (get_or s k 0)
 
 module _ {P : ℕ → Type 0} {s : List ℕ} {i : ℕ} where
+  pub passed_none : i ≤ length s → Passed P s i i
+  passed_none h = record { on = omega arith; within = h; all = λ k l m. absurd (omega arith) }
+
+  pub passed_more : {j : ℕ} → Passed P s i j → j < length s → P (get_or s j 0) → Passed P s i (j + 1)
+  passed_more {j} d h p = record {
+    on = omega arith;
+    within = omega arith;
+    all = below_more (λ k. i ≤ k → P (get_or s k 0)) j d.all (λ l. p);
+  }
+
   pub passed_stop : {j : ℕ} → Passed P s i j → (P (get_or s j 0) → ⊥) → Spans P s i j
   passed_stop {j} d h = record { on = d.on; within = d.within; run = run_between P s i j d.on d.within d.all (λ l. h) }
 
   pub passed_end : {j : ℕ} → Passed P s i j → length s ≤ j → Spans P s i j
   passed_end {j} d h = record { on = d.on; within = d.within; run = run_between P s i j d.on d.within d.all (λ l. absurd (omega arith)) }
+
+  -- a run that goes on from where the loop stands
+  pub passed_then : {j e : ℕ} → Passed P s i j → Spans P s j e → Spans P s i e
+  passed_then {j} {e} d r = record { on = omega (arith, d.on, r.on); within = r.within; run = back (j - i) i (omega (arith, d.on)) (omega arith) }
+    where
+      back : (n k : ℕ) → k + n ≡ j → i ≤ k → Run P (drop k s) (slice k e s) (drop e s)
+      back zero k q h = let k-is : k ≡ j = omega (arith, q) in subst (λ (m : ℕ). Run P (drop m s) (slice m e s) (drop e s)) (sym k-is) r.run
+      back (suc n) k q h =
+          let inside : k < e = omega (arith, q, r.on) in
+          subst (λ (t : List ℕ). Run P t (slice k e s) (drop e s)) (sym (drop-next s k (omega (arith, r.within))))
+          (subst (λ (t : List ℕ). Run P (get_or s k 0 ∷ drop (k + 1) s) t (drop e s)) (sym (slice-cons k e s 0 inside r.within))
+          (more (d.all k (omega (arith, q)) h) (subst (λ (m : ℕ). Run P (drop (k + 1) s) (slice m e s) (drop e s)) (add-one k) (back n (k + 1) (omega (arith, q)) (omega arith)))))
 
 -- a run of bytes that are P is one of bytes that are Q, where those are the same bytes
 pub spans_as : {P Q : ℕ → Type 0} {s : List ℕ} {i j : ℕ} → ((b : ℕ) → P b → Q b) → ((b : ℕ) → Q b → P b) → Spans P s i j → Spans Q s i j

@@ -87,12 +87,27 @@ fn skip_blanks(source: &[u8], from: usize) -> usize
     skip(source, from, |b| matches!(b, b' ' | b'\t'))
 }
 
+// An indent of so many bytes is compared byte by byte: what `starts_with` takes to begin costs more than that.
+const SHORT: usize = 4;
+
 // Whether the line at i starts with the indent, which stands from first to content.
 fn check_whitespace(source: &[u8], first: usize, content: usize, i: usize) -> bool
     requires { (first ≤ content) × (content ≤ length source.now) × (i ≤ length source.now) }
     ensures { StartsAt source.now first content i result }
 {
-    source[i..].starts_with(&source[first..content])
+    let n = content - first;
+    if SHORT < n {
+        return source[i..].starts_with(&source[first..content]);
+    }
+    if source.len() - i < n {
+        return false;
+    }
+    for k in 0..n {
+        if source[first + k] != source[i + k] {
+            return false;
+        }
+    }
+    true
 }
 
 fn bars_at(source: &[u8], i: usize) -> bool
@@ -116,24 +131,20 @@ fn eat_error(source: &[u8], from: usize) -> usize
     }
 }
 
-// The bytes into the output, as far as it has room.
-fn put_bytes(out: &mut [u8], at: usize, bytes: &[u8])
-    ensures { out.new ≡ sets out.old at bytes.now }
-{
-    if at < out.len() {
-        let n = bytes.len().min(out.len() - at);
-        out[at..at + n].copy_from_slice(&bytes[..n]);
-    }
-}
-
-// The place of the line's LF, or the source's end. What stands before it is stored, as far as there is room.
+// The place of the line's LF, or the source's end. What stands before it is stored as it is passed, as far as there is room.
 fn copy_line(source: &[u8], from: usize, out: &mut [u8], at: usize) -> usize
     requires { from ≤ length source.now }
     ensures { Spans InLine source.now from result × (out.new ≡ sets out.old at (slice from result source.now)) }
 {
-    let lf = skip(source, from, |b| b != b'\n');
-    put_bytes(out, at, &source[from..lf]);
-    lf
+    for w in at..out.len() {
+        let i = from + (w - at);
+        let goes_on = i < source.len() && source[i] != b'\n';
+        if !goes_on {
+            return i;
+        }
+        out[w] = source[i];
+    }
+    skip(source, from + out.len().saturating_sub(at), |b| b != b'\n')
 }
 
 // So many LFs into the output, as far as it has room; the place after them.
@@ -142,8 +153,9 @@ fn put_feeds(out: &mut [u8], at: usize, n: usize) -> usize
     ensures { (out.new ≡ sets out.old at (feeds n)) × (result ≡ at + n) }
 {
     if at < out.len() {
-        let end = out.len().min(at + n);
-        out[at..end].fill(b'\n');
+        for k in 0..n {
+            strings::put(out, at + k, b'\n');
+        }
     }
     at + n
 }
