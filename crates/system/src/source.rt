@@ -44,8 +44,9 @@ impl Source {
         }
     }
 
-    // Reads until a buffer is full, the input ends or a read fails: how many bytes it put at the buffer's start, and why the read failed.
-    fn fill(&mut self, buffer: &mut [u8]) -> (usize, Option<Error>)
+    // Reads until a buffer is full, the input ends or a read fails: how many bytes it put at the buffer's start, and why the read failed. It is for a
+    // caller that has a use for what came before a fault.
+    pub fn fill(&mut self, buffer: &mut [u8]) -> (usize, Option<Error>)
         ensures { IsPrefixLen result.0 buffer.new }
     {
         let mut done = 0;
