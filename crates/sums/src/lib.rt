@@ -3,16 +3,19 @@
 use std::fmt;
 use system::Output;
 
+// The sum of nothing.
+pub const START: u64 = 0xCBF2_9CE4_8422_2325;
+
 const PRIME: u64 = 0x100_0000_01B3;
 
 // The sum of a text so far. What is written to it is more of the text.
 #[derive(Clone, Copy)]
-pub struct Sum(u64);
+pub struct Sum(pub u64);
 
 impl Sum {
     // That of nothing.
     pub fn new() -> Self {
-        Self(0xCBF2_9CE4_8422_2325)
+        Self(START)
     }
 
     // All of these bytes more.
