@@ -1,8 +1,18 @@
 #![tactic(auto)]
-// Text taken apart: fields with a space between, bytes in hex, as the lists of vectors/ have them; and a count of the lines that agree.
+// Text taken apart: lines, fields with a space between, bytes in hex, as the lists of vectors/ have them; and a count of the lines that agree.
 ghost use Rattle.std.specs.Prelude.{◌≤◌, length};
 
+use std::convert::AsSlice;
 use system::Output;
+
+// The line that starts at a place, without its LF; nothing past the end.
+pub fn line_at(text: &[u8], from: usize) -> &[u8]
+    ensures { length result.now ≤ length text.now }
+{
+    let rest = text.get(from..).unwrap_or(&[]);
+    let end = rest.iter().position(|b| *b == b'\n');
+    &rest[..end.unwrap_or(rest.len())]
+}
 
 // A line's field, counted from 0; nothing where the line has fewer.
 pub fn field(line: &[u8], n: usize) -> &[u8] {
@@ -50,34 +60,42 @@ pub struct Tally {
 }
 
 impl Tally {
+    // That of no lines.
+    pub fn new() -> Self {
+        Self::default()
+    }
+
     // That of a text's lines. A last one may lack its end.
     pub fn of_lines<F: Fn(&[u8]) -> bool>(text: &[u8], agrees: F) -> Self
         requires { F.IsAlwaysCallable agrees }
     {
-        let mut tally = Self::default();
+        let mut tally = Self::new();
         for line in text.split_inclusive(|b| *b == b'\n') {
-            tally.count(agrees(line.strip_suffix(b"\n").unwrap_or(line)));
+            tally = tally.with(agrees(line.strip_suffix(b"\n").unwrap_or(line)));
         }
         tally
     }
 
     // One line more.
-    fn count(&mut self, agrees: bool) {
+    pub fn with(mut self, agrees: bool) -> Self {
         self.lines = self.lines.saturating_add(1);
         if !agrees {
             self.differences = self.differences.saturating_add(1);
             self.first = self.first.or(Some(self.lines));
         }
+        self
     }
 
     // `N what, N differences`, and where the first is.
-    pub fn report(self, out: &mut Output, what: &str) {
+    pub fn report<W: AsSlice<u8> + Drop>(self, out: &mut Output, what: W) {
         let Self {
             lines,
             differences,
             first,
         } = self;
-        out.print(format_args!("{lines} {what}, {differences} differences\n"));
+        out.print(format_args!("{lines} "));
+        out.write(what.as_slice());
+        out.print(format_args!(", {differences} differences\n"));
         if let Some(line) = first {
             out.print(format_args!("first at line {line}\n"));
         }
