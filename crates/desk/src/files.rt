@@ -2,6 +2,7 @@
 use crate::options::{Fault, Options, is_standard_input};
 use crate::status;
 use crate::status::Status;
+use std::convert::AsSlice;
 use std::io;
 use system::Source;
 
@@ -36,7 +37,11 @@ pub fn read<'a>(rt: &HostRuntime, word: &[u8], buffer: &'a mut [u8]) -> io::Resu
 }
 
 // What a program ends with that went through its words; one that is at fault is told of.
-pub fn end(rt: &HostRuntime, program: &str, told: Result<Status, Fault>) -> Status {
+pub fn end<W: AsSlice<u8> + Drop>(
+    rt: &HostRuntime,
+    program: W,
+    told: Result<Status, Fault>,
+) -> Status {
     match told {
         Ok(status) => status,
         Err(fault) => {

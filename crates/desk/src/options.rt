@@ -3,6 +3,7 @@
 // setting behind it takes back. Behind `--` every word is a file, and `-` is standard input. Words are taken one by one, so that an option holds for the
 // files after it.
 use crate::Language;
+use std::convert::AsSlice;
 use std::fmt;
 use std::fmt::Formatter;
 use std::io::Eprint;
@@ -39,8 +40,9 @@ impl fmt::Display for Fault {
 
 impl Fault {
     // Says what is wrong.
-    pub fn complain(self, rt: &HostRuntime, program: &str) {
-        let _ = rt.eprintln(format_args!("{program}: {self}"));
+    pub fn complain<W: AsSlice<u8> + Drop>(self, rt: &HostRuntime, program: W) {
+        system::complain(rt, program.as_slice());
+        let _ = rt.eprintln(format_args!(": {self}"));
     }
 }
 

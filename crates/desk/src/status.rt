@@ -12,9 +12,15 @@ pub enum Status {
     Cut = 141, // what read the answer reads no further: as a shell tells of a program that ends of it
 }
 
+impl From<Status> for u8 {
+    fn from(status: Status) -> Self {
+        status as u8
+    }
+}
+
 impl From<Status> for ExitCode {
     fn from(status: Status) -> Self {
-        ExitCode::from(status as u8)
+        ExitCode::from(u8::from(status))
     }
 }
 
@@ -35,11 +41,11 @@ pub fn unread(rt: &HostRuntime, name: &[u8], error: Error) -> Status {
     Status::Failed
 }
 
-// The status, if no write to standard output has failed.
-pub fn if_written(rt: &HostRuntime, fault: Option<Error>, status: Status) -> Status {
+// The status, a `Status` or its number, if no write to standard output has failed.
+pub fn if_written<S: From<Status> + Drop>(rt: &HostRuntime, fault: Option<Error>, status: S) -> S {
     match fault {
         None => status,
-        Some(error) => failed(rt, b"standard output", error),
+        Some(error) => S::from(failed(rt, b"standard output", error)),
     }
 }
 
@@ -54,8 +60,8 @@ pub fn first_argument(rt: &HostRuntime) -> usize {
     if is_asked(rt) { 2 } else { 1 }
 }
 
-// What a program ends with.
-pub fn end(rt: &HostRuntime, status: Status) -> ExitCode {
+// What a program ends with, by a `Status` or its number.
+pub fn end<S: Into<ExitCode> + Drop>(rt: &HostRuntime, status: S) -> ExitCode {
     if is_asked(rt) {
         status.into()
     } else {
