@@ -54,6 +54,7 @@ pub fn image(f: Fields, output: &[u8]) -> &[u8] {
 }
 
 // Whether all from a place on is zero.
-fn is_clear<T: Copy + Default + PartialEq>(list: &[T], from: usize) -> bool {
-    list.iter().skip(from).all(|x| *x == T::default())
+pub fn is_clear<T: Copy + Default + PartialEq>(list: &[T], from: usize) -> bool {
+    let rest = list.get(from..).unwrap_or(&[]);
+    rest.iter().all(|x| *x == T::default())
 }

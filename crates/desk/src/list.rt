@@ -3,8 +3,8 @@ ghost use Rattle.std.specs.Prelude.{◌≡◌, ◌+◌, ◌≤◌, ◌↔◌, Is
 
 #[derive(Drop)]
 pub struct List<'a, T> {
-    room: &'a mut [T],
-    count: usize, // how many of the buffer's items are the list's
+    pub(crate) room: &'a mut [T],
+    pub(crate) count: usize, // how many of the buffer's items are the list's
     ghost fits: { count ≤ length room.now },
 }
 

@@ -1,4 +1,6 @@
 // The planner's list, as the judge asks for it: the line `NUMBER OFFSET COUNT LIST`, with four numbers for each listing.
+ghost use Rattle.std.specs.Prelude.{◌≡◌, length};
+
 use crate::backs::SMEAR;
 use crate::is_clear;
 use crate::text::Text;
@@ -10,7 +12,9 @@ fn listings<'a>(f: &images::Fields, list: &'a [usize]) -> &'a [usize] {
 }
 
 // `dirty` where the list holds more than its listings, or the array anything.
-fn tell(f: images::Fields, links: &[usize], list: &[usize], text: &mut Text) {
+fn tell(f: images::Fields, links: &[usize], list: &[usize], text: &mut Text)
+    ensures { length text.new.room.now ≡ length text.old.room.now }
+{
     let listings = listings(&f, list);
     if !is_clear(links, 0) || !is_clear(list, listings.len()) {
         text.put("dirty\n");
@@ -22,7 +26,9 @@ fn tell(f: images::Fields, links: &[usize], list: &[usize], text: &mut Text) {
 }
 
 // The answer's line for an image.
-pub fn answer_into(image: &[u8], links: &mut [usize], list: &mut [usize], text: &mut Text) {
+pub fn answer_into(image: &[u8], links: &mut [usize], list: &mut [usize], text: &mut Text)
+    ensures { length text.new.room.now ≡ length text.old.room.now }
+{
     links.fill(SMEAR);
     list.fill(SMEAR);
     let f = mass::numbers(mass::list(image, links, list));

@@ -1,4 +1,6 @@
 // A night's files, as the judge asks for them: the line `NUMBER ANSWERS HEXOUTPUT`, both lists whole.
+ghost use Rattle.std.specs.Prelude.{◌≡◌, length};
+
 use crate::is_clear;
 use crate::text::Text;
 
@@ -47,7 +49,9 @@ fn is_clean(number: u64, output: &[u8], parts: &[usize], answers: &[u64]) -> boo
 
 impl Night<'_> {
     // The answer's line.
-    pub fn answer_into(self, text: &mut Text) {
+    pub fn answer_into(self, text: &mut Text)
+        ensures { length text.new.room.now ≡ length text.old.room.now }
+    {
         let Night {
             setting,
             sources,

@@ -4,12 +4,13 @@
 //     back HEXIMAGE
 //     mass LISTLEN HEXIMAGE
 //     json OUTLEN HEXTEXT
-ghost use Rattle.std.specs.Prelude.{◌≤◌};
+ghost use Rattle.std.specs.Prelude.{◌≡◌, ◌≤◌, IfOk, length};
 
+pub use crate::is_clear;
 use crate::list::List;
 use crate::nights::Night;
 use crate::text::Text;
-use crate::{Fields, Language, backs, is_clear, masses};
+use crate::{Fields, Language, backs, masses};
 
 // The longest output that a question may ask for.
 pub const OUTPUT: usize = 1_048_576;
@@ -18,8 +19,10 @@ pub const OUTPUT: usize = 1_048_576;
 // image are not cut.
 pub const SOURCE: usize = 1_048_576;
 
-// How many numbers a list of a question may have.
+// How many numbers a list of a question may have, and room for a question's two.
 pub const LIST: usize = 4_096;
+
+pub const LISTS: usize = 8_192;
 
 // The most numbers that a question may ask for as listings.
 pub const LISTINGS: usize = 8_192;
@@ -135,7 +138,7 @@ impl Word {
 
 // A question as far as it has come, but for its lists and bytes.
 #[derive(Clone, Copy)]
-struct Head {
+pub struct Question {
     form: Form,
     stage: Stage,
     field: Field,
@@ -148,8 +151,8 @@ struct Head {
     is_cut: bool, // whether some bytes of the sources or the image were not kept
 }
 
-impl Head {
-    fn new() -> Self {
+impl Question {
+    pub fn new() -> Self {
         Self {
             form: Form::Source,
             stage: Stage::Setting,
@@ -165,7 +168,7 @@ impl Head {
     }
 
     // Whether a character of the question has come.
-    fn is_begun(&self) -> bool {
+    pub fn is_begun(self) -> bool {
         self.field != Field::Empty || self.stage != Stage::Setting || self.form != Form::Source
     }
 
@@ -208,7 +211,9 @@ impl Head {
     }
 }
 
-fn digit(b: u8) -> Result<u8, Bad> {
+fn digit(b: u8) -> Result<u8, Bad>
+    ensures { IfOk result (λ n. n ≤ 15) }
+{
     match b {
         b'0'..=b'9' => Ok(b - b'0'),
         b'a'..=b'f' => Ok(b - b'a' + 10),
@@ -225,20 +230,20 @@ fn add(list: &mut List<usize>, number: u64) -> Result<(), Bad> {
     Ok(())
 }
 
-// A question as far as it has come.
+// A question as far as it has come, with its lists and bytes.
 #[derive(Drop)]
-pub struct Question<'a> {
-    head: Head,
+pub struct Intake<'a> {
+    head: Question,
     source: List<'a, u8>, // the bytes of the sources or the image, as many as are kept
     ends: List<'a, usize>,
     parts: List<'a, usize>,
 }
 
-impl<'a> Question<'a> {
+impl<'a> Intake<'a> {
     // One that is taken in to these buffers.
     pub fn new(source: &'a mut [u8], ends: &'a mut [usize], parts: &'a mut [usize]) -> Self {
         Self {
-            head: Head::new(),
+            head: Question::new(),
             source: List::new(source),
             ends: List::new(ends),
             parts: List::new(parts),
@@ -247,7 +252,7 @@ impl<'a> Question<'a> {
 
     // Nothing of the next one has come.
     fn clear(&mut self) {
-        self.head = Head::new();
+        self.head = Question::new();
         self.source.clear();
         self.ends.clear();
         self.parts.clear();
@@ -368,7 +373,9 @@ impl<'a> Question<'a> {
         output: &mut [u8],
         answers: &mut [u64],
         text: &mut Text,
-    ) -> Result<(), Bad> {
+    ) -> Result<(), Bad>
+        ensures { length text.new.room.now ≡ length text.old.room.now }
+    {
         let head = &self.head;
         let output = output.get_mut(..head.room as usize).ok_or(Bad)?;
         let answers = answers.get_mut(..head.count as usize).ok_or(Bad)?;
@@ -385,7 +392,9 @@ impl<'a> Question<'a> {
     }
 
     // The answer's line for an image, which is lent just as many numbers as it needs.
-    fn answer_back(&self, links: &mut [usize], text: &mut Text) -> Result<(), Bad> {
+    fn answer_back(&self, links: &mut [usize], text: &mut Text) -> Result<(), Bad>
+        ensures { length text.new.room.now ≡ length text.old.room.now }
+    {
         let image = self.source.as_slice();
         let links = links.get_mut(..image.len() / 3 * 2).ok_or(Bad)?;
         backs::answer_into(image, links, text);
@@ -398,7 +407,9 @@ impl<'a> Question<'a> {
         links: &mut [usize],
         list: &mut [usize],
         text: &mut Text,
-    ) -> Result<(), Bad> {
+    ) -> Result<(), Bad>
+        ensures { length text.new.room.now ≡ length text.old.room.now }
+    {
         let image = self.source.as_slice();
         let links = links.get_mut(..image.len() / 3 * 2).ok_or(Bad)?;
         let list = list.get_mut(..self.head.count as usize).ok_or(Bad)?;
@@ -407,7 +418,9 @@ impl<'a> Question<'a> {
     }
 
     // The answer's line for a source or a station's text.
-    fn answer_source(&self, output: &mut [u8], text: &mut Text) -> Result<(), Bad> {
+    fn answer_source(&self, output: &mut [u8], text: &mut Text) -> Result<(), Bad>
+        ensures { length text.new.room.now ≡ length text.old.room.now }
+    {
         let output = output.get_mut(..self.head.room as usize).ok_or(Bad)?;
         answer_into(self.language(), self.source.as_slice(), output, text);
         Ok(())
@@ -415,7 +428,9 @@ impl<'a> Question<'a> {
 }
 
 // The line `NUMBER START END DETAIL LENGTH HEXIMAGE`; `dirty` where more than the image stands in the output.
-fn tell(f: Fields, output: &[u8], text: &mut Text) {
+fn tell(f: Fields, output: &[u8], text: &mut Text)
+    ensures { length text.new.room.now ≡ length text.old.room.now }
+{
     let image = crate::image(f, output);
     if !is_clear(output, image.len()) {
         text.put("dirty\n");
@@ -437,7 +452,9 @@ fn tell(f: Fields, output: &[u8], text: &mut Text) {
 }
 
 // The answer's line for a source or a station's text.
-pub fn answer_into(language: Language, source: &[u8], output: &mut [u8], text: &mut Text) {
+pub fn answer_into(language: Language, source: &[u8], output: &mut [u8], text: &mut Text)
+    ensures { length text.new.room.now ≡ length text.old.room.now }
+{
     // anything but zeros, so that what the reader leaves untouched is seen
     output.fill(0xAA);
     let f = crate::answer_in(language, source, output);
@@ -447,7 +464,7 @@ pub fn answer_into(language: Language, source: &[u8], output: &mut [u8], text: &
 // Where questions are taken in and answered.
 #[derive(Drop)]
 pub struct Clerk<'a> {
-    pub question: Question<'a>,
+    pub question: Intake<'a>,
     pub output: &'a mut [u8],
     pub answers: &'a mut [u64],
     pub links: &'a mut [usize],
@@ -456,7 +473,9 @@ pub struct Clerk<'a> {
 }
 
 impl Clerk<'_> {
-    fn answer_asked(&mut self) -> Result<(), Bad> {
+    fn answer_asked(&mut self) -> Result<(), Bad>
+        ensures { length self.new.text.room.now ≡ length self.old.text.room.now }
+    {
         let q = &self.question;
         if !q.is_whole() {
             return Err(Bad);
@@ -473,7 +492,9 @@ impl Clerk<'_> {
 
     // The answer's line for the question, behind which the next one is taken in; `bad` for a line that asks nothing, and for one that the buffers are too
     // short for.
-    fn answer(&mut self) {
+    fn answer(&mut self)
+        ensures { length self.new.text.room.now ≡ length self.old.text.room.now }
+    {
         self.text.clear();
         if self.answer_asked().is_err() {
             self.text.put("bad\n");
@@ -482,7 +503,9 @@ impl Clerk<'_> {
     }
 
     // One byte more of a line, and whether it was its end: then the line is answered.
-    pub fn take(&mut self, b: u8) -> bool {
+    pub fn take(&mut self, b: u8) -> bool
+        ensures { length self.new.text.room.now ≡ length self.old.text.room.now }
+    {
         let is_end = b == b'\n';
         if is_end {
             self.answer();
@@ -493,7 +516,9 @@ impl Clerk<'_> {
     }
 
     // The end of all lines, and whether one came before it that lacked its own: then that is answered.
-    pub fn finish(&mut self) -> bool {
+    pub fn finish(&mut self) -> bool
+        ensures { length self.new.text.room.now ≡ length self.old.text.room.now }
+    {
         let is_begun = self.question.head.is_begun();
         if is_begun {
             self.answer();

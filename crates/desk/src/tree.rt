@@ -1,10 +1,13 @@
 // What `readtree` and `readjson` do: a file read, and the answer as document 01 has it printed; or its image in a file.
+ghost use Rattle.std.specs.Prelude.{◌≡◌, length};
+
 use crate::options::{Fault, Options};
 use crate::status::Status;
 use crate::text::Text;
 use crate::{Fields, Language, options, status};
+use std::convert::AsSlice;
 use std::io;
-use std::io::{Eprint, Write};
+use std::io::Write;
 use system::source::create;
 use system::{Output, Source};
 
@@ -23,7 +26,9 @@ const LARGEST: usize = 1_040_000;
 // Room for one line of numbers.
 const LINE: usize = 128;
 
-fn refused(f: Fields, text: &mut Text) {
+fn refused(f: Fields, text: &mut Text)
+    ensures { length text.new.room.now ≡ length text.old.room.now }
+{
     let Fields {
         number,
         start,
@@ -34,12 +39,16 @@ fn refused(f: Fields, text: &mut Text) {
     text.put(format_args!("refused {number} {start} {end} {detail}\n"));
 }
 
-fn accepted(length: u64, text: &mut Text) {
-    text.put(format_args!("ok {length}\n"));
+fn accepted(size: u64, text: &mut Text)
+    ensures { length text.new.room.now ≡ length text.old.room.now }
+{
+    text.put(format_args!("ok {size}\n"));
 }
 
 // The lines that tell an answer, and the status that goes with it.
-fn told(f: Fields, output: &[u8], text: &mut Text) -> Status {
+fn told(f: Fields, output: &[u8], text: &mut Text) -> Status
+    ensures { length text.new.room.now ≡ length text.old.room.now }
+{
     if f.number != 0 {
         refused(f, text);
         return Status::Refused;
@@ -169,10 +178,11 @@ fn read_file(rt: &HostRuntime, o: Options) -> Status {
 }
 
 // Reads the one file that the words name, or standard input, by the options that a program begins with.
-pub fn run(rt: &HostRuntime, first: Options, program: &str) -> Status {
+pub fn run<W: AsSlice<u8> + Drop>(rt: &HostRuntime, first: Options, program: W) -> Status {
     match take_words(rt, first) {
         Ok(o) if o.more => {
-            let _ = rt.eprintln(format_args!("{program}: one file is read at a time"));
+            system::complain(rt, program.as_slice());
+            system::complain(rt, b": one file is read at a time\n");
             Status::Failed
         }
         Ok(o) => read_file(rt, o),

@@ -3,7 +3,7 @@
 // `NUMBER START END DETAIL LENGTH HEXIMAGE`, to `night SETTING ENDS OUTENDS OUTLEN ANSWERLEN HEXSOURCES` by a line `NUMBER ANSWERS HEXOUTPUT`, to
 // `back HEXIMAGE` by a line `NUMBER OFFSET RECORDS PARTS COALESCES`, to `mass LISTLEN HEXIMAGE` by a line `NUMBER OFFSET COUNT LIST`, to `json OUTLEN HEXTEXT` as to
 // a source, and by `bad` to a line that is none.
-use desk::questions::{ANSWERS, Clerk, LINKS, LIST, LISTINGS, OUTPUT, Question, SOURCE, TEXT};
+use desk::questions::{ANSWERS, Clerk, Intake, LINKS, LIST, LISTINGS, OUTPUT, SOURCE, TEXT};
 use desk::status;
 use desk::status::Status;
 use desk::text::Text;
@@ -100,7 +100,7 @@ fn serve_with(
     text: &mut [u8; TEXT],
 ) -> Status {
     let mut clerk = Clerk {
-        question: Question::new(source, ends, parts),
+        question: Intake::new(source, ends, parts),
         output,
         answers,
         links,
