@@ -1,6 +1,8 @@
 #![tactic(auto)]
 // What `readtree` prints for the files that the arguments name. Then all sources of up to three lexemes, under each setting: how many there are,
 // and a checksum of all their answers, as the judge prints them (vectors/exhaustive.txt). They are counted through, the last lexeme fastest.
+ghost use Rattle.std.specs.Prelude.{◌≡◌, length};
+
 mod files;
 
 use desk::text::Text;
@@ -25,9 +27,11 @@ const OUTPUT: usize = 256;
 const TEXT: usize = 1024;
 
 // The n-th source of so many lexemes, a space between them.
-fn put_source(source: &mut Text, length: usize, n: usize) {
+fn put_source(source: &mut Text, count: usize, n: usize)
+    ensures { length source.new.room.now ≡ length source.old.room.now }
+{
     let lexemes = [n / SIZE / SIZE, n / SIZE, n];
-    for i in lexemes.iter().skip(3usize.saturating_sub(length)) {
+    for i in lexemes.iter().skip(3usize.saturating_sub(count)) {
         if !source.as_slice().is_empty() {
             source.put(" ");
         }
