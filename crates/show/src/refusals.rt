@@ -4,8 +4,7 @@ ghost use Rattle.std.specs.Prelude.{◌≤◌, length};
 use crate::bad_blocks::line_at_fault;
 use crate::file::File;
 use crate::page::{Colour, Page};
-use crate::say::{columns, run_end};
-use crate::texts::{ahead, behind};
+use crate::say::{character_end, columns, is_inside};
 use crate::within::Brackets;
 use grammar::numbers::Number;
 use lexemes::kinds::Kind;
@@ -151,12 +150,16 @@ fn shown_from(source: &[u8], at: usize) -> usize
     requires { at ≤ length source.now }
     ensures { result ≤ at }
 {
-    let before = &source[..at];
-    let line = match before.iter().rposition(|b| *b == b'\n') {
-        Some(feed) => feed + 1,
-        None => 0,
-    };
-    line + behind(&before[line..], BEFORE)
+    let mut left = BEFORE;
+    for (i, b) in source[..at].iter().enumerate().rev() {
+        if *b == b'\n' || left == 0 {
+            return i + 1;
+        }
+        if !is_inside(*b) {
+            left -= 1;
+        }
+    }
+    0
 }
 
 // Where it ends: so many characters from the place on, or with the line.
@@ -164,8 +167,14 @@ fn shown_to(source: &[u8], at: usize) -> usize
     requires { at ≤ length source.now }
     ensures { (at ≤ result) × (result ≤ length source.now) }
 {
-    let end = run_end(source, at, |b| b == b'\n');
-    at + ahead(&source[at..end], AFTER)
+    let mut i = at;
+    for _ in 0..AFTER {
+        if source.len() <= i || source[i] == b'\n' {
+            return i;
+        }
+        i = character_end(source, i);
+    }
+    i
 }
 
 // Whether a part of a line that begins here leaves some of it out.
