@@ -12,11 +12,8 @@ pub struct Name {
 // The record at an offset, sought from a record on.
 pub fn record_at(links: &[usize], from: usize, offset: usize) -> usize {
     let (records, _) = links.as_chunks::<2>();
-    let found = records
-        .iter()
-        .skip(from)
-        .position(|[start, _]| *start == offset);
-    match found {
+    let later = records.get(from..).unwrap_or(&[]);
+    match later.iter().position(|[start, _]| *start == offset) {
         Some(n) => from.saturating_add(n),
         None => records.len(),
     }
