@@ -58,7 +58,9 @@ pub fn character_end(text: &[u8], at: usize) -> usize
 }
 
 // How many columns a character takes: one, or those of `<U+00a0>` and `<U+e0001>`.
-fn column_count(character: &[u8]) -> usize {
+fn column_count(character: &[u8]) -> usize
+    ensures { result ≤ 9 }
+{
     match unseen_code(character) {
         Some(code) if code > 0xFFFF => 9,
         Some(_) => 8,
