@@ -113,6 +113,11 @@ fn has_bad_line(kind: u8) -> bool {
 }
 
 impl Fault {
+    // Whether it has a place.
+    fn has_place(self) -> bool {
+        !matches!(self, Fault::Setting | Fault::Long | Fault::Room(_))
+    }
+
     // Whether a phrase is refused: it is then told what stands open there.
     fn is_of_phrase(self) -> bool {
         match self {
@@ -311,11 +316,12 @@ impl Refusal {
         page.say(b".\n");
     }
 
-    // A refusal of a file under its name, as one line.
-    pub fn tell_in_a_line(self, page: &mut Page, file: File) {
+    // A refusal of a file under its name, as one line; whether it has a place.
+    pub fn tell_in_a_line(self, page: &mut Page, file: File) -> bool {
         page.say_characters(file.name);
         page.say(b":");
-        match self.fault() {
+        let fault = self.fault();
+        match fault {
             Fault::Setting => page.say(b" the setting is above 15.\n"),
             Fault::Long => {
                 page.say(b" the file is longer than 65,000 bytes, the most that is read.\n")
@@ -326,19 +332,21 @@ impl Refusal {
                 page.say(b" bytes, more than there is room for.\n");
             }
             Fault::Escape(at) => self.say_bad_escape(page, at, file.text),
-            fault => self.say_sentence(page, fault, file.text),
+            _ => self.say_sentence(page, fault, file.text),
         }
+        fault.has_place()
     }
 
     // A refusal with the line of the source that it is about: a bad escape is marked at its backslash, and where the bytes are not UTF-8, it is the line
     // up to there.
     pub fn tell(self, page: &mut Page, file: File) {
-        self.tell_in_a_line(page, file);
+        if !self.tell_in_a_line(page, file) {
+            return;
+        }
         let source = file.text;
         let start = self.start as usize;
         let end = self.end as usize;
         match self.fault() {
-            Fault::Setting | Fault::Long | Fault::Room(_) => {}
             Fault::Escape(at) => page.say_line(source, at, at.saturating_add(1)),
             Fault::Encoding => page.say_line(source.get(..start).unwrap_or(&[]), start, start),
             Fault::Lexeme(kind) if has_bad_line(kind) => {
