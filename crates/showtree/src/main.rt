@@ -13,8 +13,7 @@ use show::refusals::Refusal;
 use std::io;
 use std::process::ExitCode;
 use system::Source;
-use trees::links::Tree;
-use trees::tree::Entry;
+use trees::tree::{Entry, Tree};
 
 // One byte more than a source may have, so that a longer one is seen as longer.
 const SOURCE: usize = 65_001;

@@ -1,7 +1,7 @@
 // The image's records stand children first; a person reads a tree from its root. So the records are shown from the last on, by a stack of those
 // that wait. What a chain is made of is not indented further and far: the body of a `local` begins with `in`, and another operator, index or call
 // that is applied to what stands above it with `then`.
-use crate::links::{Record, Tree};
+pub use crate::links::{Record, Tree};
 use grammar::tags::Tag;
 use show::page::{Colour, Page};
 use show::records::byte;
@@ -332,6 +332,15 @@ impl<'a> View<'a> {
 }
 
 impl<'a> Tree<'a> {
+    pub fn record(&'a self, r: usize) -> Record<'a> {
+        Record {
+            tree: self,
+            index: r,
+            tag: self.tag(r),
+            payload: self.payload(r),
+        }
+    }
+
     // Whether a record is a value without children, and without lines of its own.
     fn is_small_value(&self, r: usize) -> bool {
         match self.tag(r) {
