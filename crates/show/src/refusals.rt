@@ -289,19 +289,31 @@ impl Refusal {
         }
     }
 
-    // The sentence of a fault that has a place.
-    fn say_sentence(self, page: &mut Page, fault: Fault, source: &[u8]) {
-        let start = self.start as usize;
-        let watched = if fault.is_of_phrase() { start } else { 0 };
-        let brackets = Brackets::before(source, watched);
-        page.say_place(source, start);
-        page.say(b": ");
+    // What is wrong, and what stands there.
+    fn say_fault(self, page: &mut Page, fault: Fault, source: &[u8]) {
+        fault.say(page);
+        page.say_there(fault, source, self.start as usize, self.end as usize);
+    }
+
+    // The same of a phrase, and what stands open there.
+    fn say_phrase(self, page: &mut Page, fault: Fault, source: &[u8]) {
+        let brackets = Brackets::before(source, self.start as usize);
         if let Fault::Wanted(kind) = fault {
             page.say_if(brackets.take_comma(kind), b"`,` or ");
         }
-        fault.say(page);
-        page.say_there(fault, source, start, self.end as usize);
+        self.say_fault(page, fault, source);
         brackets.say(page);
+    }
+
+    // The sentence of a fault that has a place.
+    fn say_sentence(self, page: &mut Page, fault: Fault, source: &[u8]) {
+        page.say_place(source, self.start as usize);
+        page.say(b": ");
+        if fault.is_of_phrase() {
+            self.say_phrase(page, fault, source);
+        } else {
+            self.say_fault(page, fault, source);
+        }
         page.say(b".\n");
     }
 

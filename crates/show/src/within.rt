@@ -1,5 +1,6 @@
 // What stands open before a place of a refused source, told from the kept lexemes before it: brackets, and which member of an object it is.
 use crate::page::Page;
+use crate::places::kept;
 use crate::records::byte;
 use arrayvec::ArrayVec;
 use lexemes::Lexeme;
@@ -9,11 +10,11 @@ use lexemes::kinds::Kind;
 // How many open brackets are noted. No phrase that is read stands so deep.
 const ROOM: usize = 512;
 
-// An open bracket, and what has stood in it so far.
+// An open bracket, and what has stood in it so far. Room for all is made at once, so it is short.
 #[derive(Clone, Copy, Default)]
 struct Bracket {
-    start: usize, // where it stands
-    member: Option<usize>, // where the current member of an object starts
+    start: u32, // where it stands
+    member: Option<u32>, // where the current member of an object starts
     awaits_member: bool, // whether the next lexeme starts a member
     has_clauses: bool, // whether a `for` has stood
     has_commas: bool, // whether commas stand between what it holds
@@ -113,7 +114,7 @@ impl<'a> Brackets<'a> {
     fn note_open(&mut self, l: Lexeme, last: u8, is_member: bool) {
         let is_object = l.kind == Kind::L_BRACE;
         let _ = self.open.try_push(Bracket {
-            start: l.start,
+            start: kept(l.start),
             member: None,
             awaits_member: is_object,
             has_clauses: false,
@@ -133,7 +134,7 @@ impl<'a> Brackets<'a> {
                 top.member = None;
                 top.awaits_member = top.is_object;
             }
-            _ if is_member => top.member = Some(l.start),
+            _ if is_member => top.member = Some(kept(l.start)),
             _ => {}
         }
     }
@@ -142,7 +143,7 @@ impl<'a> Brackets<'a> {
     pub fn take_comma(&self, wanted: u8) -> bool {
         match self.open.as_slice().last() {
             Some(top) if top.has_commas && !top.has_clauses => matches!(
-                (byte(self.source, top.start), wanted),
+                (byte(self.source, top.start as usize), wanted),
                 (b'{', Kind::R_BRACE) | (b'[', Kind::R_BRACK) | (b'(', Kind::R_PAREN)
             ),
             _ => false,
@@ -155,7 +156,7 @@ impl<'a> Brackets<'a> {
         let brackets = self.open.as_slice().iter().rev();
         brackets
             .filter_map(|bracket| bracket.member)
-            .find_map(|at| name_at(source, at))
+            .find_map(|at| name_at(source, at as usize))
     }
 
     // `, in the [ at LINE:COLUMN, in the field NAME at LINE:COLUMN`: the bracket that was opened last, and the innermost field.
@@ -164,10 +165,11 @@ impl<'a> Brackets<'a> {
         let Some(top) = self.open.as_slice().last() else {
             return;
         };
+        let start = top.start as usize;
         page.say(b", in the `");
-        page.say_byte(byte(source, top.start));
+        page.say_byte(byte(source, start));
         page.say(b"` at ");
-        page.say_place(source, top.start);
+        page.say_place(source, start);
         if let Some(name) = self.field() {
             page.say(b", in the field ");
             page.say_name(source.get(name.start..name.end).unwrap_or(&[]));
