@@ -74,9 +74,9 @@ pub fn find_places<'a>(source: &[u8], places: &'a mut [Place]) -> &'a [Place] {
     &places[..=source.len()]
 }
 
-// The byte at a place: the last one that comes by it. The places stand in their order.
+// The byte at a place: the last one that comes by it, before the first that does not.
 pub fn byte_at(places: &[Place], by: Place) -> usize {
-    let after = places.partition_point(|place| *place <= by);
+    let after = places.iter().take_while(|place| **place <= by).count();
     after.saturating_sub(1)
 }
 
