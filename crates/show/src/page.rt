@@ -14,6 +14,7 @@ pub enum Colour {
     Name,
     File, // a file's name
     Place,
+    Plain, // none
 }
 
 impl Colour {
@@ -25,6 +26,7 @@ impl Colour {
             Colour::Name => b"\x1b[36m",
             Colour::File => b"\x1b[1m",
             Colour::Place => b"\x1b[2m",
+            Colour::Plain => b"\x1b[0m",
         }
     }
 }
@@ -95,6 +97,6 @@ impl Page {
 
     // No colour from here on.
     pub fn plain(&mut self) {
-        self.say_if(self.colours, b"\x1b[0m");
+        self.paint(Colour::Plain);
     }
 }

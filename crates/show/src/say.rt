@@ -4,6 +4,7 @@ ghost use Rattle.std.specs.Prelude.{◌<◌, ◌≤◌, length};
 use crate::page::Page;
 use crate::short::Short;
 use crate::unseen::unseen_code;
+use std::io::AsBytes;
 
 // How deep lines are indented; beyond that a line begins with its depth.
 const INDENTED: usize = 24;
@@ -117,9 +118,9 @@ impl Page {
     }
 
     // One of some words, counted from 0.
-    pub fn say_word(&mut self, words: &[&str], n: u8) {
+    pub fn say_word<W: AsBytes>(&mut self, words: &[W], n: u8) {
         if let Some(word) = words.get(usize::from(n)) {
-            self.say(word.as_bytes());
+            self.say(word.as_byte_slice());
         }
     }
 
