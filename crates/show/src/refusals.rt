@@ -151,6 +151,7 @@ impl Fault {
 }
 
 // Where the shown part of a line begins: so many characters before the place, or with the line.
+// Kept by hand, and `shown_to`: `behind` and `ahead` of the line need its ends, which are sought over all of a long line for each place that is shown in it.
 fn shown_from(source: &[u8], at: usize) -> usize
     requires { at ≤ length source.now }
     ensures { result ≤ at }
