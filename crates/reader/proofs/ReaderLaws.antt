@@ -40,6 +40,7 @@ use Rattle.leaves.specs.declared.Refusal.{Refusal}
 use Rattle.leaves.specs.Meets.{Answer}
 use Rattle.leaves.specs.declared.Done.{Done}
 use Rattle.std.specs.Prelude.{Ok, Err}
+use Rattle.reader.specs.declared.Unread.{Unread}
 use Rattle.reader.specs.declared.Unread.TheVariants.{Setting, Long, Encoding, Lexeme, Wanted, Absent, Expression, Misplaced, Escape, Depth, Room, Large}
 use Rattle.leaves.proofs.LexemeLaws.{sees}
 use Rattle.reader.proofs.AnswerLaws.{fits-answer, fits-output, lacks_answer, lacks_output}
@@ -322,3 +323,19 @@ module _ {n : ℕ} (x : ℕ) (h : met_with n x ≡ true) where
       eqb-true n DEPTH
       (of_rows (eqb n TREE) (eqb n SETTING) (eqb n LONG) (eqb n ENCODING) (eqb n LEXEME) (eqb n DEPTH) (eqb x 0) (eqb n ROOM)
       (rw (ne_eqb n WANTED a, ne_eqb n ABSENT b, ne_eqb n EXPRESSION c, ne_eqb n MISPLACED d, ne_eqb n ESCAPE e, ne_eqb n LARGE l) at h))
+
+-- Only a tree has an image.
+pub no_image : (u : Unread) → 0 ≡ written (Err u)
+unfolding written numbers
+no_image Setting = refl
+no_image Long = refl
+no_image (Encoding n) = refl
+no_image (Lexeme a e k) = refl
+no_image (Wanted a e k) = refl
+no_image (Absent a e x) = refl
+no_image (Expression a e) = refl
+no_image (Misplaced a e x) = refl
+no_image (Escape a e x) = refl
+no_image (Depth a e) = refl
+no_image (Room n) = refl
+no_image (Large a e) = refl
