@@ -17,7 +17,7 @@ use Rattle.grammar.specs.Answer.{Answer}
 use Rattle.grammar.specs.Source.{Reads01}
 use Rattle.leaves.proofs.PartLaws.{lent}
 use Rattle.reader.specs.Five.{five}
-use Rattle.night.specs.Night.{LISTS, begins, stops, file, size_of, answer_of, Cuts, Fit, Night, unfit}
+use Rattle.night.specs.Night.{LISTS, begins, stops, file, size_of, answer_of, Cuts, Fit, Each, Night, unfit}
 use Rattle.night.proofs.Parts.{part-before, part_itself}
 
 -- ── Ends that cut a buffer ────────────────────────────────────────────────────────────────────────
@@ -144,7 +144,25 @@ pub record Reached (setting : ℕ) (sources ends parts out₀ answers₀ out ans
   pub same_count : length answers ≡ length answers₀
   pub read : (k : ℕ) → k < i → Reads01 setting (file ends sources k) (size_of parts k) (answer_of answers k) (file parts out k)
 
+pub reached_first : {setting : ℕ} {sources ends parts out answers : List ℕ} → Fit ends (length sources) parts (length out) (length answers)
+    → Reached setting sources ends parts out answers out answers 0 0 0 0
+reached_first f =
+    record {
+      fit = f;
+      more = omega arith;
+      from_is = refl;
+      part_is = refl;
+      place_is = refl;
+      same_room = refl;
+      same_count = refl;
+      read = λ k h. absurd (omega (arith, h));
+    }
+
 module _ {setting : ℕ} {sources ends parts out₀ answers₀ out answers : List ℕ} {from part place i : ℕ} (r : Reached setting sources ends parts out₀ answers₀ out answers from part place i) where
+  -- the last turn leaves every file read
+  pub reached_all : length ends ≤ i → Each setting sources ends parts out answers
+  reached_all h = record { single = λ k b. r.read k (omega (arith, b, h)) }
+
   module _ (below : i < length ends) where
     pub source-forward : from ≤ stops ends i
     source-forward = omega (arith, r.from_is, r.fit.sources.forward i below)
