@@ -18,6 +18,7 @@ use Rattle.json_import.specs.Inner.{Blanks}
 use Rattle.json_import.specs.Leaves.{Goes, Ready}
 use Rattle.json_import.specs.Steps.{row, Opened, an_array, an_object, OpensTo, NextTo, Standing, OpenNext, EndedTo, whole_text, left_over, ParsedTo, parsed}
 use Rattle.std.specs.Prelude.{Ok, Err}
+use Rattle.json_import.specs.declared.Place.{Place}
 use Rattle.json_import.specs.declared.Open.{Open}
 use Rattle.json_import.specs.declared.Fault.{Fault}
 use Rattle.json_import.specs.declared.Step.{Step}
@@ -111,11 +112,17 @@ module _ {s out₀ out : List ℕ} {stack : List Open} {depth at w : ℕ} (x : W
   pub wanted_broken : {f : Fault} {out₁ : List ℕ} → OpensTo s out (λ gs. length gs ≡ depth) want at w (Err f) out₁ → ParsedTo s out₀ (Err f) out₁
   wanted_broken {f} (OpensTo.broken comes) = ParsedTo.broken {f = f} (goes_comes f x.reached.goes (comes x.frames (stacked_length x.stacked)))
 
-  pub wanted_on : {r : Step} {out₁ : List ℕ} → length stack ≡ 200 → OpensTo s out (λ gs. length gs ≡ depth) want at w (Ok r) out₁ → Going s out₀ stack out₁ depth r
-  unfolding rows
-  wanted_on l (OpensTo.whole t one on within room goes put) =
+  pub wanted_whole : {p : Place} {out₁ : List ℕ} → OpensTo s out (λ gs. length gs ≡ depth) want at w (Ok (Whole p)) out₁ → Stood s out₀ stack out₁ depth p.at p.written
+  wanted_whole (OpensTo.whole t one on within room goes put) =
       stood x.frames t x.below (stacked_later on x.stacked) one
       (record { within = within; room = room; goes = goes_on x.reached.goes (goes x.frames (stacked_length x.stacked)); wrote = and_then x.reached.wrote put })
+
+  pub enter_below : {p : Place} {o : Open} {out₁ : List ℕ} → OpensTo s out (λ gs. length gs ≡ depth) want at w (Ok (Within p o)) out₁ → depth < 200
+  enter_below (OpensTo.enter f on within unblank room opened below goes put) = omega (arith, below x.frames (stacked_length x.stacked), stacked_length x.stacked)
+
+  pub wanted_on : {r : Step} {out₁ : List ℕ} → length stack ≡ 200 → OpensTo s out (λ gs. length gs ≡ depth) want at w (Ok r) out₁ → Going s out₀ stack out₁ depth r
+  unfolding rows
+  wanted_on l (OpensTo.whole {p} t one on within room goes put) = wanted_whole (OpensTo.whole {p = p} t one on within room goes put)
   wanted_on l (OpensTo.enter {o = o} f on within unblank room opened below goes put) =
       let h : depth < 200 = omega (arith, below x.frames (stacked_length x.stacked), stacked_length x.stacked) in (
         h,
@@ -141,6 +148,12 @@ of_the_open {out₀} {out₁ = out₁} {bytes = bytes} {w₁ = w₁} f fs t befo
 
 module _ {s out₀ out out₁ : List ℕ} {stack : List Open} {depth d at w : ℕ} (f : Frame) (fs : List Frame) (t : Trees) (k : depth ≡ d + 1) (h : depth ≤ 200) (under : Stacked stack at d fs)
     (x : Reached s out₀ out (after t (f ∷ fs)) (rows (f ∷ fs) ++ image t) at w) where
+  next_stood : {p : Place} → NextTo s out (λ gs. after t (f ∷ gs)) (row f ++ image t) at w (Ok (Whole p)) out₁ → Stood s out₀ stack out₁ (depth - 1) p.at p.written
+  next_stood {p} (NextTo.closed u bytes one on within room goes is put) =
+      let same : d ≡ depth - 1 = omega (arith, k) in
+      stood fs u (omega (arith, h)) (subst (λ (n : ℕ). Stacked stack p.at n fs) same (stacked_later (omega (arith, on)) under)) one
+      (record { within = within; room = room; goes = goes_on x.goes (goes fs); wrote = of_the_open f fs t x.wrote put is })
+
   next_on : {r : Step} → length stack ≡ 200 → NextTo s out (λ gs. after t (f ∷ gs)) (row f ++ image t) at w (Ok r) out₁ → Going s out₀ stack out₁ (depth - 1) r
   unfolding rows
   next_on l (NextTo.again {p} {o} g bytes on within unblank room opened goes is put) =
@@ -154,10 +167,7 @@ module _ {s out₀ out out₁ : List ℕ} {stack : List Open} {depth d at w : �
           reached = record { within = within; room = room; goes = goes_on x.goes (goes fs); wrote = of_the_open f fs t x.wrote put is };
         },
       )
-  next_on l (NextTo.closed {p} u bytes one on within room goes is put) =
-      let same : d ≡ depth - 1 = omega (arith, k) in
-      stood fs u (omega (arith, h)) (subst (λ (n : ℕ). Stacked stack p.at n fs) same (stacked_later (omega (arith, on)) under)) one
-      (record { within = within; room = room; goes = goes_on x.goes (goes fs); wrote = of_the_open f fs t x.wrote put is })
+  next_on l (NextTo.closed {p} u bytes one on within room goes is put) = next_stood (NextTo.closed {p = p} u bytes one on within room goes is put)
 
   next_broken : {i : Fault} → NextTo s out (λ gs. after t (f ∷ gs)) (row f ++ image t) at w (Err i) out₁ → ParsedTo s out₀ (Err i) out₁
   next_broken {i} (NextTo.broken comes) = ParsedTo.broken {f = i} (goes_comes i x.goes (comes fs))
@@ -192,6 +202,11 @@ module _ {s out₀ out : List ℕ} {stack : List Open} {depth at w : ℕ} where
     pub stood_on : {r : Step} {out₁ : List ℕ} → length stack ≡ 200 → Stood s out₀ stack out depth at w → OpenNext s out at w (get_or stack (depth - 1) z) (Ok r) out₁ → Going s out₀ stack out₁ (depth - 1) r
     stood_on l (stood [] t h (empty k) one x) v = absurd (n k)
     stood_on l (stood (f ∷ fs) t h (above {d = d} o k is opened under) one x) v = next_on f fs t k h under x l (v.next f t (entry_is stack d z k is opened) one)
+
+    pub stood_closed : {p : Place} {out₁ : List ℕ} → Stood s out₀ stack out depth at w → OpenNext s out at w (get_or stack (depth - 1) z) (Ok (Whole p)) out₁
+        → Stood s out₀ stack out₁ (depth - 1) p.at p.written
+    stood_closed (stood [] t h (empty k) one x) v = absurd (n k)
+    stood_closed (stood (f ∷ fs) t h (above {d = d} o k is opened under) one x) v = next_stood f fs t k h under x (v.next f t (entry_is stack d z k is opened) one)
 
     pub stood_broken : {i : Fault} {out₁ : List ℕ} → Stood s out₀ stack out depth at w → OpenNext s out at w (get_or stack (depth - 1) z) (Err i) out₁ → ParsedTo s out₀ (Err i) out₁
     stood_broken (stood [] t h (empty k) one x) v = absurd (n k)
