@@ -2,15 +2,15 @@
 -- Assumes nothing.
 use mathlib.Core.Path.{◌≡◌, refl, sym, ap, subst, ◌∙◌}
 use mathlib.Core.Bool.{Bool, true, false}
-use mathlib.Core.List.{List}
+use mathlib.Core.List.{List, [], ◌∷◌}
 use Prim.Native.Nat.{ℕ, ◌+◌, ◌-◌, ◌*◌, ◌≤◌, ◌<◌}
 use native.Mathlib.Omega.{arith}
 use lib.ListN.{length, get_or}
-use Rattle.grammar.specs.Tags.{FIELD}
+use Rattle.grammar.specs.Tags.{STRING, FIELD}
 use Rattle.grammar.specs.Trees.{Field, byte, number, span, text, Trees, tree, node, ◌⊕◌, count}
 use Rattle.grammar.specs.Trees as trees
 use Rattle.grammar.specs.Image.{image}
-use Rattle.grammar.proofs.ImageLaws.{row_assoc, row_end}
+use Rattle.grammar.proofs.ImageLaws.{row_assoc, row_end, image-length}
 use Rattle.images.specs.Images.{records}
 use Rattle.images.proofs.RootLaws.{no_true}
 use Rattle.images.proofs.RowLaws.{records-row}
@@ -127,7 +127,7 @@ leaves_more n l a e (Raises.later m x) = l a e x
 spot_kept : {bytes name : List ℕ} {o : Option ℕ} {tag : ℕ} {fields : List Field} {children ts : Trees} → ((a e : ℕ) → FixedPlus name a e tag fields children → ⊥) → Spot bytes name ts o
     → Spot bytes name (node tag fields children ts) o
 spot_kept n (Spot.nowhere l) = Spot.nowhere (leaves_more n l)
-spot_kept n (Spot.at i x) = Spot.at i (Raises.later n x)
+spot_kept n (Spot.at h i x) = Spot.at h i (Raises.later n x)
 
 pub undecided_less : {tag : ℕ} {fields : List Field} {children ts : Trees} → (ComputedPlus tag fields → ⊥) → Undecided (node tag fields children ts) → Undecided ts
 undecided_less n (Undecided.here x) = absurd (n x)
@@ -145,13 +145,17 @@ read_span : {bytes name : List ℕ} {at a e : ℕ} {fields : List Field} {childr
     → (at + 13 ≤ length bytes) × (two_at bytes (at + 3) ≡ a) × (two_at bytes (at + 5) ≡ e)
 read_span fixed_plus (face i x y c p s) = (i, x, y)
 
-face_raises : {bytes name : List ℕ} {at a e : ℕ} {fields : List Field} {children : Trees} (ts : Trees) → FixedPlus name a e FIELD fields children → Face bytes at fields children
+face_raises : {bytes name : List ℕ} {at a e : ℕ} {fields : List Field} {children : Trees} (ts : Trees) → 0 < at → FixedPlus name a e FIELD fields children → Face bytes at fields children
     → Spot bytes name (node FIELD fields children ts) (Some at)
-face_raises {bytes} {name} {at} {a} {fields = fields} {children} ts x f =
+face_raises {bytes} {name} {at} {a} {fields = fields} {children} ts z x f =
     let r = read_span x f in
-    Spot.at (omega (arith, r.0))
+    Spot.at z (omega (arith, r.0))
     (subst (λ (b : ℕ). Raises name (node FIELD fields children ts) b (two_at bytes (at + 5))) (sym r.1)
     (subst (λ (g : ℕ). Raises name (node FIELD fields children ts) a g) (sym r.2) (Raises.first x)))
+
+-- No field stands at 0.
+past_name : {name : List ℕ} {a e tag : ℕ} {fields : List Field} {children : Trees} → FixedPlus name a e tag fields children → 0 < length (image children)
+past_name {name} (fixed_plus {value = value}) = omega (arith, image-length STRING (text name ∷ []) trees.none value)
 
 spot_here : {bytes array name : List ℕ} {n a e tag : ℕ} {fields : List Field} {children ts : Trees} → Root bytes array n tag fields children → FixedPlus name a e tag fields children
     → Spot bytes name (node tag fields children ts) (Some (get_or array (n * 2) 0))
@@ -159,7 +163,7 @@ spot_here {bytes} {array} {name} {n} {a} {e} {tag} {fields} {children} {ts} r x 
     let at = get_or array (n * 2) 0 in
     let q : FIELD ≡ tag = sym (fixed_tag x) in
     subst (λ (t : ℕ). Spot bytes name (node t fields children ts) (Some at)) q
-    (face_raises ts (subst (λ (t : ℕ). FixedPlus name a e t fields children) (sym q) x) (field_face (as_field r (tag_read r ∙ fixed_tag x))))
+    (face_raises ts (omega (arith, (seen r).offset, past_name x)) (subst (λ (t : ℕ). FixedPlus name a e t fields children) (sym q) x) (field_face (as_field r (tag_read r ∙ fixed_tag x))))
 
 module _ {bytes array : List ℕ} {n tag : ℕ} {fields : List Field} {children ts : Trees} (r : Root bytes array n tag fields children) {undecided : Bool} {mass depth : Option ℕ}
     (s : SumsUp bytes ts undecided mass depth) where

@@ -37,7 +37,7 @@ pub spot_none : {bytes name : List ℕ} {ts : Trees} → Spot bytes name ts None
 spot_none (Spot.nowhere l) = l
 
 pub spot_some : {bytes name : List ℕ} {ts : Trees} {o : ℕ} → Spot bytes name ts (Some o) → (o + 6 < length bytes) × Raises name ts (two_at bytes (o + 3)) (two_at bytes (o + 5))
-spot_some (Spot.at i x) = (i, x)
+spot_some (Spot.at h i x) = (i, x)
 
 -- ── Its listing ───────────────────────────────────────────────────────────────────────────────────
 

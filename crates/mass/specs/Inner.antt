@@ -69,10 +69,10 @@ plus own (Some Mass) at = record { undecided = own.undecided; mass = Some at; de
 plus own (Some Depth) at = record { undecided = own.undecided; mass = own.mass; depth = Some at }
 plus own (Some Computed) at = record { undecided = true; mass = own.mass; depth = own.depth }
 
--- A field by its record's offset.
+-- A field by its record's offset, which is never 0, its name standing before it.
 pub data Spot (bytes : List ℕ) (name : List ℕ) (members : Trees) : Option ℕ → Type 0 where
   nowhere : Leaves name members → Spot bytes name members None
-  at : {o : ℕ} → o + 6 < length bytes → Raises name members (two_at bytes (o + 3)) (two_at bytes (o + 5)) → Spot bytes name members (Some o)
+  at : {o : ℕ} → 0 < o → o + 6 < length bytes → Raises name members (two_at bytes (o + 3)) (two_at bytes (o + 5)) → Spot bytes name members (Some o)
 
 pub record SumsUp (bytes : List ℕ) (members : Trees) (undecided : Bool) (mass depth : Option ℕ) : Type 0 where
   pub if_so : undecided ≡ true → Undecided members

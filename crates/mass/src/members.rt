@@ -16,7 +16,8 @@ pub enum Added {
     Computed,
 }
 
-// What all members of an object add: whether any is computed, and the first field of each name by its offset.
+// What all members of an object add: whether any is computed, and the first field of each name by its offset. No field stands at 0, since its name stands before
+// it.
 #[derive(Clone, Copy)]
 pub struct Own {
     pub undecided: bool,
