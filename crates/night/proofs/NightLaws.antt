@@ -69,6 +69,10 @@ compared ends size from i l e all =
 pub unsorted : (ends : List ℕ) (size : ℕ) → (k : ℕ) × (k + 1 < length ends) × ((d : ℕ) → get_or ends (k + 1) d < get_or ends k d) → Tests false (Cuts ends size)
 unsorted ends size h = backward ends size (h.0 + 1) h.1 (omega (arith, h.2 0, next-begins ends h.0))
 
+-- the same of whatever is false then
+pub unsorted_told : (ends : List ℕ) (size : ℕ) {r : Bool} → (k : ℕ) × (k + 1 < length ends) × ((d : ℕ) → get_or ends (k + 1) d < get_or ends k d) → r ≡ false → Tests r (Cuts ends size)
+unsorted_told ends size h e = rw e (unsorted ends size h)
+
 pub rising : (ends : List ℕ) (size last : ℕ) → IsNonDecreasing ends → last ≡ begins ends (length ends) → Tests (eqb last size) (Cuts ends size)
 rising ends size last s e = compared ends size last (length ends) refl e forward
   where
