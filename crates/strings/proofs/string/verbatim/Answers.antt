@@ -1,4 +1,4 @@
-use Rattle.std.proofs.Common.{arith}
+use Rattle.std.proofs.Common.{length, ◌<◌, arith}
 use Rattle.strings.specs.Literals.Verbatim.{end}
 use Rattle.strings.proofs.Walk.{ended}
 use Rattle.strings.proofs.Steps.{verbatim-plain, verbatim-two, verbatim_one}
@@ -8,11 +8,12 @@ use Rattle.strings.proofs.string.verbatim.Goals.{then-b-quote+then-doubled, else
 pub loop-at-preserved : goal.loop-at-preserved
 loop-at-preserved c =
     let walk = c.loop-at.invariant in
+    let more : c.loop-at.at < length c.args.s.now = omega (arith, c.loop-at-test.true) in
     elim c.if-b-quote.branch [
-      | then-b-quote+then-doubled w ↦ rw w.at-is (verbatim-two walk c.loop-at-test.true _ c.put.ensures w.if-b-quote.true (rw w.if-doubled.true at w.doubled.ensures))
+      | then-b-quote+then-doubled w ↦ rw w.at-is (verbatim-two walk more _ c.put.ensures w.if-b-quote.true (rw w.if-doubled.true at w.doubled.ensures))
       | else-b-quote w ↦ rw w.at-is (elim w.else-b-quote.branch [
-        | else-b-quote-via-then-b-quote+else-doubled v ↦ verbatim_one walk c.loop-at-test.true _ c.put.ensures v.if-b-quote.true (rw v.if-doubled.false at v.doubled.ensures)
-        | else-b-quote-via-else-b-quote v ↦ verbatim-plain walk c.loop-at-test.true _ c.put.ensures v.if-b-quote.false
+        | else-b-quote-via-then-b-quote+else-doubled v ↦ verbatim_one walk more _ c.put.ensures v.if-b-quote.true (rw v.if-doubled.false at v.doubled.ensures)
+        | else-b-quote-via-else-b-quote v ↦ verbatim-plain walk more _ c.put.ensures v.if-b-quote.false
       ])
     ]
 
