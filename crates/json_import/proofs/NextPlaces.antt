@@ -141,6 +141,12 @@ module _ {s out : List ℕ} {at w n : ℕ} (x : Behind s at w n) where
   object_named k y (NamedTo.broken {f} comes) =
       record { next = λ ts t v a z c. NextTo.broken {f = f} (λ fs. goes_comes f (to_name k y ts t v a z fs) (comes (ts ⊕ field v a z t) fs)) }
 
+  -- The same of the byte that the code has read.
+  pub object_next :
+      {b r : ℕ} {st : Result Step Fault} {out₁ : List ℕ} →
+      b ≡ get_or s at 0 → b ≡ 0x2C → Blanks s (at + 1) r → NamedTo s out r w n st out₁ → ObjectNext s out at w n st out₁
+  object_next e k y v = object_named (sym e ∙ k) y v
+
   pub object-closed : {p : Place} {out₁ : List ℕ} → get_or s at 0 ≡ 0x7D → p.at ≡ at + 1 → Wrote out w (entry MEMBERS (number n ∷ [])) p.written out₁ → ObjectNext s out at w n (Ok (Whole p)) out₁
   unfolding count
   object-closed {p} k q put =

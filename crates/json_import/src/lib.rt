@@ -250,6 +250,7 @@ fn within_array(text: &[u8], out: &mut [u8], from: Place, count: usize) -> Resul
 }
 
 // A field is whole within an object: the next name, or the object's end.
+#[tactic(auto, using(crate::proofs::NextPlaces::object_next))]
 fn within_object(text: &[u8], out: &mut [u8], from: Place, count: usize) -> Result<Step, Fault>
     requires { Behind text.now from.at from.written count }
     ensures { ObjectNext text.now out.old from.at from.written count result out.new }

@@ -1,11 +1,8 @@
 -- `within_object`: a comma and a name, a brace, or neither.
 -- Assumes nothing.
 use Rattle.std.proofs.Common.{arith, sym, ◌∙◌}
-use Rattle.json_import.proofs.NextPlaces.{object_named, object-closed, object_stuck}
+use Rattle.json_import.proofs.NextPlaces.{object-closed, object_stuck}
 use Rattle.json_import.proofs.within_object.Goals as goal
-
-pub returns-in-44 : goal.returns-in-44
-returns-in-44 c = object_named c.requires (sym c.peek.ensures ∙ c.in-44.is) c.blanks-at.ensures c.named.ensures
 
 pub returns-in-125 : goal.returns-in-125
 returns-in-125 c = object-closed c.requires (sym c.peek.ensures ∙ c.in-125.is) c.closed.ensures.0 c.closed.ensures.1
