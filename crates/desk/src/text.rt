@@ -33,7 +33,8 @@ impl List<'_, u8> {
         ensures { length self.new.room.now ≡ length self.old.room.now }
     {
         for b in bytes {
-            self.extend(&[DIGITS[usize::from(*b / 16)], DIGITS[usize::from(*b % 16)]]);
+            self.push(DIGITS[usize::from(*b / 16)]);
+            self.push(DIGITS[usize::from(*b % 16)]);
         }
         self.extend(b"\n");
     }
