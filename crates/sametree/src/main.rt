@@ -38,7 +38,8 @@ fn is_good(rt: &HostRuntime, name: &[u8], source: &[u8]) -> bool {
 fn take<'a>(rt: &HostRuntime, word: &'a [u8], buffer: &'a mut [u8]) -> Option<File<'a>> {
     let name = files::name_of(word);
     match files::read(rt, word, buffer) {
-        Ok(text) => is_good(rt, name, text).then_some(File { name, text }),
+        // where the files part, each is called by its word
+        Ok(text) => is_good(rt, name, text).then_some(File { name: word, text }),
         Err(error) => {
             system::fail(rt, name, error);
             None
