@@ -1,6 +1,6 @@
 -- How far a string has come: the invariant of its loop, and what it ends in.
 -- Assumes nothing.
-use mathlib.Core.Path.{◌≡◌, refl, ap, ◌∙◌}
+use mathlib.Core.Path.{◌≡◌, refl, sym, ap, subst, ◌∙◌}
 use mathlib.Core.Bool.{Bool, true, false}
 use mathlib.Core.List.{List, [], ◌∷◌, ◌++◌}
 use Prim.Native.Nat.{ℕ, ◌+◌, ◌≤◌, ◌<◌}
@@ -19,12 +19,12 @@ use Rattle.json_import.specs.Tokens.{is_plain}
 use Rattle.json_import.specs.Json.{NOT_JSON}
 use Rattle.json_import.specs.Machine.{Frame, Use, Escape, slash, chars, escape, closed, step, finish}
 use Rattle.json_import.specs.Inner.{Leads, EscapeTo, code, stops, StringTo, string, cut}
-use Rattle.std.specs.Prelude.{Ok, Err}
+use Rattle.std.specs.Prelude.{Result, Ok, Err}
 use Rattle.json_import.specs.declared.text.Escaped.{Escaped}
 use Rattle.json_import.specs.declared.Fault.{Fault}
 use Rattle.json_import.specs.declared.Fault.TheVariants.{NotJson}
 use Rattle.json_import.proofs.Escapes.{plain_step, other_step, slash_step}
-use Rattle.json_import.proofs.Places.{leads_here, leads_on, leads_stick, one_on, sticks_here}
+use Rattle.json_import.proofs.Places.{byte_inside, leads_here, leads_on, leads_stick, one_on, sticks_here}
 
 pub wrote_size : {out out₁ bytes : List ℕ} {w w₁ : ℕ} → Wrote out w bytes w₁ out₁ → length out₁ ≡ length out
 wrote_size {out} {out₁} {bytes} {w} x = ap length x.stored ∙ length-sets out w bytes
@@ -110,6 +110,19 @@ module _ {s out₀ out : List ℕ} {at w i n : ℕ} (x : CharsSoFar s out₀ at 
           stored = v.stored ∙ ap (λ (l : ℕ). sets out w (STRING ∷ two l)) k ∙ ap (λ (l : List ℕ). sets l w (STRING ∷ two (length x.read))) x.stored
               ∙ head_last out₀ w (STRING ∷ two (length x.read)) x.read;
         })
+
+-- The backslash is the byte that the code has read, and an escape's answer is one or the other.
+module _ {s out₀ out : List ℕ} {at w i n b : ℕ} {r : Result Escaped Fault} where
+  pub string_stops : {f : Fault} {out₁ : List ℕ} → CharsSoFar s out₀ at w i n out → b ≡ get_or s i 0 → b ≡ 0x5C → EscapeTo s slash 1 (i + 1) r → r ≡ Err f → StringTo s out₀ at w (Err f) out₁
+  string_stops x p q y k =
+      let there = sym p ∙ q in
+      chars_stops x (byte_inside s i (λ z. omega (arith, z, there))) _ there (subst (λ r. EscapeTo s slash 1 (i + 1) r) k y)
+
+  pub string_goes_on : {e : Escaped} {out₁ : List ℕ} {m : ℕ} → CharsSoFar s out₀ at w i n out → b ≡ get_or s i 0 → b ≡ 0x5C → EscapeTo s slash 1 (i + 1) r → r ≡ Ok e → out₁ ≡ sets out n (utf8 e.code)
+      → m ≡ n + length (utf8 e.code) → CharsSoFar s out₀ at w e.end m out₁
+  string_goes_on x p q y k put to =
+      let there = sym p ∙ q in
+      chars_escape x (byte_inside s i (λ z. omega (arith, z, there))) _ _ _ there (subst (λ r. EscapeTo s slash 1 (i + 1) r) k y) put to
 
 pub found_code : {s : List ℕ} {x : Escape} {k at : ℕ} {e : Escaped} → EscapeTo s x k at (Ok e) → (e.code < 0x110000) × (at < e.end)
 found_code (code on within below short leads) = (below, on)

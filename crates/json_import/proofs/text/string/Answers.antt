@@ -3,7 +3,7 @@
 use Rattle.std.proofs.Common.{◌≡◌, ◌<◌, false, length, get_or, sym, arith, ◌∙◌}
 use Rattle.json_import.specs.Tokens.{is_plain}
 use Rattle.json_import.proofs.Places.{err_out, byte_inside}
-use Rattle.json_import.proofs.StringPlaces.{chars_start, chars_plain, chars_closed, chars_stops, chars_escape, chars_stuck}
+use Rattle.json_import.proofs.StringPlaces.{chars_start, chars_plain, chars_closed, string_stops, string_goes_on, chars_stuck}
 use Rattle.json_import.proofs.text.string.Goals as goal
 use Rattle.json_import.proofs.text.string.Goals.{then-loop-i-2-test+else-is_plain, else-loop-i-2-test}
 
@@ -20,15 +20,10 @@ returns-in-34 c =
     chars_closed x (byte_inside c.args.text.now c.loop-i-2.i (λ z. omega (arith, z, quote))) _ _ _ quote (omega (arith, x.count)) c.put_head.ensures
 
 pub returns-in_err-code-in-92 : goal.returns-in_err-code-in-92
-returns-in_err-code-in-92 c =
-    let slash = sym c.peek.ensures ∙ c.in-92.is in
-    rw (err_out c.from_residual.ensures.1) (chars_stops c.loop-i-2.invariant.0 (byte_inside c.args.text.now c.loop-i-2.i (λ z. omega (arith, z, slash))) _ slash c.in_err-code-in-92.ensures)
+returns-in_err-code-in-92 c = rw (err_out c.from_residual.ensures.1) (string_stops c.loop-i-2.invariant.0 c.peek.ensures c.in-92.is c.escape.ensures (grind arith))
 
 pub loop-i-preserved : goal.loop-i-preserved
-loop-i-preserved c =
-    let slash = sym c.peek.ensures ∙ c.in-92.is in
-    chars_escape c.loop-i-2.invariant.0 (byte_inside c.args.text.now c.loop-i-2.i (λ z. omega (arith, z, slash))) _ _ _ slash c.in_ok-code-in-92.ensures c.put_code-n.ensures.0
-    c.put_code-n.ensures.1
+loop-i-preserved c = grind (arith, string_goes_on)
 
 pub returns-in_default : goal.returns-in_default
 returns-in_default c =
