@@ -87,7 +87,7 @@ fn skip_blanks(source: &[u8], from: usize) -> usize
     skip(source, from, |b| matches!(b, b' ' | b'\t'))
 }
 
-// An indent of so many bytes is compared byte by byte: what `starts_with` takes to begin costs more than that.
+// An indent of up to so many bytes is compared byte by byte: what `starts_with` takes to begin costs more than that.
 const SHORT: usize = 4;
 
 // Whether the line at i starts with the indent, which stands from first to content.

@@ -1,13 +1,12 @@
 -- Laws of writing: two writings one after the other, a head written after its payload, and a copy byte by byte.
 -- Assumes nothing.
 use mathlib.Core.Path.{◌≡◌, refl, sym, ap, subst, ◌∙◌}
-use mathlib.Core.List.{List, [], ◌∷◌, ◌++◌, append_assoc}
-use Prim.Native.Nat.{ℕ, zero, suc, ◌+◌, ◌-◌, ◌≤◌, ◌<◌}
+use mathlib.Core.List.{List, [], ◌∷◌, ◌++◌}
+use Prim.Native.Nat.{ℕ, zero, suc, ◌+◌, ◌≤◌, ◌<◌}
 use native.Mathlib.Omega.{arith}
 use native.Mathlib.Numerals.{add-one}
-use borrow.Rule.Slice.PartMut.{put_mid}
-use lib.ListN.{length, get_or, set, take, drop, length-append}
-use lib.Seq.{sets, sets-eq, set_out, length-take-le, take-suc, drop-drop}
+use lib.ListN.{length, get_or, set, take, length-append}
+use lib.Seq.{sets, set_out, length-take-le, take-suc}
 use Rattle.strings.proofs.Stores.{sets_append}
 use Rattle.grammar.specs.Image.{two}
 use Rattle.grammar.specs.Writing.{Wrote}
@@ -59,11 +58,3 @@ head_last out w (x ∷ head) bs =
     ap (λ (l : List ℕ). sets l (suc w) head) (sym (store_first out (w + suc (length head)) w x bs (omega arith)))
     ∙ ap (λ (n : ℕ). sets (sets (set out w x) n bs) (suc w) head) (omega arith)
     ∙ head_last (set out w x) (suc w) head bs
-
--- A text that has room, put in the place of what stood there.
-pub pasted : (out : List ℕ) (w : ℕ) (s : List ℕ) → w + length s ≤ length out → put_mid w (w + length s - w) out s ≡ sets out w s
-pasted out w s h =
-    let here : w + (w + length s - w) ≡ w + length s = omega arith in
-    ap (λ (r : List ℕ). take w out ++ (s ++ r)) (drop-drop (w + length s - w) w out ∙ ap (λ (k : ℕ). drop k out) here)
-    ∙ sym (append_assoc (take w out) s (drop (w + length s) out))
-    ∙ sym (sets-eq s out w h)

@@ -98,7 +98,7 @@ pub data LaidOut : Trees → Type 0 where
   node : {tag : ℕ} {fields : List Field} {children ts : Trees} → Tells (layout_of tag) fields (size children) → LaidOut children → LaidOut ts
       → LaidOut (trees.node tag fields children ts)
 
--- ── The same in numbers, for the code (src/layout.rt) ─────────────────────────────────────────────
+-- ── The same in numbers, by which `images` says what it takes of a payload ────────────────────────
 
 unfoldable pub code : Part → ℕ
 code place = 1

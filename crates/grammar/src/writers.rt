@@ -55,7 +55,8 @@ fn put_some(out: &mut [u8], w: usize, s: &[u8]) -> usize
     w + s.len()
 }
 
-// The bytes of `s`, and nearly always there is room for all.
+// The bytes of `s`, and nearly always there is room for all. They are stored one by one: a copy of a slice would be a call of `memmove`, which who
+// links the archive for C would have to bring.
 fn put_text(out: &mut [u8], w: usize, s: &[u8]) -> usize
     requires { (w < 2 ^ 60) × (length s.now < 2 ^ 16) }
     ensures { Wrote out.old w s.now result out.new }
@@ -63,9 +64,10 @@ fn put_text(out: &mut [u8], w: usize, s: &[u8]) -> usize
     if out.len() < w + s.len() {
         return put_some(out, w, s);
     }
-    let next = w + s.len();
-    out[w..next].copy_from_slice(s);
-    next
+    for (i, b) in s.iter().enumerate() {
+        out[w + i] = *b;
+    }
+    w + s.len()
 }
 
 // A record's tag and the length of its payload.

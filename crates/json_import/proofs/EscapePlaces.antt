@@ -13,7 +13,7 @@ use Rattle.strings.proofs.Utf8Laws.{utf8_1, utf8_size}
 use Rattle.json_import.specs.Tokens.{Letter, quotation_mark, reverse_solidus, solidus, backspace, form_feed, line_feed, return, tab}
 use Rattle.json_import.specs.Machine.{slash, u_none, u_one, u_two, u_three, high, high_slash, high_u, low_one, low_two, low_three, chars, meant, hex, escaped}
 use Rattle.json_import.specs.Inner.{EscapeTo}
-use Rattle.std.specs.Prelude.{Option, Some, None, Result, Ok, Err}
+use Rattle.std.specs.Prelude.{Some, None, Result, Ok, Err}
 use Rattle.json_import.specs.declared.text.Escaped.{Escaped}
 use Rattle.json_import.specs.declared.Fault.{Fault}
 use Rattle.json_import.specs.declared.Fault.TheVariants.{NotJson}

@@ -2,7 +2,7 @@
 -- Assumes nothing.
 use mathlib.Core.Path.{◌≡◌, refl, sym, ap, subst, subst⁻¹, ◌∙◌}
 use mathlib.Core.Bool.{Bool, true, false, true≢false}
-use mathlib.Core.List.{List, [], ◌∷◌, ◌++◌}
+use mathlib.Core.List.{List, [], ◌∷◌, ◌++◌, append-nil}
 use Prim.Native.Nat.{ℕ, zero, suc, ◌+◌, ◌*◌, ◌-◌, ◌/◌, ◌%◌, ◌≤◌, ◌<◌}
 use native.Mathlib.Omega.{arith}
 use native.Mathlib.Numerals.{add-one}
@@ -10,11 +10,12 @@ use borrow.Author.Count.{below_more}
 use borrow.Rule.Slice.PartMut.{same_len_mid}
 use borrow.Author.Tests.{eqb-true, eq-eqb}
 use lib.Dec.{eqb}
-use lib.ListN.{length, get_or, take, drop, replicate}
-use lib.Seq.{slice, length-slice}
+use lib.ListN.{length, get_or, set, take, drop, replicate, drop_of_length-le}
+use lib.Seq.{sets, sets-eq, take_all, slice, length-slice}
 use Rattle.std.specs.List.Sorted.{IsNonDecreasing}
 use Rattle.grammar.specs.Answer.{Answer}
 use Rattle.grammar.specs.Source.{Reads01}
+use Rattle.grammar.proofs.WritingLaws.{copied}
 use Rattle.leaves.proofs.PartLaws.{lent}
 use Rattle.reader.specs.Five.{five}
 use Rattle.night.specs.Night.{LISTS, begins, stops, file, size_of, answer_of, Cuts, Fit, Each, Night, unfit}
@@ -120,6 +121,19 @@ five_list (v ∷ w ∷ x ∷ []) e = absurd (omega arith)
 five_list (v ∷ w ∷ x ∷ y ∷ []) e = absurd (omega arith)
 five_list (v ∷ w ∷ x ∷ y ∷ z ∷ []) e = refl
 five_list (v ∷ w ∷ x ∷ y ∷ z ∷ u ∷ us) e = absurd (omega arith)
+
+-- Numbers stored one by one from a list's start on; five over five are then all that is there.
+module _ (l a : List ℕ) {now : List ℕ} {i : ℕ} where
+  pub stored_next : i < length a → now ≡ sets l 0 (take i a) → set now i (get_or a i 0) ≡ sets l 0 (take (i + 1) a)
+  stored_next h e = ap (λ (k : ℕ). set now k (get_or a i 0)) (let q : i ≡ 0 + i = omega arith in q) ∙ copied l a now 0 i h e
+
+  pub stored_five : length l ≡ 5 → length a ≡ 5 → 5 ≤ i → now ≡ sets l 0 (take i a) → now ≡ a
+  stored_five p q h e =
+      e
+      ∙ ap (λ (vs : List ℕ). sets l 0 vs) (take_all i a (omega arith))
+      ∙ sets-eq a l 0 (omega arith)
+      ∙ ap (λ (r : List ℕ). a ++ r) (drop_of_length-le l {i = 0 + length a} (omega arith))
+      ∙ append-nil a
 
 -- An answer's five numbers are in the list once.
 pub same_five : (a b : List ℕ) → length a ≡ 5 → length b ≡ 5 → five a ≡ five b → a ≡ b

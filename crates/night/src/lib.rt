@@ -31,13 +31,15 @@ fn fit(ends: &[usize], size: usize, parts: &[usize], room: usize, count: usize) 
         && cuts(parts, room)
 }
 
-// A file into its part, and its answer into its place.
+// A file into its part, and its answer into its place: number by number, since a copy of a slice is a call of `memmove`.
 fn read_file(setting: u64, source: &[u8], part: &mut [u8], place: &mut [u64])
     requires { length place.old ≡ 5 }
     ensures { Reads01 setting source.now (length part.old) (five01 place.new) part.new }
 {
     let reading = reader::read(setting, source, part);
-    place.copy_from_slice(&reader::five(reading));
+    for (i, n) in reader::five(reading).iter().enumerate() {
+        place[i] = *n;
+    }
 }
 
 // Each file by itself, into its own part; whatever its answer is, the next one is read.

@@ -1,6 +1,6 @@
 -- `blocks::copy_line` meets its contract: each byte passed is no LF and is stored, and those that have no room are passed as others are.
 -- Assumes nothing.
-use mathlib.Core.Path.{◌≡◌, refl, sym, ◌∙◌, subst}
+use mathlib.Core.Path.{◌≡◌, sym, ◌∙◌, subst}
 use mathlib.Core.Bool.{true≢false}
 use native.Mathlib.Omega.{arith}
 use Prim.Native.Nat.{ℕ, ◌+◌, ◌-◌, ◌<◌}
@@ -40,7 +40,7 @@ loop-w-preserved c =
       | else-i-source w ↦ absurd (true≢false (sym goes_on ∙ w.goes_on-is ∙ le-ltb i (length source) w.if-i-source.false))
     ] in
     let next : c.args.from + (c.loop-w.w + 1 - c.args.at) ≡ i + 1 = omega (arith, c.loop-w.auto.w) in
-    rw next (passed_more inv.0 passed.0 passed.1, copied_more inv.1 passed.0 refl, omega (arith, c.loop-w-test.true))
+    rw next (passed_more inv.0 passed.0 passed.1, copied_more inv.1 passed.0 (search rules), omega (arith, c.loop-w-test.true))
 
 pub returns : goal.returns
 returns c =
