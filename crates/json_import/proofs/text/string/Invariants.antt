@@ -1,6 +1,6 @@
 -- `string`: its characters so far.
 -- Assumes nothing.
-use Rattle.std.proofs.Common.{◌-◌, ◌≤◌, length}
+use Rattle.std.proofs.Common.{◌-◌, length}
 use Rattle.json_import.proofs.StringPlaces.{CharsSoFar}
 use Rattle.json_import.proofs.text.string.Given as goal
 
@@ -9,9 +9,3 @@ invariant-loop-i l = CharsSoFar l.text l.fn.out l.fn.from.at l.head l.i l.n l.ou
 
 abbrev pub decreases-loop-i : goal.decreases-loop-i
 decreases-loop-i l = length l.text - l.i
-
-abbrev pub invariant-loop-i-2 : goal.invariant-loop-i-2
-invariant-loop-i-2 l = CharsSoFar l.text l.fn.out l.fn.from.at l.head l.i l.n l.out × (l.initial.i ≤ l.i)
-
-abbrev pub decreases-loop-i-2 : goal.decreases-loop-i-2
-decreases-loop-i-2 l = length l.text - l.i
