@@ -37,7 +37,7 @@ impl Page {
         }
     }
 
-    pub(crate) fn say_escape(&mut self, escape: &[u8]) {
+    pub fn say_escape(&mut self, escape: &[u8]) {
         let digits = digits_end(escape);
         self.say_wrong(escape, digits);
         if let Some(shown) = escape.get(..shown_end(escape, digits)) {

@@ -84,7 +84,7 @@ pub fn unseen_code(character: &[u8]) -> Option<u32> {
 
 impl Page {
     // As an escape in a text: `\u202e`, and `\u{e0001}` where four digits do not do.
-    pub(crate) fn say_escape_of(&mut self, code: u32) {
+    pub fn say_escape_of(&mut self, code: u32) {
         self.say(b"\\u");
         if code <= 0xFFFF {
             self.say_hex(code, 4);
@@ -96,7 +96,7 @@ impl Page {
     }
 
     // As it is shown in a line of the source, or in a name: `<U+202e>`.
-    pub(crate) fn say_code_point(&mut self, code: u32) {
+    pub fn say_code_point(&mut self, code: u32) {
         self.say(b"<U+");
         self.say_hex(code, 4);
         self.say(b">");

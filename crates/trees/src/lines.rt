@@ -69,12 +69,12 @@ impl<'a> Record<'a> {
     }
 
     // Whether it is a text of several lines.
-    pub(crate) fn is_several(&self) -> bool {
+    pub fn is_several(&self) -> bool {
         self.tag == Tag::STRING && has_lines(self.payload)
     }
 
     // A record that has no children; whether it is a text of several lines.
-    pub(crate) fn say_leaf(&self, page: &mut Page, several: bool) {
+    pub fn say_leaf(&self, page: &mut Page, several: bool) {
         match self.tag {
             Tag::IDENTITY => {
                 page.say_word(&IDENTITIES, self.byte(0));
@@ -240,7 +240,7 @@ impl<'a> Record<'a> {
     }
 
     // The same where its base, which is no path, stands before it; and a further operator of a chain.
-    pub(crate) fn say_step(&self, page: &mut Page) {
+    pub fn say_step(&self, page: &mut Page) {
         let tree = self.tree;
         match self.tag {
             Tag::CALL => {
@@ -404,7 +404,7 @@ impl<'a> Record<'a> {
     }
 
     // Its line, with the children that stand on it.
-    pub(crate) fn say(&self, page: &mut Page) {
+    pub fn say(&self, page: &mut Page) {
         match self.tag {
             Tag::IDENTITY..=Tag::VARIABLE => self.say_leaf(page, self.is_several()),
             Tag::ARRAY..=Tag::OBJECT_COMP => self.say_collection(page),

@@ -31,23 +31,23 @@ impl<'a> Tree<'a> {
     }
 
     // The first record of its tree.
-    pub(crate) fn first(&self, r: usize) -> usize {
+    pub fn first(&self, r: usize) -> usize {
         if self.links.len() / 2 <= r {
             return 0;
         }
         self.links[r * 2 + 1]
     }
 
-    pub(crate) fn tag(&self, r: usize) -> u8 {
+    pub fn tag(&self, r: usize) -> u8 {
         records::byte(self.image, self.start(r))
     }
 
-    pub(crate) fn payload(&self, r: usize) -> &'a [u8] {
+    pub fn payload(&self, r: usize) -> &'a [u8] {
         records::payload(self.image, self.start(r))
     }
 
     // A record's first child; itself where it has none.
-    pub(crate) fn first_child(&self, r: usize) -> usize {
+    pub fn first_child(&self, r: usize) -> usize {
         let first = self.first(r);
         let mut c = r;
         while first < c {
@@ -67,34 +67,34 @@ impl<'a> Tree<'a> {
 
 impl<'a> Record<'a> {
     // The first record of its tree.
-    pub(crate) fn first(&self) -> usize {
+    pub fn first(&self) -> usize {
         let tree = self.tree;
         tree.first(self.index)
     }
 
     // Its first child; itself where it has none.
-    pub(crate) fn first_child(&self) -> Record<'a> {
+    pub fn first_child(&self) -> Record<'a> {
         let tree = self.tree;
         tree.record(tree.first_child(self.index))
     }
 
     // A byte of its payload.
-    pub(crate) fn byte(&self, at: usize) -> u8 {
+    pub fn byte(&self, at: usize) -> u8 {
         records::byte(self.payload, at)
     }
 
     // Whether a flag of its payload is set.
-    pub(crate) fn flag(&self, at: usize) -> bool {
+    pub fn flag(&self, at: usize) -> bool {
         self.byte(at) != 0
     }
 
     // A number of its payload.
-    pub(crate) fn number(&self, at: usize) -> usize {
+    pub fn number(&self, at: usize) -> usize {
         records::number(self.payload, at)
     }
 
     // What stands in its payload from a place on.
-    pub(crate) fn rest(&self, from: usize) -> &'a [u8] {
+    pub fn rest(&self, from: usize) -> &'a [u8] {
         records::rest(self.payload, from)
     }
 }

@@ -39,7 +39,7 @@ pub fn say_letters(page: &mut Page, name: &[u8]) {
 
 impl<'a> Tree<'a> {
     // Whether a record is the index by a name.
-    pub(crate) fn is_named_part(&self, r: usize) -> bool {
+    pub fn is_named_part(&self, r: usize) -> bool {
         r >= 2
             && self.tag(r) == Tag::INDEX_PART
             && self.tag(r - 1) == Tag::STRING
@@ -64,12 +64,12 @@ impl<'a> Tree<'a> {
         None
     }
 
-    pub(crate) fn is_path(&self, r: usize) -> bool {
+    pub fn is_path(&self, r: usize) -> bool {
         self.parts(r).is_some()
     }
 
     // Whether a part begins a run, so that what stands before it had parentheses.
-    pub(crate) fn begins_run(&self, r: usize) -> bool {
+    pub fn begins_run(&self, r: usize) -> bool {
         byte(self.payload(r), 4) != 0
     }
 
@@ -89,7 +89,7 @@ impl<'a> Tree<'a> {
     }
 
     // `.name` or `?.name`, by the part's record.
-    pub(crate) fn say_part_name(&self, page: &mut Page, r: usize) {
+    pub fn say_part_name(&self, page: &mut Page, r: usize) {
         page.say_if(byte(self.payload(r), 5) != 0, b"?");
         page.say(b".");
         if r > 0 {
@@ -98,7 +98,7 @@ impl<'a> Tree<'a> {
     }
 
     // The path that ends with a record.
-    pub(crate) fn say_path(&self, page: &mut Page, r: usize) {
+    pub fn say_path(&self, page: &mut Page, r: usize) {
         let Some(parts) = self.parts(r) else {
             return;
         };

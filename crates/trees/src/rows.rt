@@ -53,7 +53,7 @@ impl<'a> Record<'a> {
     }
 
     // Whether all elements of an array are such values: it then has as many records below it as elements.
-    pub(crate) fn is_row(&self) -> bool {
+    pub fn is_row(&self) -> bool {
         let tree = self.tree;
         let count = self.number(0);
         count > 0
@@ -71,7 +71,7 @@ impl<'a> Record<'a> {
     }
 
     // The elements, so many to a line.
-    pub(crate) fn show_row(&self, page: &mut Page, depth: usize) {
+    pub fn show_row(&self, page: &mut Page, depth: usize) {
         let tree = self.tree;
         say_start(page, self.below(), depth);
         let mut used = 0usize;
