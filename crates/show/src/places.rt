@@ -11,7 +11,7 @@ pub struct Place {
 }
 
 // A number as a place keeps it.
-pub(crate) fn kept(n: usize) -> u32 {
+fn kept(n: usize) -> u32 {
     u32::try_from(n).unwrap_or(u32::MAX)
 }
 

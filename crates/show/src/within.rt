@@ -1,6 +1,5 @@
 // What stands open before a place of a refused source, told from the kept lexemes before it: brackets, and which member of an object it is.
 use crate::page::Page;
-use crate::places::kept;
 use crate::records::byte;
 use arrayvec::ArrayVec;
 use lexemes::Lexeme;
@@ -10,15 +9,37 @@ use lexemes::kinds::Kind;
 // How many open brackets are noted. No phrase that is read stands so deep.
 const ROOM: usize = 512;
 
-// An open bracket, and what has stood in it so far. Room for all is made at once, so it is short.
+// An open bracket, and what has stood in it so far. Room for all is made at once, so it is two words.
 #[derive(Clone, Copy, Default)]
 struct Bracket {
-    start: u32, // where it stands
-    member: Option<u32>, // where the current member of an object starts
-    awaits_member: bool, // whether the next lexeme starts a member
-    has_clauses: bool, // whether a `for` has stood
-    has_commas: bool, // whether commas stand between what it holds
-    is_object: bool, // whether it is an object's
+    mark: usize, // twice where it stands, and one more where a comma may stand in it
+    member: usize, // where the current member of an object starts, which is behind the bracket; 0 where none does
+}
+
+impl Bracket {
+    fn new(start: usize, takes_commas: bool) -> Self {
+        Self {
+            mark: start << 1 | usize::from(takes_commas),
+            member: 0,
+        }
+    }
+
+    fn start(self) -> usize {
+        self.mark / 2
+    }
+
+    fn takes_commas(self) -> bool {
+        self.mark % 2 != 0
+    }
+
+    // No comma may stand in it from here on, behind a `for`.
+    fn end_commas(&mut self) {
+        self.mark = self.start() << 1;
+    }
+
+    fn member(self) -> Option<usize> {
+        (self.member != 0).then_some(self.member)
+    }
 }
 
 // The brackets that are open before a place of a source, the innermost last.
@@ -26,6 +47,7 @@ struct Bracket {
 pub struct Brackets<'a> {
     source: &'a [u8],
     open: ArrayVec<Bracket, ROOM>,
+    awaits_member: bool, // whether the next lexeme starts a member
 }
 
 // Whether a lexeme may end what is called or indexed.
@@ -73,6 +95,7 @@ impl<'a> Brackets<'a> {
         let mut brackets = Self {
             source,
             open: ArrayVec::new(),
+            awaits_member: false,
         };
         let mut last = Kind::EOF;
         let mut at = 0;
@@ -91,7 +114,8 @@ impl<'a> Brackets<'a> {
 
     // A lexeme behind those that are noted, and the kind of the one before it.
     fn note(&mut self, l: Lexeme, last: u8) {
-        let is_member = self.starts_member();
+        let is_member = self.awaits_member;
+        self.awaits_member = false;
         match l.kind {
             Kind::L_BRACE | Kind::L_BRACK | Kind::L_PAREN => self.note_open(l, last, is_member),
             Kind::R_BRACE | Kind::R_BRACK | Kind::R_PAREN => {
@@ -101,40 +125,27 @@ impl<'a> Brackets<'a> {
         }
     }
 
-    // Whether the next lexeme starts a member; the one behind it does not.
-    fn starts_member(&mut self) -> bool {
-        let Some(top) = self.open.as_mut_slice().last_mut() else {
-            return false;
-        };
-        let starts = top.awaits_member;
-        top.awaits_member = false;
-        starts
-    }
-
+    // The first member of an object starts behind its bracket.
     fn note_open(&mut self, l: Lexeme, last: u8, is_member: bool) {
-        let is_object = l.kind == Kind::L_BRACE;
-        let _ = self.open.try_push(Bracket {
-            start: kept(l.start),
-            member: None,
-            awaits_member: is_object,
-            has_clauses: false,
-            has_commas: has_commas(l.kind, last, is_member),
-            is_object,
-        });
+        let bracket = Bracket::new(l.start, has_commas(l.kind, last, is_member));
+        if self.open.try_push(bracket).is_ok() {
+            self.awaits_member = l.kind == Kind::L_BRACE;
+        }
     }
 
     // A comma ends a member, and what starts one is noted.
     fn note_word(&mut self, l: Lexeme, is_member: bool) {
+        let source = self.source;
         let Some(top) = self.open.as_mut_slice().last_mut() else {
             return;
         };
         match l.kind {
-            Kind::FOR_KW => top.has_clauses = true,
+            Kind::FOR_KW => top.end_commas(),
             Kind::COMMA => {
-                top.member = None;
-                top.awaits_member = top.is_object;
+                top.member = 0;
+                self.awaits_member = byte(source, top.start()) == b'{';
             }
-            _ if is_member => top.member = Some(kept(l.start)),
+            _ if is_member => top.member = l.start,
             _ => {}
         }
     }
@@ -142,8 +153,8 @@ impl<'a> Brackets<'a> {
     // Whether a comma would do as well as what closes the bracket that was opened last.
     pub fn take_comma(&self, wanted: u8) -> bool {
         match self.open.as_slice().last() {
-            Some(top) if top.has_commas && !top.has_clauses => matches!(
-                (byte(self.source, top.start as usize), wanted),
+            Some(top) if top.takes_commas() => matches!(
+                (byte(self.source, top.start()), wanted),
                 (b'{', Kind::R_BRACE) | (b'[', Kind::R_BRACK) | (b'(', Kind::R_PAREN)
             ),
             _ => false,
@@ -155,8 +166,8 @@ impl<'a> Brackets<'a> {
         let source = self.source;
         let brackets = self.open.as_slice().iter().rev();
         brackets
-            .filter_map(|bracket| bracket.member)
-            .find_map(|at| name_at(source, at as usize))
+            .filter_map(|bracket| bracket.member())
+            .find_map(|at| name_at(source, at))
     }
 
     // `, in the [ at LINE:COLUMN, in the field NAME at LINE:COLUMN`: the bracket that was opened last, and the innermost field.
@@ -165,7 +176,7 @@ impl<'a> Brackets<'a> {
         let Some(top) = self.open.as_slice().last() else {
             return;
         };
-        let start = top.start as usize;
+        let start = top.start();
         page.say(b", in the `");
         page.say_byte(byte(source, start));
         page.say(b"` at ");
